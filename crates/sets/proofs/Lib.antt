@@ -1,0 +1,5 @@
+-- Laws of the crate's definitions.
+pub mod Lists
+pub mod Order
+pub mod FixedPoint
+pub mod Words

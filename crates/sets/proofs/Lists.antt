@@ -1,0 +1,109 @@
+-- Laws of range, all and any.
+use mathlib.Core.Path.{_≡_, refl, sym, ap, ap₂, _∙_}
+use mathlib.Core.Bool.{Bool, true, false, _&&_, _||_}
+use mathlib.Core.List.{List, [], _∷_, map}
+use Prim.Native.Nat.{ℕ, zero, suc, _+_, _<_}
+use native.Mathlib.Nat.{add-zero, add-suc, suc-add}
+use native.Mathlib.Omega.{arith}
+use lib.Dec.{T}
+use lib.ListN.{length, getD, length-map}
+use Rattle.sets.specs.Lists.{range, all, any}
+
+-- range i k has k numbers
+pub length-range : (i k : ℕ) → length (range i k) ≡ k
+unfolding range
+length-range i zero = refl
+length-range i (suc k) = ap suc (length-range (suc i) k)
+
+-- a list made of a range is as long
+pub length-map-range : {B : Type 0} (f : ℕ → B) (i k : ℕ) → length (map f (range i k)) ≡ k
+length-map-range f i k = length-map (range i k) f ∙ length-range i k
+
+-- the element at s is that of the number i + s
+pub getD-map-range : {B : Type 0} (f : ℕ → B) (i k s : ℕ) (d : B) → s < k → getD (map f (range i k)) s d ≡ f (i + s)
+unfolding range
+getD-map-range f i zero s d h = absurd (omega arith)
+getD-map-range f i (suc k) zero d h = ap f (sym (add-zero i))
+getD-map-range f i (suc k) (suc s) d h = getD-map-range f (suc i) k s d (omega arith) ∙ ap f (suc-add i s ∙ sym (add-suc i s))
+
+-- an and is true if and only if both are
+pub and-left : (a b : Bool) → T (a && b) → T a
+and-left true b t = tt
+and-left false b t = absurd t
+
+pub and-right : (a b : Bool) → T (a && b) → T b
+and-right true b t = t
+and-right false b t = absurd t
+
+pub and-both : (a b : Bool) → T a → T b → T (a && b)
+and-both true b s t = t
+and-both false b s t = absurd s
+
+-- a property of all elements holds of each
+pub all-at : {A : Type 0} (p : A → Bool) (xs : List A) (j : ℕ) (d : A) → j < length xs → T (all p xs) → T (p (getD xs j d))
+unfolding all
+all-at p [] j d h t = absurd (omega arith)
+all-at p (x ∷ xs) zero d h t = and-left (p x) (all p xs) t
+all-at p (x ∷ xs) (suc j) d h t = all-at p xs j d (omega arith) (and-right (p x) (all p xs) t)
+
+-- a property of each element holds of all
+pub all-from : {A : Type 0} (p : A → Bool) (xs : List A) (d : A) → ((j : ℕ) → j < length xs → T (p (getD xs j d))) → T (all p xs)
+unfolding all
+all-from p [] d h = tt
+all-from p (x ∷ xs) d h = and-both (p x) (all p xs) (h 0 (omega arith)) (all-from p xs d (λ j g. h (suc j) (omega arith)))
+
+-- true holds of all
+pub all-true : {A : Type 0} (xs : List A) → T (all (λ x. true) xs)
+unfolding all
+all-true [] = tt
+all-true (x ∷ xs) = all-true xs
+
+-- A relation of truth values that both operations and both constants keep: equality, and implication.
+pub record Kept (R : Bool → Bool → Type 0) : Type 0 where
+  pub yes : R true true
+  pub no : R false false
+  pub and : (a b c d : Bool) → R a c → R b d → R (a && b) (c && d)
+  pub or : (a b c d : Bool) → R a c → R b d → R (a || b) (c || d)
+
+-- one truth value implies another
+abbrev pub Implies : Bool → Bool → Type 0
+Implies a b = T a → T b
+
+-- equality is kept
+pub kept-equal : Kept (_≡_ {A = Bool})
+kept-equal = record { yes = refl; no = refl; and = λ a b c d p q. ap₂ _&&_ p q; or = λ a b c d p q. ap₂ _||_ p q }
+
+-- implication is kept
+and-mono : (a b c d : Bool) → Implies a c → Implies b d → Implies (a && b) (c && d)
+and-mono true b true d p q t = q t
+and-mono true b false d p q t = absurd (p tt)
+and-mono false b c d p q t = absurd t
+
+or-mono : (a b c d : Bool) → Implies a c → Implies b d → Implies (a || b) (c || d)
+or-mono a b true d p q t = tt
+or-mono true b false d p q t = absurd (p tt)
+or-mono false b false d p q t = q t
+
+pub kept-implies : Kept Implies
+kept-implies = record { yes = λ t. t; no = λ t. t; and = and-mono; or = or-mono }
+
+-- all and any keep such a relation, where it holds of the elements that have a property u which all have
+module _ {R : Bool → Bool → Type 0} (kept : Kept R) {A : Type 0} (u p q : A → Bool) (each : (x : A) → T (u x) → R (p x) (q x)) where
+  pub all-kept : (xs : List A) → T (all u xs) → R (all p xs) (all q xs)
+  unfolding all
+  all-kept [] t = kept .yes
+  all-kept (x ∷ xs) t =
+      kept .and (p x) (all p xs) (q x) (all q xs) (each x (and-left (u x) (all u xs) t)) (all-kept xs (and-right (u x) (all u xs) t))
+
+  pub any-kept : (xs : List A) → T (all u xs) → R (any p xs) (any q xs)
+  unfolding all any
+  any-kept [] t = kept .no
+  any-kept (x ∷ xs) t =
+      kept .or (p x) (any p xs) (q x) (any q xs) (each x (and-left (u x) (all u xs) t)) (any-kept xs (and-right (u x) (all u xs) t))
+
+-- all and any grow with the property
+pub all-mono : {A : Type 0} (p q : A → Bool) → ((x : A) → T (p x) → T (q x)) → (xs : List A) → T (all p xs) → T (all q xs)
+all-mono p q h xs = all-kept kept-implies (λ x. true) p q (λ x t. h x) xs (all-true xs)
+
+pub any-mono : {A : Type 0} (p q : A → Bool) → ((x : A) → T (p x) → T (q x)) → (xs : List A) → T (any p xs) → T (any q xs)
+any-mono p q h xs = any-kept kept-implies (λ x. true) p q (λ x t. h x) xs (all-true xs)

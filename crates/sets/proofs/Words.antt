@@ -1,0 +1,302 @@
+-- Laws of the words that hold a set, for any number of words.
+use mathlib.Core.Path.{_≡_, refl, sym, ap, _∙_}
+use mathlib.Core.Logic.{_≢_}
+use mathlib.Core.Bool.{Bool, true, false}
+use mathlib.Core.List.{List, [], _∷_, map}
+use Prim.Native.Nat.{ℕ, zero, suc, _+_, _-_, _*_, _/_, _%_, _^_, _<_, _≤_, min}
+use native.Mathlib.Omega.{arith}
+use native.Mathlib.Decide.{decLt, ℕ-discrete}
+use native.Mathlib.Nat.{pow-suc, pow-zero, zero-div, div-one, one-mul, zero-add, add-zero, sub-zero, zero-sub, suc-sub-suc, zero-min, min-zero, suc-min-suc}
+use native.Mathlib.Numerals.{add-one, one-add}
+use lib.ListN.{length, getD, set, take, drop, replicate, length-set, length-take, length-drop, length-replicate, length-map, getD-replicate}
+use lib.Seq.{getD-take, getD-drop, drop-drop, ext-getD, getD-set-same, getD-set-other, drop-set-add, drop-set-lt, take-set-le, take-set-lt}
+use lib.Dec.{eqb, lit<}
+use lib.Bits.{bitOr, or-step, or-zero-r}
+use lib.Pow.{pow-mono, pow-pos, shl-exact, shr-shr}
+use Rattle.sets.specs.Lists.{range}
+use Rattle.sets.specs.Set.{Set, has, start, size}
+use Rattle.sets.specs.Words.{words, number, marked, states, bit, Decides}
+
+-- ---- the number of a set
+
+-- the number without its first state
+half : (b : Bool) (x : ℕ) → (bit b + 2 * x) / 2 ≡ x
+half true x = omega arith
+half false x = omega arith
+
+-- its first state
+odd : (b : Bool) (x : ℕ) → (bit b + 2 * x) % 2 ≡ bit b
+odd true x = omega arith
+odd false x = omega arith
+
+-- a bit is 0 or 1
+bit-small : (b : Bool) → bit b ≤ 1
+bit-small true = omega arith
+bit-small false = omega arith
+
+-- bit s of a set's number says whether state s is in the set
+pub number-bit : (v : Set) (s : ℕ) → number v / 2 ^ s % 2 ≡ bit (has v s)
+unfolding number
+number-bit [] s = rw (zero-div (2 ^ s)) refl
+number-bit (b ∷ v) zero = rw (pow-zero 2, div-one) (odd b (number v))
+number-bit (b ∷ v) (suc s) = rw (← one-add s, ← shr-shr (bit b + 2 * number v) 1 s, half b (number v)) (number-bit v s)
+
+-- a set of n states has a number of n bits
+pub number-fits : (v : Set) → number v < 2 ^ length v
+unfolding number
+number-fits [] = omega arith
+number-fits (b ∷ v) = omega (arith, number-fits v, pow-suc 2 (length v), bit-small b)
+
+-- one state more is one bit more
+pub number-add : (v : Set) (s : ℕ) → s < length v → bitOr (number v) (2 ^ s) ≡ number (set v s true)
+unfolding number
+number-add [] s h = absurd (omega arith)
+number-add (b ∷ v) zero h =
+    or-step (bit b + 2 * number v) 1 ∙ rw (half b (number v), odd b (number v), or-zero-r (number v)) (omega (arith, bit-small b))
+number-add (b ∷ v) (suc s) h =
+    rw (pow-suc 2 s)
+    (or-step (bit b + 2 * number v) (2 ^ s * 2)
+    ∙ rw (half b (number v), odd b (number v), double (2 ^ s), even (2 ^ s), number-add v s (omega arith)) (omega (arith, bit-small b)))
+  where
+    double : (x : ℕ) → x * 2 / 2 ≡ x
+    double x = omega arith
+
+    even : (x : ℕ) → x * 2 % 2 ≡ 0
+    even x = omega arith
+
+-- no state has the number 0
+pub number-none : (m : ℕ) → number (replicate m false) ≡ 0
+unfolding number
+number-none zero = refl
+number-none (suc m) = omega (arith, number-none m)
+
+-- m states, each of them, have the number of m ones
+pub number-full : (m : ℕ) → number (replicate m true) ≡ 2 ^ m - 1
+unfolding number
+number-full zero = refl
+number-full (suc m) = omega (arith, number-full m, pow-suc 2 m, pow-pos m)
+
+-- ---- one word
+
+-- 1 shifted by less than a word's width
+pub shifted-one : (m : ℕ) → m < 64 → (1 * 2 ^ m) % 2 ^ 64 ≡ 2 ^ m
+shifted-one m h = shl-exact {a = 1} 1 m 64 (lit< tt) (omega arith) ∙ one-mul (2 ^ m)
+
+-- the states that word j holds
+abbrev pub part : Set → ℕ → Set
+part v j = take 64 (drop (64 * j) v)
+
+-- a set in k words has k of them
+pub words-length : (k : ℕ) (v : Set) → length (words k v) ≡ k
+unfolding words
+words-length zero v = refl
+words-length (suc k) v = ap suc (words-length k (drop 64 v))
+
+-- word j of a set
+pub word-at : (k : ℕ) (v : Set) (j : ℕ) → j < k → getD (words k v) j 0 ≡ number (part v j)
+unfolding words
+word-at zero v j h = absurd (omega arith)
+word-at (suc k) v zero h = refl
+word-at (suc k) v (suc j) h =
+    let e : 64 + 64 * j ≡ 64 * suc j = omega arith in
+    word-at k (drop 64 v) j (omega arith) ∙ rw (drop-drop (64 * j) 64 v, e)
+
+-- each word fits 64 bits
+pub word-fits : (k : ℕ) (v : Set) (j : ℕ) → getD (words k v) j 0 < 2 ^ 64
+unfolding words
+word-fits zero v j = lit< tt
+word-fits (suc k) v zero = omega (arith, number-fits (take 64 v), pow-mono {j = 64} short)
+  where
+    short : length (take 64 v) ≤ 64
+    short = simp length-take (omega arith)
+word-fits (suc k) v (suc j) = word-fits k (drop 64 v) j
+
+-- words that are, one by one, those of a set
+pub words-by : (k : ℕ) (v : Set) (ws : List ℕ) → length ws ≡ k → ((j : ℕ) → j < k → getD ws j 0 ≡ number (part v j)) → ws ≡ words k v
+words-by k v ws l f =
+    ext-getD 0 ws (words k v) (l ∙ sym (words-length k v)) λ j h.
+    let b : j < k = omega arith in
+    f j b ∙ sym (word-at k v j b)
+
+-- ---- from words back to the set
+
+-- a bit that is tested for 1
+bit-eqb : (b : Bool) → eqb (bit b) 1 ≡ b
+bit-eqb true = refl
+bit-eqb false = refl
+
+-- The bit of state s says whether s is in the set. So bits of states that the set has not are zero.
+pub marked-words : (k : ℕ) (v : Set) (s : ℕ) → s < 64 * k → marked (words k v) s ≡ has v s
+unfolding marked
+marked-words k v s h =
+    let e : 64 * (s / 64) + s % 64 ≡ s = omega arith in
+    rw (word-at k v (s / 64) (omega arith), number-bit (part v (s / 64)) (s % 64), bit-eqb (has (part v (s / 64)) (s % 64)))
+    (rw (getD-take 64 (drop (64 * (s / 64)) v) (s % 64) false (omega arith), getD-drop (64 * (s / 64)) v (s % 64) false, e))
+
+-- equal words, equal sets
+pub words-inj : (k : ℕ) (v w : Set) → length v ≡ length w → length v ≤ 64 * k → words k v ≡ words k w → v ≡ w
+words-inj k v w l h e =
+    ext-getD false v w l λ s b.
+    sym (marked-words k v s (omega arith)) ∙ ap (λ (ws : List ℕ). marked ws s) e ∙ marked-words k w s (omega arith)
+
+-- n numbers
+range-length : (i n : ℕ) → length (range i n) ≡ n
+unfolding range
+range-length i zero = refl
+range-length i (suc n) = ap suc (range-length (suc i) n)
+
+-- what f says of number s of a range
+map-range : (f : ℕ → Bool) (i n s : ℕ) → s < n → getD (map f (range i n)) s false ≡ f (i + s)
+unfolding range
+map-range f i zero s h = absurd (omega arith)
+map-range f i (suc n) zero h = rw (add-zero i)
+map-range f i (suc n) (suc s) h =
+    let e : suc i + s ≡ i + suc s = omega arith in
+    map-range f (suc i) n s (omega arith) ∙ rw e
+
+-- n states
+pub states-length : (n : ℕ) (ws : List ℕ) → length (states n ws) ≡ n
+unfolding states
+states-length n ws = length-map (range 0 n) (marked ws) ∙ range-length 0 n
+
+-- state s of the set that words stand for
+pub states-has : (n : ℕ) (ws : List ℕ) (s : ℕ) → s < n → has (states n ws) s ≡ marked ws s
+unfolding states
+states-has n ws s h = map-range (marked ws) 0 n s h ∙ rw (zero-add s)
+
+-- a set is read back from its words
+pub states-words : (n k : ℕ) (v : Set) → length v ≡ n → n ≤ 64 * k → states n (words k v) ≡ v
+states-words n k v l h =
+    ext-getD false (states n (words k v)) v (states-length n (words k v) ∙ sym l) λ s b.
+    let below : s < n = omega (arith, states-length n (words k v)) in
+    states-has n (words k v) s below ∙ marked-words k v s (omega arith)
+
+-- ---- the words of the empty and of the full set
+
+-- all of one value, without the first states
+drop-start : (n from : ℕ) (b : Bool) → drop from (start n b) ≡ start (n - from) b
+drop-start n zero b = rw (sub-zero n)
+drop-start zero (suc from) b = rw (zero-sub (suc from))
+drop-start (suc n) (suc from) b = rw (suc-sub-suc n from) (drop-start n from b)
+
+-- all of one value, the first states alone
+take-start : (n k : ℕ) (b : Bool) → take k (start n b) ≡ start (min k n) b
+take-start n zero b = rw (zero-min n)
+take-start zero (suc k) b = rw (min-zero (suc k))
+take-start (suc n) (suc k) b = rw (suc-min-suc k n) (ap (λ (v : Set). b ∷ v) (take-start n k b))
+
+-- the states from `from` on that a word holds, where each of n states has one value
+pub part-start : (n from : ℕ) (b : Bool) → take 64 (drop from (start n b)) ≡ start (min 64 (n - from)) b
+part-start n from b = rw (drop-start n from b) (take-start (n - from) 64 b)
+
+-- the words of the empty set are zeros
+pub words-none : (k n : ℕ) → replicate k 0 ≡ words k (start n false)
+words-none k n =
+    words-by k (start n false) (replicate k 0) (length-replicate k 0) λ j h.
+    getD-replicate k j 0 0 h ∙ sym (rw (part-start n (64 * j) false) (number-none (min 64 (n - 64 * j))))
+
+-- the word of the 64 states from `from` on, m of which are below n: its first m bits
+pub word-full : (n from m : ℕ) → min 64 (n - from) ≡ m → 2 ^ m - 1 ≡ number (take 64 (drop from (start n true)))
+word-full n from m e = sym (rw (part-start n from true, e) (number-full m))
+
+-- ---- words that are worked out one after the other
+
+-- The first i of k words are as f says: a loop's invariant.
+pub record Filled (f : ℕ → ℕ) (k : ℕ) (ws : List ℕ) (i : ℕ) : Type 0 where
+  pub long : length ws ≡ k
+  pub within : i ≤ k
+  pub so-far : (j : ℕ) → j < i → getD ws j 0 ≡ f j
+
+module _ {f : ℕ → ℕ} {k : ℕ} {ws : List ℕ} where
+  -- before the first turn
+  pub filled-none : length ws ≡ k → Filled f k ws 0
+  filled-none l = record { long = l; within = omega arith; so-far = λ j h. absurd (omega arith) }
+
+  -- one turn, which stores word i
+  pub filled-more : {i : ℕ} (x : ℕ) → Filled f k ws i → i < k → x ≡ f i → Filled f k (set ws i x) (i + 1)
+  filled-more {i} x w h e = record { long = length-set ws i x ∙ w .long; within = omega arith; so-far = λ j l. go j l (ℕ-discrete j i) }
+    where
+      go : (j : ℕ) → j < i + 1 → Dec (j ≡ i) → getD (set ws i x) j 0 ≡ f j
+      go j l (yes q) = rw (q, getD-set-same ws i x 0 (omega (arith, w .long))) e
+      go j l (no n) = rw (getD-set-other ws i j x 0 n) (w .so-far j (omega arith))
+
+-- after the last turn, where f gives the words of a set
+pub words-filled : (k : ℕ) (v : Set) (ws : List ℕ) {i : ℕ} → Filled (λ j. number (part v j)) k ws i → k ≤ i → ws ≡ words k v
+words-filled k v ws w h = words-by k v ws (w .long) λ j b. w .so-far j (omega arith)
+
+-- ---- one state more
+
+-- a state behind the first m
+drop-set : (v : Set) (m s : ℕ) (b : Bool) → m ≤ s → drop m (set v s b) ≡ set (drop m v) (s - m) b
+drop-set v m s b h =
+    let e : m + (s - m) ≡ s = omega arith in
+    rw e at (drop-set-add m v (s - m) b)
+
+-- a state of another word changes nothing in word j
+part-other : (v : Set) (s j : ℕ) (b : Bool) → j ≢ s / 64 → part (set v s b) j ≡ part v j
+part-other v s j b n = go (decLt (s / 64) j)
+  where
+    go : Dec (s / 64 < j) → part (set v s b) j ≡ part v j
+    go (yes l) = rw (drop-set-lt (64 * j) v s b (omega arith))
+    go (no l) =
+        rw (drop-set v (64 * j) s b (omega arith), take-set-le 64 (drop (64 * j) v) (s - 64 * j) b (omega arith))
+
+-- a state of word s / 64
+part-same : (v : Set) (s : ℕ) (b : Bool) → part (set v s b) (s / 64) ≡ set (part v (s / 64)) (s % 64) b
+part-same v s b =
+    let e : s - 64 * (s / 64) ≡ s % 64 = omega arith in
+    rw (drop-set v (64 * (s / 64)) s b (omega arith), e) (take-set-lt 64 (drop (64 * (s / 64)) v) (s % 64) b (omega arith))
+
+-- a store of one word, where the other words stay
+pub words-store : (k : ℕ) (v w : Set) (q x : ℕ) → q < k → x ≡ number (part w q) → ((j : ℕ) → j ≢ q → part w j ≡ part v j) → set (words k v) q x ≡ words k w
+words-store k v w q x h e f =
+    words-by k w (set (words k v) q x) (length-set (words k v) q x ∙ words-length k v) λ j l. go j l (ℕ-discrete j q)
+  where
+    go : (j : ℕ) → j < k → Dec (j ≡ q) → getD (set (words k v) q x) j 0 ≡ number (part w j)
+    go j l (yes d) = rw (d, getD-set-same (words k v) q x 0 (omega (arith, words-length k v))) e
+    go j l (no n) = rw (getD-set-other (words k v) q j x 0 n, f j n) (word-at k v j l)
+
+-- a state is added by one bit of one word
+pub words-add : (k : ℕ) (v : Set) (s : ℕ) → s < length v → s < 64 * k
+    → set (words k v) (s / 64) (bitOr (getD (words k v) (s / 64) 0) ((1 * 2 ^ (s % 64)) % 2 ^ 64)) ≡ words k (set v s true)
+words-add k v s h b =
+    let inside : s % 64 < length (part v (s / 64)) = simp (length-take, length-drop) (omega arith) in
+    words-store k v (set v s true) (s / 64) _ (omega arith)
+    (rw (word-at k v (s / 64) (omega arith), shifted-one (s % 64) (omega arith), part-same v s true) (number-add (part v (s / 64)) (s % 64) inside))
+    (λ j n. part-other v s j true n)
+
+-- ---- counting states
+
+-- how many states from s on and below n words mark
+abbrev pub left : List ℕ → ℕ → ℕ → ℕ
+left ws n s = size (map (marked ws) (range s (n - s)))
+
+module _ (ws : List ℕ) (n : ℕ) where
+  -- from the first state on: all that are marked
+  pub left-all : left ws n 0 ≡ size (states n ws)
+  unfolding states
+  left-all = rw (sub-zero n)
+
+  -- at n none is left
+  pub left-none : (s : ℕ) → n ≤ s → left ws n s ≡ 0
+  unfolding range size
+  left-none s h =
+      let e : n - s ≡ 0 = omega arith in
+      rw e
+
+  -- one state is passed
+  pub left-next : (s : ℕ) → s < n → left ws n s ≡ bit (marked ws s) + left ws n (s + 1)
+  unfolding range size
+  left-next s h =
+      let e : n - s ≡ suc (n - suc s) = omega arith in
+      rw (e, add-one s)
+
+-- ---- a truth value that decides
+
+-- `true` decides what holds, `false` what does not.
+module _ {P : Type 0} where
+  pub decides-yes : P → Decides P true
+  decides-yes p = record { yes-if = λ e. p; no-if = λ e. absurd (let z : _≡_ {A = ℕ} 0 1 = cc in omega arith) }
+
+  pub decides-no : ¬ P → Decides P false
+  decides-no n = record { yes-if = λ e. absurd (let z : _≡_ {A = ℕ} 0 1 = cc in omega arith); no-if = λ e. n }

@@ -1,0 +1,105 @@
+// Sets of states in words: state s is bit s mod 64 of word s / 64.
+ghost use mathlib.Core.Path.{_≡_};
+ghost use mathlib.Core.Bool.{true, false};
+ghost use Prim.Native.Nat.{ℕ, _<_, _≤_};
+ghost use lib.ListN.{length, set, take, drop};
+ghost use Rattle.sets.specs.Size.{wordCount, stateLimit};
+ghost use Rattle.sets.specs.Set.{Set, start, size};
+ghost use Rattle.sets.specs.Words.{words, number, marked, states, Decides};
+
+pub const WORDS: usize = 4;
+
+pub const STATES: usize = 64 * WORDS;
+
+// No state.
+pub fn empty() -> [u64; WORDS]
+    ensures { λ r. ⌜ ((n : ℕ) → r ≡ words wordCount (start n false)) ⌝ }
+{
+    [0; WORDS]
+}
+
+// The word of the 64 states from `from` on: those below n.
+fn word_below(n: usize, from: usize) -> u64
+    ensures { λ r. ⌜ r ≡ number (take 64 (drop from (start n true))) ⌝ }
+{
+    if n <= from {
+        return 0;
+    }
+    let left = n - from;
+    if 64 <= left {
+        return !0;
+    }
+    (1 << left) - 1
+}
+
+// Every state below n.
+pub fn full(n: usize) -> [u64; WORDS]
+    requires { ⌜ n ≤ stateLimit ⌝ }
+    ensures { λ r. ⌜ r ≡ words wordCount (start n true) ⌝ }
+{
+    let mut all = [0u64; WORDS];
+    for i in 0..WORDS {
+        all[i] = word_below(n, 64 * i);
+    }
+    all
+}
+
+// Where an iteration starts: no state for mu, every state below n for nu.
+pub fn initial(n: usize, nu: bool) -> [u64; WORDS]
+    requires { ⌜ n ≤ stateLimit ⌝ }
+    ensures { λ r. ⌜ r ≡ words wordCount (start n nu) ⌝ }
+{
+    if nu { full(n) } else { empty() }
+}
+
+// Whether state s is in the set.
+pub fn test(set: &[u64; WORDS], s: usize) -> bool
+    requires { ⌜ s < stateLimit ⌝ }
+    ensures { λ r. ⌜ r ≡ marked (now (set .entry)) s ⌝ }
+{
+    (set[s / 64] >> (s % 64)) % 2 == 1
+}
+
+// The set with state s.
+pub fn add(held: [u64; WORDS], s: usize) -> [u64; WORDS]
+    requires { ⌜ s < stateLimit ⌝ }
+    ensures { λ r. ⌜ ((v : Set) → s < length v → held ≡ words wordCount v → r ≡ words wordCount (set v s true)) ⌝ }
+{
+    let mut more = held;
+    let k = s / 64;
+    more[k] = more[k] | (1 << (s % 64));
+    more
+}
+
+// Whether two sets hold the same words.
+pub fn equal(a: &[u64; WORDS], b: &[u64; WORDS]) -> bool
+    ensures { λ r. ⌜ Decides (now (a .entry) ≡ now (b .entry)) r ⌝ }
+{
+    equal_words(*a, *b)
+}
+
+// The same of arrays by value, whose length a proof may use.
+fn equal_words(a: [u64; WORDS], b: [u64; WORDS]) -> bool
+    ensures { λ r. ⌜ Decides (a ≡ b) r ⌝ }
+{
+    for i in 0..WORDS {
+        if a[i] != b[i] {
+            return false;
+        }
+    }
+    true
+}
+
+// How many states below n are in the set.
+pub fn count(set: &[u64; WORDS], n: usize) -> usize
+    requires { ⌜ n ≤ stateLimit ⌝ }
+    ensures { λ r. ⌜ r ≡ size (states n (now (set .entry))) ⌝ }
+{
+    let mut found: usize = 0;
+    for s in 0..n {
+        if test(set, s) {
+            found += 1;
+        }
+    }
+    found
+}

@@ -1,0 +1,145 @@
+-- The start valuation does not matter: where the cells name only blocks below d, solving all d blocks depends on no start.
+-- So what solve works out stands for every solution of a well-formed file.
+use mathlib.Core.Path.{_≡_, refl, ap, ap₂, fun-ext, _∙_}
+use mathlib.Core.Bool.{Bool, false}
+use mathlib.Core.List.{List, [], _∷_}
+use Prim.Native.Nat.{ℕ, zero, suc, _+_, _≤_, _<_}
+use native.Mathlib.Omega.{arith}
+use native.Mathlib.Decide.{ℕ-discrete}
+use lib.ListN.{length, getD, set, replicate, length-replicate}
+use Rattle.sets.specs.Set.{Set, start}
+use Rattle.sets.specs.Loop.{Worked, iterate}
+use Rattle.solver.specs.Cells.{Cell, And, Or, Variable, Valuation, bind, none, value, Values, workOut, evaluate, part}
+use Rattle.solver.specs.File.{stateCount, blockCount, cellCount, Block, Inside, blocks, operands, cellOf, cells}
+use Rattle.solver.specs.Conditions.{WellFormed}
+use Rattle.solver.specs.Standard.{Solution}
+use Rattle.solver.specs.Rounds.{Solves, solved, powers}
+use Rattle.solver.specs.Outcome.{OwnRounds, run}
+use Rattle.solver.proofs.WellFormed.{length-blocks, length-cells, cell-at, inside, ordered, sound}
+use Rattle.solver.proofs.Values.{evaluate-values, values-one}
+use Rattle.solver.proofs.Solving.{Sized, bind-same, bind-other, turn, looped, solves, solution-one, solves-one, solved-sized, rounds-bound}
+
+-- two valuations have the same sets for the blocks below d
+abbrev pub Agree : ℕ → Valuation → Valuation → Type 0
+Agree d ρ σ = (k : ℕ) → k < d → ρ k ≡ σ k
+
+-- a cell that is a variable names a block below d
+unfoldable pub Names : ℕ → Cell → Type 0
+Names d (And os) = Unit {0}
+Names d (Or os) = Unit {0}
+Names d (Variable k s) = k < d
+
+-- and so for each cell
+abbrev pub Named : ℕ → List Cell → Type 0
+Named d cs = (i : ℕ) → i < length cs → Names d (getD cs i (And []))
+
+-- Values depend only on the blocks that the cells name.
+module _ (d : ℕ) (ρ σ : Valuation) (agree : Agree d ρ σ) where
+  value-start : (vs : List Bool) (c : Cell) → Names d c → value ρ vs c ≡ value σ vs c
+  unfolding Names value
+  value-start vs (And os) h = refl
+  value-start vs (Or os) h = refl
+  value-start vs (Variable k s) h = ap (λ (v : Set). getD v s false) (agree k h)
+
+  module _ (cs : List Cell) (named : Named d cs) where
+    workOut-start : (i : ℕ) (vs : List Bool) → i ≤ length cs → workOut cs ρ i vs ≡ workOut cs σ i vs
+    unfolding workOut
+    workOut-start zero vs h = refl
+    workOut-start (suc i) vs h =
+        ap (λ (x : Bool). workOut cs ρ i (set vs i x)) (value-start vs (getD cs i (And [])) (named i (omega arith)))
+        ∙ workOut-start i _ (omega arith)
+
+    pub evaluate-start : evaluate cs ρ ≡ evaluate cs σ
+    unfolding evaluate
+    evaluate-start = workOut-start (length cs) (replicate (length cs) false) (omega arith)
+
+-- Valuations that agree below k agree below k + 1 once block k has the same set.
+bind-agree : (k : ℕ) (ρ σ : Valuation) (v : Set) → Agree k ρ σ → Agree (suc k) (bind ρ k v) (bind σ k v)
+bind-agree k ρ σ v agree j h = go (ℕ-discrete j k)
+  where
+    go : Dec (j ≡ k) → bind ρ k v j ≡ bind σ k v j
+    go (yes q) = rw (q, bind-same ρ k v, bind-same σ k v)
+    go (no q) = rw (bind-other ρ k v j q, bind-other σ k v j q) (agree j (omega (arith, q)))
+
+-- Solving the blocks from k to d - 1 depends only on the sets of the blocks below k, in sets of blocks below d and in rounds.
+module _ (n d : ℕ) (cs : List Cell) (named : Named d cs) where
+  -- the same is reached from two starts
+  abbrev Alike : List Block → ℕ → Valuation → Valuation → Type 0
+  Alike bs k ρ σ = Agree d (solved n cs bs k ρ .0) (solved n cs bs k σ .0) × (solved n cs bs k ρ .1 ≡ solved n cs bs k σ .1)
+
+  -- then each turn of the block before is the same, and so is its loop
+  looped-start : (b : Block) (bs : List Block) (k : ℕ) (ρ σ : Valuation)
+      → ((v : Set) → Alike bs (suc k) (bind ρ k v) (bind σ k v))
+      → looped n cs b bs k ρ ≡ looped n cs b bs k σ
+  unfolding turn
+  looped-start b bs k ρ σ alike = ap (λ (f : Set → Worked). iterate (suc n) f (start n (b .sign))) (fun-ext λ v.
+      ap₂ (λ (vs : List Bool) (r : ℕ). (part n (b .first) vs, r)) (evaluate-start d _ _ (alike v .0) cs named) (alike v .1))
+
+  pub solved-start : (bs : List Block) (k : ℕ) → k + length bs ≡ d → (ρ σ : Valuation) → Agree k ρ σ → Alike bs k ρ σ
+  unfolding solved turn
+  solved-start [] k e ρ σ agree = (λ j h. agree j (omega arith), refl)
+  solved-start (b ∷ bs) k e ρ σ agree =
+      let alike : (v : Set) → Alike bs (suc k) (bind ρ k v) (bind σ k v) = λ v. solved-start bs (suc k) (omega arith) (bind ρ k v) (bind σ k v) (bind-agree k ρ σ v agree) in
+      let same = looped-start b bs k ρ σ alike in (
+        λ j h. alike (looped n cs b bs k ρ .0) .0 j h ∙ ap (λ (x : Worked). solved n cs bs (suc k) (bind σ k (x .0)) .0 j) same,
+        ap (λ (x : Worked). x .1) same,
+      )
+
+-- a cell of kind 2 at most that names a block below d where it is a variable
+cell-names : (d : ℕ) (ops : List ℕ) (kind x y : ℕ) → kind ≤ 2 → (kind ≡ 2 → x < d) → Names d (cellOf ops kind x y)
+unfolding Names cellOf
+cell-names d ops zero x y h g = tt
+cell-names d ops (suc zero) x y h g = tt
+cell-names d ops (suc (suc kind)) x y h g = g (omega arith)
+
+-- Of a well-formed file:
+module _ {e : List ℕ} (w : WellFormed e) where
+  -- the cells name only its own blocks
+  pub own-named : Named (blockCount e) (cells e)
+  own-named i h =
+      let low : i < cellCount e = omega (arith, length-cells e) in
+      let s = sound e w in
+      rw (cell-at e i low) (cell-names (blockCount e) (operands e) _ _ _ (s .kinds i low) (λ k. s .variable i low k .0))
+
+  -- each block has its cells
+  pub own-inside : Inside (stateCount e) (length (cells e)) (blocks e)
+  own-inside = rw (length-cells e) (inside e w)
+
+  -- a solution from any start agrees with what solve works out on the file's own blocks
+  pub own-agree : (ρ σ : Valuation) → Sized (stateCount e) ρ → Solution (stateCount e) (cells e) (blocks e) 0 ρ σ → Agree (blockCount e) σ (run e .0)
+  unfolding run
+  own-agree ρ σ r m k h =
+      ap (λ (τ : Valuation). τ k) (solution-one (stateCount e) (cells e) (ordered e w) (blocks e) own-inside 0 ρ r σ m)
+      ∙ solved-start (stateCount e) (blockCount e) (cells e) own-named (blocks e) 0 (omega (arith, length-blocks e)) ρ (none (stateCount e)) (λ j l. absurd (omega arith)) .0 k h
+
+  -- so it has the same set for the first block
+  pub own-first : (ρ σ : Valuation) → Sized (stateCount e) ρ → Solution (stateCount e) (cells e) (blocks e) 0 ρ σ → σ 0 ≡ run e .0 0
+  own-first ρ σ r m = own-agree ρ σ r m 0 (sound e w .blocks-low)
+
+  -- and the same values of the cells
+  pub own-values : (ρ σ : Valuation) → Sized (stateCount e) ρ → Solution (stateCount e) (cells e) (blocks e) 0 ρ σ
+      → (vs : List Bool) → Values (cells e) σ vs → vs ≡ evaluate (cells e) (run e .0)
+  own-values ρ σ r m vs v =
+      values-one (cells e) (ordered e w) σ vs (evaluate (cells e) σ) v (evaluate-values (cells e) (ordered e w) σ)
+      ∙ evaluate-start (blockCount e) σ (run e .0) (own-agree ρ σ r m) (cells e) own-named
+
+  -- solving with no limit, from all sets empty, reaches what solve works out
+  pub own-solves : Solves (stateCount e) (cells e) (blocks e) 0 (none (stateCount e)) (run e .0) (run e .1)
+  unfolding run
+  own-solves = solves (stateCount e) (cells e) (ordered e w) (blocks e) own-inside 0 (none (stateCount e)) (λ k. length-replicate (stateCount e) false)
+
+  -- so the rounds worked out are the own rounds
+  pub own-rounds : (r : ℕ) → OwnRounds e r → r ≡ run e .1
+  unfolding OwnRounds
+  own-rounds r o =
+      solves-one (stateCount e) (cells e) (ordered e w) (blocks e) 0 (none (stateCount e)) (o .0) (run e .0) r (run e .1) (o .1) own-solves .1
+
+  -- and the sets worked out have n states
+  pub own-sized : Sized (stateCount e) (run e .0)
+  unfolding run
+  own-sized = solved-sized (stateCount e) (cells e) (ordered e w) (blocks e) own-inside 0 (none (stateCount e)) (λ k. length-replicate (stateCount e) false)
+
+-- The rounds of any file are at most m + m ^ 2 + .. + m ^ d, for d blocks and m = n + 1.
+pub own-bound : (e : List ℕ) → run e .1 ≤ powers (suc (stateCount e)) (blockCount e)
+unfolding run
+own-bound e = rw (length-blocks e) at (rounds-bound (stateCount e) (cells e) (blocks e) 0 (none (stateCount e)))

@@ -1,0 +1,134 @@
+// The values of cells.
+use crate::BLOCKS;
+use crate::Sizes;
+use crate::file::HEADER;
+use crate::file::entry_at;
+use crate::file::number_at;
+use sets::WORDS;
+ghost use mathlib.Core.Path.{_≡_};
+ghost use mathlib.Core.List.{[]};
+ghost use Prim.Native.Nat.{ℕ, _+_, _*_, _<_, _≤_};
+ghost use lib.Dec.{eqb};
+ghost use lib.ListN.{length, getD};
+ghost use Rattle.sets.specs.Size.{wordCount, stateLimit};
+ghost use Rattle.sets.specs.Lists.{any};
+ghost use Rattle.sets.specs.Words.{words, marked, bit};
+ghost use Rattle.solver.specs.Limits.{blockLimit};
+ghost use Rattle.solver.specs.Cells.{Valuation, value, part};
+ghost use Rattle.solver.specs.File.{operands, listOf, cellOf};
+ghost use Rattle.solver.specs.Working.{Opens, Ready, ListAt, Valued, Evaluated, Applied, truths};
+
+// The operand at a place of the operand table.
+fn operand(file: &[u8], sizes: Sizes, j: usize) -> usize
+    requires { ⌜ Opens (now file) sizes × (j < sizes .operands) ⌝ }
+    ensures { λ r. ⌜ r ≡ getD (operands (now (file .entry))) j 0 ⌝ }
+{
+    number_at(file, HEADER + 8 * sizes.blocks + 12 * sizes.cells + 4 * j)
+}
+
+// Whether one of the operands from a place of the operand table on has the value wanted.
+fn finds(file: &[u8], sizes: Sizes, from: usize, count: usize, wanted: u8, work: &[u8]) -> bool
+    requires { ⌜ Ready (now file) sizes (now work) × ListAt (now file) from count ⌝ }
+    ensures { λ r. ⌜ r ≡ any (λ o. eqb (getD (now (work .entry)) o 0) wanted) (listOf (operands (now (file .entry))) from count) ⌝ }
+{
+    let mut j = 0;
+    while j < count {
+        let o = operand(file, sizes, from + j);
+        if work[o] == wanted {
+            return true;
+        }
+        j += 1;
+    }
+    false
+}
+
+// The value of an and (kind 0), which is false if an operand is, or of an or (kind 1), which is true if one is.
+fn list_value(file: &[u8], sizes: Sizes, kind: usize, from: usize, count: usize, work: &[u8]) -> u8
+    requires { ⌜ Ready (now file) sizes (now work) × ListAt (now file) from count × (kind ≤ 1) ⌝ }
+    ensures { λ r. ⌜ ((ρ : Valuation) → r ≡ bit (value ρ (truths (now (work .entry))) (cellOf (operands (now (file .entry))) kind from count))) ⌝ }
+{
+    if kind == 0 {
+        if finds(file, sizes, from, count, 0, work) {
+            return 0;
+        }
+        return 1;
+    }
+    if finds(file, sizes, from, count, 1, work) {
+        return 1;
+    }
+    0
+}
+
+// The value of the variable of a block in a state.
+fn variable_value(sets: [[u64; WORDS]; BLOCKS], block: usize, state: usize) -> u8
+    requires { ⌜ (block < blockLimit) × (state < stateLimit) ⌝ }
+    ensures { λ r. ⌜ r ≡ bit (marked (getD sets block []) state) ⌝ }
+{
+    let row = sets[block];
+    if sets::test(&row, state) {
+        return 1;
+    }
+    0
+}
+
+// The value of cell i, from those of the cells above it.
+fn value_of(file: &[u8], sizes: Sizes, sets: [[u64; WORDS]; BLOCKS], i: usize, work: &[u8]) -> u8
+    requires { ⌜ Ready (now file) sizes (now work) × (i < sizes .cells) ⌝ }
+    ensures { λ r. ⌜ Valued (now (file .entry)) sets i (now (work .entry)) r ⌝ }
+{
+    let x = entry_at(file, sizes, i);
+    if x.kind == 2 {
+        return variable_value(sets, x.one, x.two);
+    }
+    list_value(file, sizes, x.kind, x.one, x.two, work)
+}
+
+// Works out the cells from the last down to cell `from`.
+pub fn evaluate(
+    file: &[u8],
+    sizes: Sizes,
+    sets: [[u64; WORDS]; BLOCKS],
+    from: usize,
+    work: &mut [u8],
+)
+    requires { ⌜ Ready (now file) sizes (now work) × (from ≤ sizes .cells) ⌝ }
+    ensures { λ _. ⌜ Evaluated (now (file .entry)) sets from (now (work .exit)) ⌝ }
+{
+    let mut i = sizes.cells;
+    while from < i {
+        i -= 1;
+        let v = value_of(file, sizes, sets, i, work);
+        work[i] = v;
+    }
+}
+
+// The set of n states whose values are the working bytes from `from` on.
+fn gather(work: &[u8], from: usize, n: usize) -> [u64; WORDS]
+    requires { ⌜ (n ≤ stateLimit) × (from + n ≤ length (now work)) ⌝ }
+    ensures { λ r. ⌜ r ≡ words wordCount (part n from (truths (now (work .entry)))) ⌝ }
+{
+    let mut row = sets::empty();
+    for s in 0..n {
+        if work[from + s] == 1 {
+            let more = sets::add(row, s);
+            row = more;
+        }
+    }
+    row
+}
+
+// The right-hand sides of block k, all worked out before any is replaced.
+pub fn right_sides(
+    file: &[u8],
+    sizes: Sizes,
+    sets: [[u64; WORDS]; BLOCKS],
+    k: usize,
+    work: &mut [u8],
+) -> [u64; WORDS]
+    requires { ⌜ Ready (now file) sizes (now work) × (k < sizes .blocks) ⌝ }
+    ensures { λ r. ⌜ Applied (now (file .entry)) sets k (now (work .exit)) r ⌝ }
+{
+    let first = number_at(file, HEADER + 8 * k + 4);
+    evaluate(file, sizes, sets, first, work);
+    gather(work, first, sizes.states)
+}

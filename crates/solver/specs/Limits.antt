@@ -1,5 +1,5 @@
--- How large an equation file may be. The code's BLOCKS, CELLS and OPERANDS.
-use Prim.Native.Nat.{ℕ, _*_}
+-- How large an equation file may be. The code's BLOCKS, CELLS, OPERANDS and LARGEST.
+use Prim.Native.Nat.{ℕ, _+_, _*_}
 use Rattle.sets.specs.Size.{stateLimit}
 
 abbrev pub blockLimit : ℕ
@@ -11,3 +11,7 @@ cellLimit = 65 * stateLimit
 
 abbrev pub operandLimit : ℕ
 operandLimit = 133_120
+
+-- the length of the largest file
+abbrev pub largest : ℕ
+largest = 36 + 8 * blockLimit + 12 * cellLimit + 4 * operandLimit

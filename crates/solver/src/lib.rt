@@ -21,6 +21,9 @@ pub const CELLS: usize = 65 * sets::STATES;
 
 pub const OPERANDS: usize = 133_120;
 
+// The length of the largest equation file.
+pub const LARGEST: usize = file::HEADER + 8 * BLOCKS + 12 * CELLS + 4 * OPERANDS;
+
 // The counts of an equation file, and its initial state.
 pub struct Sizes {
     pub states: usize,

@@ -59,6 +59,10 @@ cost f c h (suc m) v = go (same (f v .0) v) refl (cost f c h m (f v .0))
     go true e ih = rw (iterate-stop m f v e) (omega (arith, h v))
     go false e ih = rw (iterate-again m f v e) (omega (arith, h v))
 
+-- Where a step costs no round further in, n + 1 turns take at most n + 1 rounds.
+pub turns : (n : ℕ) (f : Set → Worked) → ((v : Set) → f v .1 ≤ 0) → (v : Set) → iterate (suc n) f v .1 ≤ n + 1
+turns n f free v = omega (arith, cost f 0 free (suc n) v)
+
 module _ (n : ℕ) (sign : Bool) (f : Set → Worked)
     (sized : (v : Set) → length v ≡ n → length (f v .0) ≡ n)
     (mono : (v w : Set) → length v ≡ n → length w ≡ n → Subset v w → Subset (f v .0) (f w .0)) where

@@ -1,12 +1,14 @@
--- Laws of range, all and any.
-use mathlib.Core.Path.{_≡_, refl, sym, ap, ap₂, _∙_}
+-- Laws of truth values, range, all and any.
+use mathlib.Core.Path.{_≡_, refl, ap, ap₂, _∙_}
 use mathlib.Core.Bool.{Bool, true, false, _&&_, _||_}
 use mathlib.Core.List.{List, [], _∷_, map}
-use Prim.Native.Nat.{ℕ, zero, suc, _+_, _<_}
-use native.Mathlib.Nat.{add-zero, add-suc, suc-add}
+use Prim.Native.Nat.{ℕ, zero, suc, _+_, _≤_, _<_}
+use native.Mathlib.Nat.{zero-add}
+use native.Mathlib.Numerals.{add-one}
 use native.Mathlib.Omega.{arith}
-use lib.Dec.{T}
-use lib.ListN.{length, getD, length-map}
+use lib.Dec.{T, ltb, ltb→lt}
+use lib.ListN.{length, getD, drop, length-map, drop-of-length-le}
+use lib.Seq.{drop-cons}
 use Rattle.sets.specs.Lists.{range, all, any}
 
 -- range i k has k numbers
@@ -15,16 +17,32 @@ unfolding range
 length-range i zero = refl
 length-range i (suc k) = ap suc (length-range (suc i) k)
 
--- a list made of a range is as long
-pub length-map-range : {B : Type 0} (f : ℕ → B) (i k : ℕ) → length (map f (range i k)) ≡ k
-length-map-range f i k = length-map (range i k) f ∙ length-range i k
-
--- the element at s is that of the number i + s
-pub getD-map-range : {B : Type 0} (f : ℕ → B) (i k s : ℕ) (d : B) → s < k → getD (map f (range i k)) s d ≡ f (i + s)
+-- the number at place j
+getD-range : (i k j d : ℕ) → j < k → getD (range i k) j d ≡ i + j
 unfolding range
-getD-map-range f i zero s d h = absurd (omega arith)
-getD-map-range f i (suc k) zero d h = ap f (sym (add-zero i))
-getD-map-range f i (suc k) (suc s) d h = getD-map-range f (suc i) k s d (omega arith) ∙ ap f (suc-add i s ∙ sym (add-suc i s))
+getD-range i zero j d h = absurd (omega arith)
+getD-range i (suc k) zero d h = omega arith
+getD-range i (suc k) (suc j) d h = getD-range (suc i) k j d (omega arith) ∙ (omega arith)
+
+pub range-at : (k j d : ℕ) → j < k → getD (range 0 k) j d ≡ j
+range-at k j d h = getD-range 0 k j d h ∙ zero-add j
+
+-- an element of a mapped list, whatever stands for an element past the end
+pub getD-map : {A B : Type 0} (f : A → B) (xs : List A) (i : ℕ) (a : A) (b : B) → i < length xs → getD (map f xs) i b ≡ f (getD xs i a)
+getD-map f [] i a b h = absurd (omega arith)
+getD-map f (x ∷ xs) zero a b h = refl
+getD-map f (x ∷ xs) (suc i) a b h = getD-map f xs i a b (omega arith)
+
+-- the table of f at the first k numbers: its length and its elements
+pub length-table : {B : Type 0} (f : ℕ → B) (k : ℕ) → length (map f (range 0 k)) ≡ k
+length-table f k = length-map (range 0 k) f ∙ length-range 0 k
+
+pub table-at : {B : Type 0} (f : ℕ → B) (k i : ℕ) (b : B) → i < k → getD (map f (range 0 k)) i b ≡ f i
+table-at f k i b h = getD-map f (range 0 k) i 0 b (omega (arith, length-range 0 k)) ∙ ap f (range-at k i 0 h)
+
+-- the truth values differ
+pub false-true : ¬ (false ≡ true)
+false-true t = let z : _≡_ {A = ℕ} 0 1 = cc in omega arith
 
 -- an and is true if and only if both are
 pub and-left : (a b : Bool) → T (a && b) → T a
@@ -39,12 +57,35 @@ pub and-both : (a b : Bool) → T a → T b → T (a && b)
 and-both true b s t = t
 and-both false b s t = absurd s
 
+-- and false if its right side is
+pub and-false : (a b : Bool) → b ≡ false → (a && b) ≡ false
+and-false true b h = h
+and-false false b h = refl
+
+-- the elements from place j on, where x stands at j
+pub drop-next : {A : Type 0} (l : List A) (j : ℕ) (d x : A) → j < length l → getD l j d ≡ x → drop j l ≡ x ∷ drop (j + 1) l
+drop-next l j d x h is = rw (add-one, drop-cons l j d, is)
+
+-- A loop over a list: f of all of it, as all and any are, is f of what is left from place j on.
+module _ {A : Type 0} (f : List A → Bool) (l : List A) (j : ℕ) (left : f l ≡ f (drop j l)) where
+  -- none is left
+  pub loop-ends : length l ≤ j → f l ≡ f []
+  loop-ends h = left ∙ ap f (drop-of-length-le l h)
+
+  -- the next element is x
+  pub loop-next : (d x : A) → j < length l → getD l j d ≡ x → f l ≡ f (x ∷ drop (j + 1) l)
+  loop-next d x h is = left ∙ ap f (drop-next l j d x h is)
+
 -- a property of all elements holds of each
 pub all-at : {A : Type 0} (p : A → Bool) (xs : List A) (j : ℕ) (d : A) → j < length xs → T (all p xs) → T (p (getD xs j d))
 unfolding all
 all-at p [] j d h t = absurd (omega arith)
 all-at p (x ∷ xs) zero d h t = and-left (p x) (all p xs) t
 all-at p (x ∷ xs) (suc j) d h t = all-at p xs j d (omega arith) (and-right (p x) (all p xs) t)
+
+-- test k of a list of tests
+pub test : (k : ℕ) (ts : List Bool) → T (all (λ t. t) ts) → T (ltb k (length ts)) → T (getD ts k true)
+test k ts t h = all-at (λ t. t) ts k true (ltb→lt _ _ h) t
 
 -- a property of each element holds of all
 pub all-from : {A : Type 0} (p : A → Bool) (xs : List A) (d : A) → ((j : ℕ) → j < length xs → T (p (getD xs j d))) → T (all p xs)

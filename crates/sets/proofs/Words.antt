@@ -6,9 +6,9 @@ use mathlib.Core.List.{List, [], _∷_, map}
 use Prim.Native.Nat.{ℕ, zero, suc, _+_, _-_, _*_, _/_, _%_, _^_, _<_, _≤_, min}
 use native.Mathlib.Omega.{arith}
 use native.Mathlib.Decide.{decLt, ℕ-discrete}
-use native.Mathlib.Nat.{pow-suc, pow-zero, zero-div, div-one, one-mul, zero-add, add-zero, sub-zero, zero-sub, suc-sub-suc, zero-min, min-zero, suc-min-suc}
+use native.Mathlib.Nat.{pow-suc, pow-zero, zero-div, div-one, one-mul, sub-zero, zero-sub, suc-sub-suc, zero-min, min-zero, suc-min-suc}
 use native.Mathlib.Numerals.{add-one, one-add}
-use lib.ListN.{length, getD, set, take, drop, replicate, length-set, length-take, length-drop, length-replicate, length-map, getD-replicate}
+use lib.ListN.{length, getD, set, take, drop, replicate, length-set, length-take, length-drop, length-replicate, getD-replicate}
 use lib.Seq.{getD-take, getD-drop, drop-drop, ext-getD, getD-set-same, getD-set-other, drop-set-add, drop-set-lt, take-set-le, take-set-lt}
 use lib.Dec.{eqb, lit<}
 use lib.Bits.{bitOr, or-step, or-zero-r}
@@ -16,6 +16,7 @@ use lib.Pow.{pow-mono, pow-pos, shl-exact, shr-shr}
 use Rattle.sets.specs.Lists.{range}
 use Rattle.sets.specs.Set.{Set, has, start, size}
 use Rattle.sets.specs.Words.{words, number, marked, states, bit, Decides}
+use Rattle.sets.proofs.Lists.{length-table, table-at, false-true}
 
 -- ---- the number of a set
 
@@ -139,30 +140,15 @@ words-inj k v w l h e =
     ext-getD false v w l λ s b.
     sym (marked-words k v s (omega arith)) ∙ ap (λ (ws : List ℕ). marked ws s) e ∙ marked-words k w s (omega arith)
 
--- n numbers
-range-length : (i n : ℕ) → length (range i n) ≡ n
-unfolding range
-range-length i zero = refl
-range-length i (suc n) = ap suc (range-length (suc i) n)
-
--- what f says of number s of a range
-map-range : (f : ℕ → Bool) (i n s : ℕ) → s < n → getD (map f (range i n)) s false ≡ f (i + s)
-unfolding range
-map-range f i zero s h = absurd (omega arith)
-map-range f i (suc n) zero h = rw (add-zero i)
-map-range f i (suc n) (suc s) h =
-    let e : suc i + s ≡ i + suc s = omega arith in
-    map-range f (suc i) n s (omega arith) ∙ rw e
-
 -- n states
 pub states-length : (n : ℕ) (ws : List ℕ) → length (states n ws) ≡ n
 unfolding states
-states-length n ws = length-map (range 0 n) (marked ws) ∙ range-length 0 n
+states-length n ws = length-table (marked ws) n
 
 -- state s of the set that words stand for
 pub states-has : (n : ℕ) (ws : List ℕ) (s : ℕ) → s < n → has (states n ws) s ≡ marked ws s
 unfolding states
-states-has n ws s h = map-range (marked ws) 0 n s h ∙ rw (zero-add s)
+states-has n ws s h = table-at (marked ws) n s false h
 
 -- a set is read back from its words
 pub states-words : (n k : ℕ) (v : Set) → length v ≡ n → n ≤ 64 * k → states n (words k v) ≡ v
@@ -296,7 +282,7 @@ module _ (ws : List ℕ) (n : ℕ) where
 -- `true` decides what holds, `false` what does not.
 module _ {P : Type 0} where
   pub decides-yes : P → Decides P true
-  decides-yes p = record { yes-if = λ e. p; no-if = λ e. absurd (let z : _≡_ {A = ℕ} 0 1 = cc in omega arith) }
+  decides-yes p = record { yes-if = λ e. p; no-if = λ e. absurd (false-true (sym e)) }
 
   pub decides-no : ¬ P → Decides P false
-  decides-no n = record { yes-if = λ e. absurd (let z : _≡_ {A = ℕ} 0 1 = cc in omega arith); no-if = λ e. n }
+  decides-no n = record { yes-if = λ e. absurd (false-true e); no-if = λ e. n }

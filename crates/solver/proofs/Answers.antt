@@ -1,30 +1,30 @@
 -- Which outcome the definitions give, from plain facts, and what a call promises with each.
 use mathlib.Core.Path.{_≡_, refl, sym, ap, ap₂, _∙_}
 use mathlib.Core.Bool.{Bool, true, false, or-true}
-use mathlib.Core.List.{List, [], _∷_, _++_, map}
-use Prim.Native.Nat.{ℕ, zero, suc, _+_, _<_, _≤_}
+use mathlib.Core.List.{List, _++_, map}
+use Prim.Native.Nat.{ℕ, _+_, _<_, _≤_}
 use native.Mathlib.Omega.{arith}
 use borrow.Author.Tests.{lt-ltb, le-ltb}
-use lib.Dec.{eqb, ltb}
+use lib.Dec.{ltb}
 use lib.ListN.{length, drop, length-replicate}
-use Rattle.sets.specs.Size.{wordCount, stateLimit}
+use Rattle.sets.specs.Size.{wordCount}
 use Rattle.sets.specs.Set.{Set, has, size}
 use Rattle.sets.specs.Words.{words, bit, marked, states}
 use Rattle.sets.proofs.Words.{marked-words, states-words}
 use Rattle.solver.specs.Cells.{none, evaluate}
 use Rattle.solver.specs.File.{stateCount, cellCount, initialState, sizesOf, blocks, cells}
 use Rattle.solver.specs.Conditions.{layoutOk, tablesOk, WellFormed, opened}
-use Rattle.solver.specs.Outcome.{number, refused, outcome, run, badLayout, badTable, tooShort, exceeds, firstOf, solveRefusal, report, solveOutcome, solveMarks, solveWork, Scratch, Answered}
+use Rattle.solver.specs.Outcome.{number, refused, outcome, run, badLayout, badTable, tooShort, exceeds, firstOf, solveRefusal, report, solveOutcome, Scratch, Answered}
 use Rattle.solver.specs.Working.{Opens, Ran, spent}
 use Rattle.solver.specs.declared.Sizes.{Sizes}
 use Rattle.solver.specs.declared.Cause.{Cause}
 use Rattle.solver.specs.declared.Cause.the-variants.{Layout, Table, Memory, Spent}
 use Rattle.solver.specs.declared.Opened.the-variants.{File, Unfit}
 use Rattle.solver.specs.declared.Report.{Report}
-use Rattle.solver.specs.declared.Answer.{Answer}
 use Rattle.solver.specs.declared.Answer.the-variants.{Solved, Refused}
-use Rattle.solver.proofs.WellFormed.{sound, ordered, inside, length-cells}
-use Rattle.solver.proofs.Numbers.{counts}
+use Rattle.solver.proofs.Tables.{counted, length-cells}
+use Rattle.solver.proofs.Reading.{layout-facts}
+use Rattle.solver.proofs.WellFormed.{ordered, inside}
 use Rattle.solver.proofs.Refusals.{reported, is-refused, number-is, marks-written, marks-kept, work-written, work-kept}
 use Rattle.solver.proofs.Solving.{solved-sized}
 
@@ -114,14 +114,14 @@ module _ {e : List ℕ} {sizes : Sizes} (o : Opens e sizes) (work marks : List �
   module _ (bytes : sizes .cells ≤ length work) (room : wordCount ≤ length marks)
       {after row : List ℕ} {rounds status : ℕ} (r : Ran e limit after row rounds status) where
     enough : (cellCount e ≤ length work) × (wordCount ≤ length marks)
-    enough = (omega (arith, counts o .cells), room)
+    enough = (omega (arith, counted (o .counts) .cells), room)
 
     -- the part that was lent, and the rest
     abbrev whole : List ℕ
     whole = after ++ drop (sizes .cells) work
 
     rest : drop (sizes .cells) work ≡ drop (cellCount e) work
-    rest = ap (λ (k : ℕ). drop k work) (counts o .cells)
+    rest = ap (λ (k : ℕ). drop k work) (counted (o .counts) .cells)
 
     pub ended-spent : status ≡ spent → Answered e work marks limit (Refused Spent) whole marks
     ended-spent z = answered-spent e work marks limit
@@ -133,15 +133,15 @@ module _ {e : List ℕ} {sizes : Sizes} (o : Opens e sizes) (work marks : List �
         Answered e work marks limit (Solved (record { verdict = verdict; count = count; rounds = rounds })) whole marksAfter
     unfolding run
     ended-solved n v k m =
-        let s = sound e (o .formed) in
+        let s = layout-facts e (o .formed .layout) .counts in
         let first : Set = run e .0 0 in
         let is = r .first n in
         let long : length first ≡ stateCount e =
         solved-sized (stateCount e) (cells e) (ordered e (o .formed)) (blocks e) (rw (length-cells e) (inside e (o .formed))) 0 (none (stateCount e)) (λ j. length-replicate (stateCount e) false) 0 in
         answered-solved e work marks limit
         (refusal-0 e (length work) (length marks) limit (o .formed) enough (r .within n))
-        (v ∙ ap₂ (λ (w : List ℕ) (i : ℕ). marked w i) is (counts o .initial) ∙ marked-words wordCount first (initialState e) (omega (arith, s .initial, s .states-high)))
-        (k ∙ ap₂ (λ (w : List ℕ) (i : ℕ). size (states i w)) is (counts o .states) ∙ ap size (states-words (stateCount e) wordCount first long (s .states-high)))
+        (v ∙ ap₂ (λ (w : List ℕ) (i : ℕ). marked w i) is (counted (o .counts) .initial) ∙ marked-words wordCount first (initialState e) (omega (arith, s .initial, s .few-states)))
+        (k ∙ ap₂ (λ (w : List ℕ) (i : ℕ). size (states i w)) is (counted (o .counts) .states) ∙ ap size (states-words (stateCount e) wordCount first long (s .few-states)))
         (r .counted n)
         (m ∙ ap (λ (l : List ℕ). l ++ drop wordCount marks) is)
         (ap₂ (λ (x y : List ℕ). x ++ y) (r .values n) rest)

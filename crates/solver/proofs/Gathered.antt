@@ -1,8 +1,8 @@
 -- A set that is gathered state by state: its first s states are in place, the others are still out.
 use mathlib.Core.Path.{_≡_, refl, ap, sym, _∙_}
 use mathlib.Core.Bool.{Bool, true, false}
-use mathlib.Core.List.{List, [], _∷_, _++_, append-assoc, append-nil, map}
-use Prim.Native.Nat.{ℕ, zero, suc, _+_, _-_, _<_, _≤_}
+use mathlib.Core.List.{List, [], _∷_, _++_, append-assoc, append-nil}
+use Prim.Native.Nat.{ℕ, suc, _+_, _-_, _<_, _≤_}
 use native.Mathlib.Omega.{arith}
 use native.Mathlib.Nat.{sub-zero}
 use native.Mathlib.Numerals.{add-one}
@@ -15,7 +15,7 @@ use Rattle.sets.specs.Words.{words}
 use Rattle.solver.specs.Cells.{part}
 use Rattle.solver.specs.File.{stateCount, cellCount, blockAt}
 use Rattle.solver.specs.Working.{Shows, Evaluated, Applied, truths}
-use Rattle.solver.proofs.WellFormed.{length-cells}
+use Rattle.solver.proofs.Tables.{length-cells}
 use Rattle.solver.proofs.Values.{length-part}
 use Rattle.solver.proofs.Shown.{bit-back}
 

@@ -1,43 +1,43 @@
 -- A search through a list of operands, one by one.
-use mathlib.Core.Path.{_≡_, refl, ap, sym, _∙_}
-use mathlib.Core.Bool.{Bool, true, false, _||_}
-use mathlib.Core.List.{List, [], _∷_}
-use Prim.Native.Nat.{ℕ, zero, suc, _+_, _-_, _<_, _≤_}
+use mathlib.Core.Path.{_≡_, refl, sym, _∙_}
+use mathlib.Core.Bool.{Bool, true, false}
+use mathlib.Core.List.{List, _∷_}
+use Prim.Native.Nat.{ℕ, _+_, _<_, _≤_}
 use native.Mathlib.Omega.{arith}
-use native.Mathlib.Nat.{add-zero, sub-zero}
-use native.Mathlib.Numerals.{add-one}
-use lib.ListN.{length, getD, take, drop}
+use borrow.Author.Tests.{eq-eqb, ne-eqb}
+use lib.Dec.{eqb}
+use lib.ListN.{length, getD, drop}
 use Rattle.sets.specs.Lists.{any}
-use Rattle.solver.specs.File.{listOf}
-use Rattle.solver.proofs.WellFormed.{list-next}
+use Rattle.sets.proofs.Lists.{loop-ends, loop-next}
+use Rattle.solver.specs.File.{operands, listOf}
+use Rattle.solver.specs.Working.{Ready, ListAt}
+use Rattle.solver.specs.declared.Sizes.{Sizes}
+use Rattle.solver.proofs.Tables.{operandAt, operand-at, length-list, list-at}
 
--- none of the first j operands of the list is a hit, so what is left decides
-pub record Searched (p : ℕ → Bool) (ops : List ℕ) (from count j : ℕ) : Type 0 where
-  pub within : j ≤ count
-  pub left : any p (listOf ops from count) ≡ any p (listOf ops (from + j) (count - j))
+-- whether one of the operands from operand j on has the value wanted
+abbrev pub found : List ℕ → ℕ → ℕ → List ℕ → ℕ → ℕ → Bool
+found e from count work wanted j = any (λ o. eqb (getD work o 0) wanted) (drop j (listOf (operands e) from count))
 
--- the next operand stands first in what is left
-next : (p : ℕ → Bool) (ops : List ℕ) (from count j : ℕ) → from + count ≤ length ops → j < count →
-    any p (listOf ops (from + j) (count - j)) ≡ (p (getD ops (from + j) 0) || any p (listOf ops (from + (j + 1)) (count - (j + 1))))
-unfolding any
-next p ops from count j fits h =
-    let m : count - j ≡ suc (count - (j + 1)) = omega arith in
-    let a : from + j + 1 ≡ from + (j + 1) = omega arith in
-    ap (λ (k : ℕ). any p (listOf ops (from + j) k)) m
-    ∙ ap (any p) (list-next ops (from + j) (count - (j + 1)) (omega arith))
-    ∙ ap (λ (k : ℕ). p (getD ops (from + j) 0) || any p (listOf ops k (count - (j + 1)))) a
+module _ {e : List ℕ} {s : Sizes} {work : List ℕ} (r : Ready e s work) {from count : ℕ} (l : ListAt e from count) {j : ℕ} where
+  -- operand j is a cell
+  pub operand-low : {o : ℕ} → j < count → o ≡ operandAt e (from + j) → o < length work
+  operand-low h is = omega (arith, l .below j h, operand-at e (from + j) (omega (arith, l .fits)), r .room)
 
-module _ {p : ℕ → Bool} {ops : List ℕ} {from count : ℕ} where
-  pub begun : Searched p ops from count 0
-  begun = record { within = omega arith; left = rw (add-zero from, sub-zero count) refl }
+  module _ (wanted : ℕ) (left : found e from count work wanted 0 ≡ found e from count work wanted j) where
+    -- none is left
+    pub search-ends : count ≤ j → false ≡ found e from count work wanted 0
+    unfolding any
+    search-ends h = sym (loop-ends (any (λ o. eqb (getD work o 0) wanted)) _ j left (omega (arith, length-list e from count (l .fits))))
 
-  module _ {j o : ℕ} (fits : from + count ≤ length ops) (h : j < count) (s : Searched p ops from count j) (is : o ≡ getD ops (from + j) 0) where
-    pub hit : p o ≡ true → true ≡ any p (listOf ops from count)
-    hit e = sym (s .left ∙ next p ops from count j fits h ∙ rw (← is, e) refl)
+    -- o is operand j
+    module _ {o : ℕ} (h : j < count) (is : o ≡ operandAt e (from + j)) where
+      next : found e from count work wanted 0 ≡ any (λ o. eqb (getD work o 0) wanted) (o ∷ drop (j + 1) (listOf (operands e) from count))
+      next = loop-next (any (λ o. eqb (getD work o 0) wanted)) _ j left 0 o (omega (arith, length-list e from count (l .fits))) (list-at e from count (l .fits) j h ∙ sym is)
 
-    pub miss : p o ≡ false → Searched p ops from count (j + 1)
-    miss e = record { within = omega arith; left = s .left ∙ next p ops from count j fits h ∙ rw (← is, e) refl }
+      pub hit : getD work o 0 ≡ wanted → true ≡ found e from count work wanted 0
+      unfolding any
+      hit v = sym (next ∙ rw (eq-eqb _ _ v) refl)
 
-  pub ended : {j : ℕ} → count ≤ j → Searched p ops from count j → false ≡ any p (listOf ops from count)
-  unfolding any
-  ended {j} h s = let z : count - j ≡ 0 = omega arith in sym (s .left ∙ ap (λ (k : ℕ). any p (listOf ops (from + j) k)) z)
+      pub miss : ¬ (getD work o 0 ≡ wanted) → found e from count work wanted 0 ≡ found e from count work wanted (j + 1)
+      unfolding any
+      miss v = next ∙ rw (ne-eqb _ _ v) refl

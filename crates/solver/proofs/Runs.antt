@@ -1,23 +1,23 @@
 -- What solving from block 0 gives: the solution of all blocks and the rounds that the definitions give.
-use mathlib.Core.Path.{_≡_, refl, sym, ap, _∙_}
-use mathlib.Core.Bool.{Bool, true, false}
-use mathlib.Core.List.{List, [], _∷_, map}
-use Prim.Native.Nat.{ℕ, zero, suc, _+_, _<_, _≤_}
+use mathlib.Core.Path.{_≡_, sym, ap, _∙_}
+use mathlib.Core.Bool.{Bool, false}
+use mathlib.Core.List.{List, [], map}
+use Prim.Native.Nat.{ℕ, zero, suc, _≤_}
 use native.Mathlib.Omega.{arith}
 use lib.ListN.{length, getD, replicate, length-replicate, getD-replicate, length-map, List·getD-map}
 use lib.Seq.{ext-getD}
 use Rattle.sets.specs.Size.{wordCount}
-use Rattle.sets.specs.Words.{words, bit}
+use Rattle.sets.specs.Words.{bit}
 use Rattle.sets.proofs.Words.{words-none}
 use Rattle.solver.specs.Limits.{blockLimit}
-use Rattle.solver.specs.Cells.{Valuation, none, Values, evaluate}
+use Rattle.solver.specs.Cells.{none, evaluate}
 use Rattle.solver.specs.File.{stateCount, cellCount, blocks, cells}
 use Rattle.solver.specs.Conditions.{WellFormed}
-use Rattle.solver.specs.Rounds.{Solves}
 use Rattle.solver.specs.Outcome.{run}
 use Rattle.solver.specs.Working.{Opens, Ready, Holds, Shows, Evaluated, SolvesFrom, Solving, Ran, spent}
 use Rattle.solver.specs.declared.Sizes.{Sizes}
-use Rattle.solver.proofs.WellFormed.{ordered, inside, length-cells}
+use Rattle.solver.proofs.Tables.{length-cells}
+use Rattle.solver.proofs.WellFormed.{ordered, inside}
 use Rattle.solver.proofs.Values.{evaluate-values}
 use Rattle.solver.proofs.Solving.{solves}
 

@@ -1,27 +1,28 @@
 -- Working bytes as truth values: what a cell's value is where the cells above it are shown.
-use mathlib.Core.Path.{_≡_, refl, ap, sym, subst, _∙_}
+use mathlib.Core.Path.{_≡_, refl, ap, sym, _∙_}
 use mathlib.Core.Bool.{Bool, true, false, not, _&&_, _||_}
-use mathlib.Core.List.{List, [], _∷_, map}
+use mathlib.Core.List.{List, [], _∷_}
 use Prim.Native.Nat.{ℕ, zero, suc, _+_, _-_, _<_, _≤_}
 use native.Mathlib.Omega.{arith}
 use native.Mathlib.Decide.{decLt, ℕ-discrete}
-use borrow.Author.Tests.{eq-eqb, ne-eqb, eqb-true, eqb-false}
-use lib.Dec.{T, eqb, ltb}
+use lib.Dec.{eqb}
 use lib.ListN.{length, getD, set, length-map, length-set, List·getD-map, List·getD-eq-default}
-use lib.Seq.{getD-set-same, getD-set-other, ext-getD}
+use lib.Seq.{getD-set-same, getD-set-other}
 use Rattle.sets.specs.Lists.{all, any}
 use Rattle.sets.specs.Size.{wordCount, stateLimit}
-use Rattle.sets.specs.Set.{Set, has}
-use Rattle.sets.specs.Words.{words, marked, bit}
+use Rattle.sets.specs.Set.{has}
+use Rattle.sets.specs.Words.{marked, bit}
 use Rattle.sets.proofs.Lists.{kept-equal}
 use Rattle.sets.proofs.Words.{marked-words}
 use Rattle.solver.specs.Limits.{blockLimit}
-use Rattle.solver.specs.Cells.{Cell, And, Or, Variable, operandsOf, Ordered, Valuation, value, Values, part}
-use Rattle.solver.specs.File.{stateCount, cellCount, operands, Entry, entryAt, cellOf, cells, listOf}
+use Rattle.solver.specs.Cells.{Cell, Ordered, Valuation, value, Values}
+use Rattle.solver.specs.File.{stateCount, cellCount, sizesOf, operands, Entry, entryAt, cellOf, cells, listOf}
+use Rattle.solver.specs.Checks.{Counts}
 use Rattle.solver.specs.Working.{Ready, ListAt, Holds, Shows, Valued, Evaluated, truths}
 use Rattle.solver.specs.declared.Sizes.{Sizes}
-use Rattle.solver.proofs.WellFormed.{Sound, sound, ordered, length-cells, cell-at}
-use Rattle.solver.proofs.Numbers.{counts, list-at}
+use Rattle.solver.proofs.Tables.{counted, length-cells, cell-at, operand-at}
+use Rattle.solver.proofs.Reading.{layout-facts}
+use Rattle.solver.proofs.WellFormed.{Keeps, ordered, cell-kept}
 use Rattle.solver.proofs.Values.{value-kept}
 
 pub bit-low : (b : Bool) → bit b ≤ 1
@@ -82,7 +83,10 @@ module _ (work : List ℕ) (bits : (i : ℕ) → getD work i 0 ≤ 1) (ops : Lis
 abbrev pub cellAt : List ℕ → ℕ → Cell
 cellAt e i = cellOf (operands e) (entryAt e i .kind) (entryAt e i .one) (entryAt e i .two)
 
-module _ {e : List ℕ} {sizes : Sizes} {work : List ℕ} (r : Ready e sizes work) {i : ℕ} (h : i < cellCount e) where
+module _ {e : List ℕ} {sizes : Sizes} {work : List ℕ} (r : Ready e sizes work) {i : ℕ} (h : i < sizes .cells) where
+  own : i < cellCount e
+  own = omega (arith, counted (r .opens .counts) .cells)
+
   -- the bytes above (cellAt e i) i are the values above (cellAt e i) i
   above : (vs : List Bool) → length vs ≡ length (cells e) → Shows vs (i + 1) work → (o : ℕ) → i < o → getD (truths work) o false ≡ getD vs o false
   above vs l s o g = go (decLt o (length vs))
@@ -97,26 +101,33 @@ module _ {e : List ℕ} {sizes : Sizes} {work : List ℕ} (r : Ready e sizes wor
   by-rule : (ρ : Valuation) (vs : List Bool) → Values (cells e) ρ vs → Shows vs (i + 1) work → value ρ (truths work) (cellAt e i) ≡ getD vs i false
   unfolding Ordered
   by-rule ρ vs v s =
-      let g : i < length (cells e) = omega (arith, length-cells e) in
-      let at = cell-at e i h in
+      let g : i < length (cells e) = omega (arith, own, length-cells e) in
+      let at = cell-at e i own in
       value-kept kept-equal ρ ρ (λ k x. refl) i (truths work) vs (above vs (v .sized) s) (cellAt e i) (rw at at (ordered e (r .opens .formed) i g))
       ∙ sym (v .rule i g ∙ ap (value ρ vs) at)
 
   -- x is what was read of cell i
   module _ {x : Entry} (is : x ≡ entryAt e i) where
-    abbrev facts : Sound e
-    facts = sound e (r .opens .formed)
+    abbrev facts : Keeps e i (entryAt e i .kind) (entryAt e i .one) (entryAt e i .two)
+    facts = cell-kept e (r .opens .formed) i own
+
+    abbrev few : Counts (sizesOf e)
+    few = layout-facts e (r .opens .formed .layout) .counts
 
     pub variable-fits : x .kind ≡ 2 → (x .one < blockLimit) × (x .two < stateLimit)
     variable-fits k =
-        let b = facts .variable i h (rw is at k) in
-        rw is (omega (arith, facts .blocks-high, b .0), omega (arith, facts .states-high, b .1))
+        let b = facts .variable (rw is at k) in
+        rw is (omega (arith, few .few-blocks, b .0), omega (arith, few .few-states, b .1))
 
     pub list-fits : ¬ (x .kind ≡ 2) → ListAt e (x .one) (x .two) × (x .kind ≤ 1)
     list-fits n =
         let m : ¬ (entryAt e i .kind ≡ 2) = rw is at n in
-        let k : entryAt e i .kind ≤ 1 = omega (arith, facts .kinds i h) in
-        rw is (list-at (r .opens) i h k, k)
+        let k : entryAt e i .kind ≤ 1 = omega (arith, facts .kinds) in
+        let l : ListAt e (entryAt e i .one) (entryAt e i .two) = record {
+          fits = facts .list k;
+          below = λ j g. let m = facts .list k in omega (arith, facts .operand k j g .1, operand-at e (entryAt e i .one + j) (omega arith));
+        } in
+        rw is (l, k)
 
     pub list-valued : {rows : List (List ℕ)} {answer : ℕ} →
         ((ρ : Valuation) → answer ≡ bit (value ρ (truths work) (cellOf (operands e) (x .kind) (x .one) (x .two)))) → Valued e rows i work answer
@@ -144,7 +155,7 @@ pub evaluated-none : {e : List ℕ} {sizes : Sizes} {work : List ℕ} {rows : Li
 evaluated-none {e} r = record {
   room = r .room;
   bits = r .bits;
-  right = λ ρ vs holds v. record { byte = λ j a b. absurd (omega (arith, v .sized, length-cells e, counts (r .opens) .cells)) };
+  right = λ ρ vs holds v. record { byte = λ j a b. absurd (omega (arith, v .sized, length-cells e, counted (r .opens .counts) .cells)) };
 }
 
 pub evaluated-more : {e : List ℕ} {work : List ℕ} {rows : List (List ℕ)} {i x : ℕ} → Evaluated e rows (i + 1) work → i < cellCount e → Valued e rows i work x → Evaluated e rows i (set work i x)

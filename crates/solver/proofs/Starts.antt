@@ -15,7 +15,9 @@ use Rattle.solver.specs.Conditions.{WellFormed}
 use Rattle.solver.specs.Standard.{Solution}
 use Rattle.solver.specs.Rounds.{Solves, solved, powers}
 use Rattle.solver.specs.Outcome.{OwnRounds, run}
-use Rattle.solver.proofs.WellFormed.{length-blocks, length-cells, cell-at, inside, ordered, sound}
+use Rattle.solver.proofs.Tables.{length-blocks, length-cells, cell-at}
+use Rattle.solver.proofs.Reading.{layout-facts}
+use Rattle.solver.proofs.WellFormed.{inside, ordered, cell-kept}
 use Rattle.solver.proofs.Values.{evaluate-values, values-one}
 use Rattle.solver.proofs.Solving.{Sized, bind-same, bind-other, turn, looped, solves, solution-one, solves-one, solved-sized, rounds-bound}
 
@@ -98,8 +100,8 @@ module _ {e : List ℕ} (w : WellFormed e) where
   pub own-named : Named (blockCount e) (cells e)
   own-named i h =
       let low : i < cellCount e = omega (arith, length-cells e) in
-      let s = sound e w in
-      rw (cell-at e i low) (cell-names (blockCount e) (operands e) _ _ _ (s .kinds i low) (λ k. s .variable i low k .0))
+      let s = cell-kept e w i low in
+      rw (cell-at e i low) (cell-names (blockCount e) (operands e) _ _ _ (s .kinds) (λ k. s .variable k .0))
 
   -- each block has its cells
   pub own-inside : Inside (stateCount e) (length (cells e)) (blocks e)
@@ -114,7 +116,7 @@ module _ {e : List ℕ} (w : WellFormed e) where
 
   -- so it has the same set for the first block
   pub own-first : (ρ σ : Valuation) → Sized (stateCount e) ρ → Solution (stateCount e) (cells e) (blocks e) 0 ρ σ → σ 0 ≡ run e .0 0
-  own-first ρ σ r m = own-agree ρ σ r m 0 (sound e w .blocks-low)
+  own-first ρ σ r m = own-agree ρ σ r m 0 (layout-facts e (w .layout) .counts .some-block)
 
   -- and the same values of the cells
   pub own-values : (ρ σ : Valuation) → Sized (stateCount e) ρ → Solution (stateCount e) (cells e) (blocks e) 0 ρ σ

@@ -1,29 +1,29 @@
 -- What a round, and the loop over a block's rounds, give: the code's sets, rounds and status beside the rule's.
 use mathlib.Core.Path.{_≡_, refl, sym, ap, subst, _∙_}
-use mathlib.Core.Bool.{Bool, true, false, cond}
 use mathlib.Core.List.{List, [], _∷_}
-use Prim.Native.Nat.{ℕ, zero, suc, _+_, _-_, _*_, _<_, _≤_}
+use Prim.Native.Nat.{ℕ, suc, _+_, _-_, _<_, _≤_}
 use native.Mathlib.Omega.{arith}
 use native.Mathlib.Numerals.{add-one}
 use native.Mathlib.Decide.{ℕ-discrete}
 use borrow.Author.Tests.{eq-eqb, ne-eqb}
 use lib.ListN.{length, getD, set, drop, drop-of-length-le, length-replicate}
 use lib.Seq.{drop-cons, getD-set-same, getD-set-other}
-use Rattle.sets.specs.Size.{wordCount, stateLimit}
+use Rattle.sets.specs.Size.{wordCount}
 use Rattle.sets.specs.Set.{Set, start}
 use Rattle.sets.specs.Loop.{Step, Run, stop, again}
 use Rattle.sets.specs.Words.{words}
 use Rattle.sets.proofs.Words.{words-inj}
 use Rattle.solver.specs.Limits.{blockLimit}
-use Rattle.solver.specs.Cells.{Valuation, bind, part}
+use Rattle.solver.specs.Cells.{Valuation, bind}
 use Rattle.solver.specs.File.{Block, stateCount, blockCount, cellCount, blocks, blockAt, cells}
 use Rattle.solver.specs.Conditions.{WellFormed}
-use Rattle.solver.specs.Standard.{RightSides}
 use Rattle.solver.specs.Rounds.{Solves}
 use Rattle.solver.specs.Working.{Holds, SolvesFrom, RightSidesOf, Applied, Solving, Turned, spent, stable, replaced}
-use Rattle.solver.proofs.WellFormed.{sound, length-cells, length-blocks, block-at}
+use Rattle.solver.proofs.Tables.{length-cells, length-blocks, block-at}
+use Rattle.solver.proofs.Reading.{layout-facts}
+use Rattle.solver.proofs.WellFormed.{block-kept}
 use Rattle.solver.proofs.Values.{length-part}
-use Rattle.solver.proofs.Solving.{bind-same, bind-other}
+use Rattle.solver.proofs.Solving.{bind-same}
 
 -- ---- the rule, block by block
 
@@ -62,7 +62,7 @@ from-block e k ρ σ r h s = subst Later (sym (add-one k)) (subst (λ (bs : List
 -- right-hand sides are a set of n states
 sides-sized : (e : List ℕ) (k : ℕ) {σ : Valuation} {w : Set} → WellFormed e → k < blockCount e → RightSidesOf e k σ w → length w ≡ stateCount e
 sides-sized e k f h s =
-    ap length (s .are) ∙ length-part (stateCount e) (blockAt e k .first) (s .values) (omega (arith, sound e f .block k h, s .each .sized, length-cells e))
+    ap length (s .are) ∙ length-part (stateCount e) (blockAt e k .first) (s .values) (omega (arith, block-kept e f k h, s .each .sized, length-cells e))
 
 -- a row is stored for block k
 holds-bind : {n : ℕ} {rows : List (List ℕ)} {ρ : Valuation} → Holds n rows ρ → {k : ℕ} → k < length rows → (v : Set) {row : List ℕ} → length v ≡ n → row ≡ words wordCount v →
@@ -129,7 +129,7 @@ module _ {e : List ℕ} {rows inner : List (List ℕ)} {k used limit usedInner s
         kept = λ m ρ τ q h t. s .right go ρ τ q h t .1;
         same = λ m ρ τ q w h t r.
             let z = sides-sized e k f b r in
-            words-inj wordCount w (ρ k) (z ∙ sym (h .sized k)) (omega (arith, sound e f .states-high)) (sym (row-is ρ τ q w h t r) ∙ is ∙ h .row k b′);
+            words-inj wordCount w (ρ k) (z ∙ sym (h .sized k)) (omega (arith, layout-facts e (f .layout) .counts .few-states)) (sym (row-is ρ τ q w h t r) ∙ is ∙ h .row k b′);
         differs = λ m n. absurd (n refl);
       }
 
@@ -240,8 +240,8 @@ module _ {e : List ℕ} {rows : List (List ℕ)} {k used₀ limit : ℕ} {held :
         ends ρ σ q {v} (again {w = w} {r = c} x d _) sum h s = absurd (d (t .same z (bind ρ k v) (x .0) c w h (x .1) (x .2) ∙ bind-same ρ k v))
 
     -- it goes on from the set that was put in place
-    pub goes-on : ¬ (status ≡ stable) → Going e rows k used₀ limit (getD after k []) usedAfter
-    goes-on z = record {
+    goes : ¬ (status ≡ stable) → Going e rows k used₀ limit (getD after k []) usedAfter
+    goes z = record {
       low = omega (arith, t .low go, g .low);
       high = t .high go;
       left = λ ρ v r h run. let y = g .left ρ v r h run in on ρ (y .run) (y .sum) (shows h y);
@@ -258,6 +258,13 @@ module _ {e : List ℕ} {rows : List (List ℕ)} {k used₀ limit : ℕ} {held :
           run = rest;
           sum = omega (arith, t .counted go (bind ρ k v) (x .0) c h (x .1));
         }
+
+  -- so it does where the set was replaced, with fewer rounds left
+  pub goes-on : status ≡ replaced → Going e rows k used₀ limit (getD after k []) usedAfter
+  goes-on z = goes (λ m. omega arith) (λ m. omega arith)
+
+  pub fewer : status ≡ replaced → limit - usedAfter < limit - used
+  fewer z = omega (arith, t .low (λ m. omega arith), t .high (λ m. omega arith))
 
   -- the loop is left unless the set was replaced
   pub left-loop : ¬ (status ≡ replaced) → Solving e rows k used₀ limit work after usedAfter status

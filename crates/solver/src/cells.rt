@@ -4,6 +4,7 @@ use crate::Sizes;
 use crate::file::HEADER;
 use crate::file::entry_at;
 use crate::file::number_at;
+use crate::file::operand_at;
 use sets::WORDS;
 ghost use mathlib.Core.Path.{_≡_};
 ghost use mathlib.Core.List.{[]};
@@ -16,15 +17,7 @@ ghost use Rattle.sets.specs.Words.{words, marked, bit};
 ghost use Rattle.solver.specs.Limits.{blockLimit};
 ghost use Rattle.solver.specs.Cells.{Valuation, value, part};
 ghost use Rattle.solver.specs.File.{operands, listOf, cellOf};
-ghost use Rattle.solver.specs.Working.{Opens, Ready, ListAt, Valued, Evaluated, Applied, truths};
-
-// The operand at a place of the operand table.
-fn operand(file: &[u8], sizes: Sizes, j: usize) -> usize
-    requires { ⌜ Opens (now file) sizes × (j < sizes .operands) ⌝ }
-    ensures { λ r. ⌜ r ≡ getD (operands (now (file .entry))) j 0 ⌝ }
-{
-    number_at(file, HEADER + 8 * sizes.blocks + 12 * sizes.cells + 4 * j)
-}
+ghost use Rattle.solver.specs.Working.{Ready, ListAt, Valued, Evaluated, Applied, truths};
 
 // Whether one of the operands from a place of the operand table on has the value wanted.
 fn finds(file: &[u8], sizes: Sizes, from: usize, count: usize, wanted: u8, work: &[u8]) -> bool
@@ -33,7 +26,7 @@ fn finds(file: &[u8], sizes: Sizes, from: usize, count: usize, wanted: u8, work:
 {
     let mut j = 0;
     while j < count {
-        let o = operand(file, sizes, from + j);
+        let o = operand_at(file, sizes, from + j);
         if work[o] == wanted {
             return true;
         }

@@ -4,7 +4,9 @@ use crate::Opened;
 use crate::Sizes;
 use crate::Span;
 use crate::file::HEADER;
+use crate::file::entry_at;
 use crate::file::number_at;
+use crate::file::operand_at;
 use crate::file::sizes_of;
 ghost use mathlib.Core.Path.{_≡_};
 ghost use mathlib.Core.Bool.{_&&_};
@@ -116,11 +118,10 @@ fn operands_hold(file: &[u8], sizes: Sizes, i: usize, from: usize, count: usize)
     requires { ⌜ Read (now file) sizes ⌝ ∗ ⌜ from + count ≤ sizes .operands ⌝ }
     ensures { λ r. ⌜ r ≡ listOk (now (file .entry)) i from count ⌝ }
 {
-    let start = operands_from(sizes);
     let cells = sizes.cells;
     let mut j = 0;
     while j < count {
-        let operand = number_at(file, start + 4 * (from + j));
+        let operand = operand_at(file, sizes, from + j);
         if operand <= i {
             return false;
         }
@@ -144,32 +145,29 @@ fn entry_span(file: &[u8], sizes: Sizes, i: usize, used: usize) -> Span
     requires { ⌜ Read (now file) sizes ⌝ ∗ ⌜ i < sizes .cells ⌝ ∗ ⌜ used ≤ sizes .operands ⌝ }
     ensures { λ r. ⌜ Spans (now (file .entry)) i used r ⌝ }
 {
-    let at = cells_from(sizes) + 12 * i;
-    let kind = number_at(file, at);
-    let one = number_at(file, at + 4);
-    let two = number_at(file, at + 8);
+    let x = entry_at(file, sizes, i);
     let broken = Span {
         ok: false,
         count: 0,
     };
-    if kind == 2 {
+    if x.kind == 2 {
         return Span {
-            ok: variable_holds(sizes, one, two),
+            ok: variable_holds(sizes, x.one, x.two),
             count: 0,
         };
     }
-    if 2 < kind {
+    if 2 < x.kind {
         return broken;
     }
-    if one != used {
+    if x.one != used {
         return broken;
     }
-    if sizes.operands - used < two {
+    if sizes.operands - used < x.two {
         return broken;
     }
     Span {
-        ok: operands_hold(file, sizes, i, used, two),
-        count: two,
+        ok: operands_hold(file, sizes, i, used, x.two),
+        count: x.two,
     }
 }
 

@@ -4,7 +4,7 @@ use crate::Sizes;
 ghost use mathlib.Core.Path.{_≡_};
 ghost use Prim.Native.Nat.{_+_, _*_, _^_, _<_, _≤_};
 ghost use lib.ListN.{length};
-ghost use Rattle.solver.specs.File.{u32, sizesOf, cellsAt, entryAt};
+ghost use Rattle.solver.specs.File.{u32, sizesOf, cellsAt, operandsAt, entryAt};
 
 // How many bytes stand before the first table.
 pub const HEADER: usize = 36;
@@ -51,4 +51,12 @@ pub fn entry_at(file: &[u8], sizes: Sizes, i: usize) -> Entry
         one: number_at(file, at + 4),
         two: number_at(file, at + 8),
     }
+}
+
+// The number at place j of the operand table.
+pub fn operand_at(file: &[u8], sizes: Sizes, j: usize) -> usize
+    requires { ⌜ (sizes ≡ sizesOf (now file)) × (operandsAt (now file) + 4 * j + 4 ≤ length (now file)) ⌝ }
+    ensures { λ r. ⌜ r ≡ u32 (now (file .entry)) (operandsAt (now (file .entry)) + 4 * j) ⌝ }
+{
+    number_at(file, HEADER + 8 * sizes.blocks + 12 * sizes.cells + 4 * j)
 }

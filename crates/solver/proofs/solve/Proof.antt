@@ -1,7 +1,5 @@
-use mathlib.Core.Path.{_≡_}
+use mathlib.Core.Path.{sym, _∙_}
 use borrow.Author.Needs.{needs}
-use Rattle.solver.specs.Conditions.{opened}
-use Rattle.solver.specs.declared.Opened.the-variants.{File, Unfit}
 use Rattle.solver.proofs.Answers.{opens-file, unfit}
 use Rattle.solver.proofs.solve.Statement.{statement}
 use Rattle.solver.proofs.solve.Tie as tie
@@ -14,25 +12,23 @@ enum-known-sizes c = search needs
 
 solve-opened-requires : tie.Need-solve-opened-requires
 solve-opened-requires c κs =
-    let h : File (c .before .before .before .sizes .given .0 .0) ≡ opened (c .before .before .before .before .before .before .before .before .before .args .file .now) = cc in
-    opens-file h
+    opens-file (sym (c .before .before .before .sizes .given .1) ∙ c .before .before .before .before .before .open-file .ensures)
 
 enum-known-cause : tie.Need-enum-known-cause
 enum-known-cause c = search needs
 
 same-length : tie.Need-same-length
-same-length c = search needs
+same-length c = c .before .before .before .before .solve-opened .kept .1 .1 .0
 
 same-length-2 : tie.Need-same-length-2
-same-length-2 c = search needs
+same-length-2 c = c .before .before .before .before .solve-opened .kept .1 .1 .1 .0
 
 returns : tie.Need-returns
-returns c = search needs
+returns c = c .before .before .before .before .solve-opened .ensures
 
 returns-2 : tie.Need-returns-2
 returns-2 c =
-    let h : Unfit (c .before .cause .given .0 .0) ≡ opened (c .before .before .before .before .before .before .before .args .file .now) = cc in
-    unfit h _ _ _
+    unfit (sym (c .before .cause .given .1) ∙ c .before .before .before .open-file .ensures) _ _ _
 
 pub solve-spec : {M : Type 1} → statement M
 solve-spec =

@@ -1,14 +1,15 @@
-use mathlib.Core.Path.{_≡_, refl, sym, _∙_}
+use mathlib.Core.Path.{refl, sym, _∙_}
 use native.Mathlib.Omega.{arith}
 use borrow.Author.Needs.{needs}
 use lib.Seq.{length-take-le, length-front}
-use Rattle.solver.proofs.Numbers.{counts}
+use Rattle.solver.proofs.Tables.{counted}
+use Rattle.solver.proofs.Reading.{opens-read}
 use Rattle.solver.proofs.Answers.{few-bytes, few-words, short, ended-spent, ended-solved}
 use Rattle.solver.proofs.solve_opened.Statement.{statement}
 use Rattle.solver.proofs.solve_opened.Tie as tie
 
 returns : tie.Need-returns
-returns c = short (c .before .before .before .before .pre) _ _ _ (few-bytes _ _ _ (omega (arith, c .if1 .taken, counts (c .before .before .before .before .pre) .cells)))
+returns c = short (c .before .before .before .before .pre) _ _ _ (few-bytes _ _ _ (omega (arith, c .if1 .taken, counted (c .before .before .before .before .pre .counts) .cells)))
 
 returns-2 : tie.Need-returns-2
 returns-2 c = short (c .before .before .before .before .before .pre) _ _ _ (few-words _ _ _ (c .if2 .taken))
@@ -20,10 +21,10 @@ slice-aggregate-run : tie.Need-slice-aggregate-run
 slice-aggregate-run c = sym (length-take-le (c .before .before .before .before .before .before .args .sizes .cells) (c .before .before .before .before .before .before .args .work .now) (c .before .before .if1 .left))
 
 run-requires : tie.Need-run-requires
-run-requires c κs = (c .before .before .before .before .before .before .before .before .pre, length-take-le (c .before .before .before .before .before .before .before .before .args .sizes .cells) (c .before .before .before .before .before .before .before .before .args .work .now) (c .before .before .before .before .if1 .left) ∙ counts (c .before .before .before .before .before .before .before .before .pre) .cells, refl)
+run-requires c κs = (c .before .before .before .before .before .before .before .before .pre, length-take-le (c .before .before .before .before .before .before .before .before .args .sizes .cells) (c .before .before .before .before .before .before .before .before .args .work .now) (c .before .before .before .before .if1 .left) ∙ counted (c .before .before .before .before .before .before .before .before .pre .counts) .cells, refl)
 
 same-length : tie.Need-same-length
-same-length c = length-front (c .before .before .before .before .before .before .before .before .before .before .before .before .args .work .now) (c .before .before .before .run .last .1 .1 .0) (c .before .before .before .before .before .before .before .before .before .before .before .before .args .sizes .cells) (c .before .before .before .run .ensures .room ∙ sym (length-take-le (c .before .before .before .before .before .before .before .before .before .before .before .before .args .sizes .cells) (c .before .before .before .before .before .before .before .before .before .before .before .before .args .work .now) (c .before .before .before .before .before .before .before .before .if1 .left) ∙ counts (c .before .before .before .before .before .before .before .before .before .before .before .before .pre) .cells))
+same-length c = length-front (c .before .before .before .before .before .before .before .before .before .before .before .before .args .work .now) (c .before .before .before .run .last .1 .1 .0) (c .before .before .before .before .before .before .before .before .before .before .before .before .args .sizes .cells) (c .before .before .before .run .ensures .room ∙ sym (length-take-le (c .before .before .before .before .before .before .before .before .before .before .before .before .args .sizes .cells) (c .before .before .before .before .before .before .before .before .before .before .before .before .args .work .now) (c .before .before .before .before .before .before .before .before .if1 .left) ∙ counted (c .before .before .before .before .before .before .before .before .before .before .before .before .pre .counts) .cells))
 
 returns-3 : tie.Need-returns-3
 returns-3 c = ended-spent (c .before .before .before .before .before .before .before .before .before .before .before .before .pre) _ _ _ (c .before .before .before .before .before .before .before .before .if1 .left) (c .before .before .before .before .before .before .before .if2 .left) (c .before .before .before .run .ensures) (c .if3 .taken)
@@ -32,13 +33,13 @@ store-requires : tie.Need-store-requires
 store-requires c κs = search needs
 
 test-requires : tie.Need-test-requires
-test-requires c κs = let n = counts (c .before .before .before .before .before .before .before .before .before .before .before .before .before .before .before .before .before .pre) in omega (arith, n .sound .states-high, n .sound .initial, n .initial)
+test-requires c κs = let n = opens-read (c .before .before .before .before .before .before .before .before .before .before .before .before .before .before .before .before .before .pre) .counts in omega arith
 
 count-requires : tie.Need-count-requires
-count-requires c κs = let n = counts (c .before .before .before .before .before .before .before .before .before .before .before .before .before .before .before .before .before .before .before .pre) in omega (arith, n .sound .states-high, n .states)
+count-requires c κs = let n = opens-read (c .before .before .before .before .before .before .before .before .before .before .before .before .before .before .before .before .before .before .before .pre) .counts in omega arith
 
 same-length-2 : tie.Need-same-length-2
-same-length-2 c = length-front (c .before .before .before .before .before .before .before .before .before .before .before .before .before .before .before .before .before .before .before .before .args .work .now) (c .before .before .before .before .before .before .before .before .before .before .before .run .last .1 .1 .0) (c .before .before .before .before .before .before .before .before .before .before .before .before .before .before .before .before .before .before .before .before .args .sizes .cells) (c .before .before .before .before .before .before .before .before .before .before .before .run .ensures .room ∙ sym (length-take-le (c .before .before .before .before .before .before .before .before .before .before .before .before .before .before .before .before .before .before .before .before .args .sizes .cells) (c .before .before .before .before .before .before .before .before .before .before .before .before .before .before .before .before .before .before .before .before .args .work .now) (c .before .before .before .before .before .before .before .before .before .before .before .before .before .before .before .before .if1 .left) ∙ counts (c .before .before .before .before .before .before .before .before .before .before .before .before .before .before .before .before .before .before .before .before .pre) .cells))
+same-length-2 c = length-front (c .before .before .before .before .before .before .before .before .before .before .before .before .before .before .before .before .before .before .before .before .args .work .now) (c .before .before .before .before .before .before .before .before .before .before .before .run .last .1 .1 .0) (c .before .before .before .before .before .before .before .before .before .before .before .before .before .before .before .before .before .before .before .before .args .sizes .cells) (c .before .before .before .before .before .before .before .before .before .before .before .run .ensures .room ∙ sym (length-take-le (c .before .before .before .before .before .before .before .before .before .before .before .before .before .before .before .before .before .before .before .before .args .sizes .cells) (c .before .before .before .before .before .before .before .before .before .before .before .before .before .before .before .before .before .before .before .before .args .work .now) (c .before .before .before .before .before .before .before .before .before .before .before .before .before .before .before .before .if1 .left) ∙ counted (c .before .before .before .before .before .before .before .before .before .before .before .before .before .before .before .before .before .before .before .before .pre .counts) .cells))
 
 same-length-3 : tie.Need-same-length-3
 same-length-3 c = c .before .before .before .before .before .before .store .kept .0

@@ -1,9 +1,8 @@
-use Prim.Native.Nat.{ℕ, _+_, _-_, _<_, _≤_}
-use mathlib.Core.Path.{_≡_, sym, subst, _∙_}
+use Prim.Native.Nat.{ℕ, _+_, _-_, _≤_}
+use mathlib.Core.Path.{_≡_, sym, _∙_}
 use native.Mathlib.Omega.{arith}
-use Rattle.solver.specs.File.{cellCount}
 use Rattle.solver.specs.Working.{Evaluated}
-use Rattle.solver.proofs.Numbers.{counts}
+use Rattle.solver.proofs.Tables.{counted}
 use Rattle.solver.proofs.Shown.{evaluated-none, evaluated-more}
 use Rattle.solver.proofs.cells.evaluate.Statement.{statement}
 use Rattle.solver.proofs.cells.evaluate.Tie as tie
@@ -24,7 +23,7 @@ value-of-requires : tie.Need-value-of-requires Inv-loop μ-loop
 value-of-requires c κs = (record { opens = c .before .before .before .before .before .pre .0 .opens; room = c .before .before .loop .inv .2 .room; bits = c .before .before .loop .inv .2 .bits }, omega arith)
 
 slice-write-work : tie.Need-slice-write-work Inv-loop μ-loop
-slice-write-work c = omega (arith, c .before .before .before .loop .inv .2 .room, counts (c .before .before .before .before .before .before .pre .0 .opens) .cells)
+slice-write-work c = omega (arith, c .before .before .before .loop .inv .2 .room, counted (c .before .before .before .before .before .before .pre .0 .opens .counts) .cells)
 
 loop-less : tie.Need-loop-less Inv-loop μ-loop
 loop-less c = omega arith
@@ -36,7 +35,7 @@ loop-again c =
     let s : i + 1 ≡ c .before .before .before .loop .i = omega arith in (
       omega arith,
       omega arith,
-      evaluated-more (rw (← s) at (c .before .before .before .loop .inv .2)) (omega (arith, counts (c .before .before .before .before .before .before .pre .0 .opens) .cells)) (c .value-of .ensures),
+      evaluated-more (rw (← s) at (c .before .before .before .loop .inv .2)) (omega (arith, counted (c .before .before .before .before .before .before .pre .0 .opens .counts) .cells)) (c .value-of .ensures),
     )
 
 same-length : tie.Need-same-length Inv-loop μ-loop

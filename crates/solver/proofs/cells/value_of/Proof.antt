@@ -1,41 +1,28 @@
-use Prim.Native.Nat.{_<_}
-use native.Mathlib.Omega.{arith}
-use Rattle.solver.specs.File.{cellCount}
-use Rattle.solver.proofs.Numbers.{counts}
+use Rattle.solver.proofs.Reading.{opens-read, cell-inside}
 use Rattle.solver.proofs.Shown.{variable-fits, list-fits, list-valued, variable-valued}
 use Rattle.solver.proofs.cells.value_of.Statement.{statement}
 use Rattle.solver.proofs.cells.value_of.Tie as tie
 
 entry-at-requires : tie.Need-entry-at-requires
 entry-at-requires c κs =
-    let n = counts (c .before .before .pre .0 .opens) in
-    let h : c .before .before .args .i < cellCount (c .before .before .args .file .now) = omega (arith, c .before .before .pre .1, n .cells) in
-    (c .before .before .pre .0 .opens .counts, omega (arith, n .sound .long))
+    (c .before .before .pre .0 .opens .counts, cell-inside (opens-read (c .before .before .pre .0 .opens)) (c .before .before .pre .1))
 
 variable-value-requires : tie.Need-variable-value-requires
 variable-value-requires c κs =
-    let n = counts (c .before .before .before .before .before .pre .0 .opens) in
-    let h : c .before .before .before .before .before .args .i < cellCount (c .before .before .before .before .before .args .file .now) = omega (arith, c .before .before .before .before .before .pre .1, n .cells) in
-    variable-fits (c .before .before .before .before .before .pre .0) h (c .before .before .entry-at .ensures) (c .if1 .taken)
+    variable-fits (c .before .before .before .before .before .pre .0) (c .before .before .before .before .before .pre .1) (c .before .before .entry-at .ensures) (c .if1 .taken)
 
 returns : tie.Need-returns
 returns c =
-    let n = counts (c .before .before .before .before .before .before .pre .0 .opens) in
-    let h : c .before .before .before .before .before .before .args .i < cellCount (c .before .before .before .before .before .before .args .file .now) = omega (arith, c .before .before .before .before .before .before .pre .1, n .cells) in
-    variable-valued (c .before .before .before .before .before .before .pre .0) h (c .before .before .before .entry-at .ensures) (c .before .if1 .taken) (c .variable-value .ensures)
+    variable-valued (c .before .before .before .before .before .before .pre .0) (c .before .before .before .before .before .before .pre .1) (c .before .before .before .entry-at .ensures) (c .before .if1 .taken) (c .variable-value .ensures)
 
 list-value-requires : tie.Need-list-value-requires
 list-value-requires c κs =
-    let n = counts (c .before .before .before .before .before .pre .0 .opens) in
-    let h : c .before .before .before .before .before .args .i < cellCount (c .before .before .before .before .before .args .file .now) = omega (arith, c .before .before .before .before .before .pre .1, n .cells) in
-    let f = list-fits (c .before .before .before .before .before .pre .0) h (c .before .before .entry-at .ensures) (c .if1 .left) in
+    let f = list-fits (c .before .before .before .before .before .pre .0) (c .before .before .before .before .before .pre .1) (c .before .before .entry-at .ensures) (c .if1 .left) in
     (c .before .before .before .before .before .pre .0, f .0, f .1)
 
 returns-2 : tie.Need-returns-2
 returns-2 c =
-    let n = counts (c .before .before .before .before .before .before .pre .0 .opens) in
-    let h : c .before .before .before .before .before .before .args .i < cellCount (c .before .before .before .before .before .before .args .file .now) = omega (arith, c .before .before .before .before .before .before .pre .1, n .cells) in
-    list-valued (c .before .before .before .before .before .before .pre .0) h (c .before .before .before .entry-at .ensures) (c .list-value .ensures)
+    list-valued (c .before .before .before .before .before .before .pre .0) (c .before .before .before .before .before .before .pre .1) (c .before .before .before .entry-at .ensures) (c .list-value .ensures)
 
 pub value-of-spec : {M : Type 1} → statement M
 value-of-spec =

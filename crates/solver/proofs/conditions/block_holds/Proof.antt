@@ -1,6 +1,6 @@
 -- `block_holds` meets its contract.
 use native.Mathlib.Omega.{arith}
-use Rattle.solver.proofs.ConditionLaws.{block-sign-fails, block-cells}
+use Rattle.solver.proofs.BlockRules.{block-sign-fails, block-cells}
 use borrow.Author.Needs.{needs}
 use Rattle.solver.proofs.conditions.block_holds.Statement.{statement}
 use Rattle.solver.proofs.conditions.block_holds.Tie as tie

@@ -4,7 +4,7 @@ use mathlib.Core.Path.{_≡_, refl, sym, _∙_}
 use native.Mathlib.Omega.{arith}
 use borrow.Author.Needs.{needs}
 use borrow.Author.Tests.{not-true, not-false}
-use Rattle.solver.proofs.ConditionLaws.{blocksLeft, blocks-end, block-breaks, block-goes-on}
+use Rattle.solver.proofs.BlockRules.{blocksLeft, blocks-end, block-breaks, block-goes-on}
 use Rattle.solver.proofs.conditions.blocks_hold.Statement.{statement}
 use Rattle.solver.proofs.conditions.blocks_hold.Tie as tie
 

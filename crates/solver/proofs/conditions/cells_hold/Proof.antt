@@ -5,7 +5,8 @@ use native.Mathlib.Omega.{arith}
 use borrow.Author.Needs.{needs}
 use borrow.Author.Tests.{not-true, not-false}
 use Rattle.solver.specs.Checks.{restOk}
-use Rattle.solver.proofs.ConditionLaws.{operands-are, cells-end, cell-breaks, cell-goes-on}
+use Rattle.solver.proofs.Tables.{counted}
+use Rattle.solver.proofs.CellRules.{cells-end, cell-breaks, cell-goes-on}
 use Rattle.solver.proofs.conditions.cells_hold.Statement.{statement}
 use Rattle.solver.proofs.conditions.cells_hold.Tie as tie
 
@@ -25,7 +26,7 @@ returns : tie.Need-returns Inv-loop μ-loop
 returns c = cell-breaks _ _ (c .before .before .before .before .before .before .before .pre) _ _ (c .before .before .before .before .before .loop .inv .2) _ (c .before .before .entry-span .ensures) (not-true _ (c .if2 .taken))
 
 add-used : tie.Need-add-used Inv-loop μ-loop
-add-used c = omega (arith, operands-are (c .before .before .before .before .before .before .before .before .pre), c .before .before .before .entry-span .ensures .fits)
+add-used c = omega (arith, counted (c .before .before .before .before .before .before .before .before .pre .sizes-are) .operands, c .before .before .before .entry-span .ensures .fits)
 
 add-i : tie.Need-add-i Inv-loop μ-loop
 add-i c = omega arith
@@ -36,7 +37,7 @@ loop-less c = omega arith
 loop-again : tie.Need-loop-again Inv-loop μ-loop
 loop-again c = (
   omega arith,
-  omega (arith, operands-are (c .before .before .before .before .before .before .before .before .pre), c .before .before .before .entry-span .ensures .fits),
+  omega (arith, counted (c .before .before .before .before .before .before .before .before .pre .sizes-are) .operands, c .before .before .before .entry-span .ensures .fits),
   cell-goes-on _ _ (c .before .before .before .before .before .before .before .before .pre) _ _ (c .before .before .before .before .before .before .loop .inv .2) _ (c .before .before .before .entry-span .ensures) (c .before .before .before .before .if1 .taken) (not-false _ (c .before .if2 .left)),
 )
 

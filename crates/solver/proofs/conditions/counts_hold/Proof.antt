@@ -2,21 +2,21 @@
 use mathlib.Core.Logic.{⊎-elim}
 use native.Mathlib.Omega.{arith}
 use borrow.Author.Tests.{ltb-true, ltb-false}
-use Rattle.solver.proofs.ConditionLaws.{decided-no}
+use Rattle.sets.proofs.Words.{decides-no}
 use Rattle.solver.proofs.conditions.counts_hold.Statement.{statement}
 use Rattle.solver.proofs.conditions.counts_hold.Tie as tie
 
 returns : tie.Need-returns
-returns c = decided-no (λ p. ⊎-elim (λ w. omega arith) (λ w. omega (arith, ltb-true)) (c .if1 .came))
+returns c = decides-no (λ p. ⊎-elim (λ w. omega arith) (λ w. omega (arith, ltb-true)) (c .if1 .came))
 
 returns-2 : tie.Need-returns-2
-returns-2 c = decided-no (λ p. ⊎-elim (λ w. omega arith) (λ w. omega (arith, ltb-true)) (c .if3 .came))
+returns-2 c = decides-no (λ p. ⊎-elim (λ w. omega arith) (λ w. omega (arith, ltb-true)) (c .if3 .came))
 
 returns-3 : tie.Need-returns-3
-returns-3 c = decided-no (λ p. ⊎-elim (λ w. omega arith) (λ w. omega (arith, ltb-true)) (c .if5 .came))
+returns-3 c = decides-no (λ p. ⊎-elim (λ w. omega arith) (λ w. omega (arith, ltb-true)) (c .if5 .came))
 
 returns-4 : tie.Need-returns-4
-returns-4 c = decided-no (λ p. omega arith)
+returns-4 c = decides-no (λ p. omega arith)
 
 returns-5 : tie.Need-returns-5
 returns-5 c = record {

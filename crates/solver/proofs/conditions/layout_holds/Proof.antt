@@ -1,6 +1,7 @@
 -- `layout_holds` meets its contract.
 use native.Mathlib.Omega.{arith}
-use Rattle.solver.proofs.ConditionLaws.{decided-no, layout-decided}
+use Rattle.sets.proofs.Words.{decides-no}
+use Rattle.solver.proofs.Reading.{layout-decided}
 use borrow.Author.Needs.{needs}
 use Rattle.solver.proofs.conditions.layout_holds.Statement.{statement}
 use Rattle.solver.proofs.conditions.layout_holds.Tie as tie
@@ -20,7 +21,7 @@ returns c =
 
 returns-2 : tie.Need-returns-2
 returns-2 c =
-    layout-decided _ _ (c .before .before .before .pre .1) _ (decided-no (λ p. c .before .counts-hold .ensures .no-if (c .if1 .left) (p .counts)))
+    layout-decided _ _ (c .before .before .before .pre .1) _ (decides-no (λ p. c .before .counts-hold .ensures .no-if (c .if1 .left) (p .counts)))
 
 pub layout-holds-spec : {M : Type 1} → statement M
 layout-holds-spec =

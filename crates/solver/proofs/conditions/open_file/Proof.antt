@@ -1,7 +1,7 @@
 -- `open_file` meets its contract.
 use mathlib.Core.Path.{sym, _∙_}
 use borrow.Author.Tests.{not-true, not-false}
-use Rattle.solver.proofs.ConditionLaws.{layout-short, layout-read, opened-layout, opened-table, opened-file}
+use Rattle.solver.proofs.Reading.{layout-short, layout-read, opened-layout, opened-table, opened-file}
 use borrow.Author.Needs.{needs}
 use Rattle.solver.proofs.conditions.open_file.Statement.{statement}
 use Rattle.solver.proofs.conditions.open_file.Tie as tie

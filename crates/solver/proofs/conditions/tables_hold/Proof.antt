@@ -1,5 +1,5 @@
 -- `tables_hold` meets its contract.
-use Rattle.solver.proofs.ConditionLaws.{tables-broken, tables-cells}
+use Rattle.solver.proofs.BlockRules.{tables-broken, tables-cells}
 use borrow.Author.Needs.{needs}
 use Rattle.solver.proofs.conditions.tables_hold.Statement.{statement}
 use Rattle.solver.proofs.conditions.tables_hold.Tie as tie

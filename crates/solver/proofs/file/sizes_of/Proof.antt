@@ -1,5 +1,6 @@
 -- `sizes_of` meets its contract: each field is the number at its place.
 use borrow.Author.Needs.{needs}
+use Rattle.solver.proofs.Tables.{sizes-read}
 use Rattle.solver.proofs.file.sizes_of.Statement.{statement}
 use Rattle.solver.proofs.file.sizes_of.Tie as tie
 
@@ -19,7 +20,7 @@ number-at-requires-5 : tie.Need-number-at-requires-5
 number-at-requires-5 c κs = search needs
 
 returns : tie.Need-returns
-returns c = cc
+returns c = sizes-read _ (c .before .before .before .before .number-at .ensures .0) (c .before .before .before .number-at2 .ensures .0) (c .before .before .number-at3 .ensures .0) (c .before .number-at4 .ensures .0) (c .number-at5 .ensures .0)
 
 pub sizes-of-spec : {M : Type 1} → statement M
 sizes-of-spec =

@@ -1,11 +1,12 @@
-use Prim.Native.Nat.{ℕ, _+_, _-_, _*_, _<_, _≤_}
-use mathlib.Core.Path.{_≡_, refl, sym, _∙_}
+use Prim.Native.Nat.{ℕ, _+_, _-_, _*_, _<_}
+use mathlib.Core.Path.{_≡_, sym, _∙_}
 use native.Mathlib.Omega.{arith}
-use lib.ListN.{length, length-set}
+use lib.ListN.{length}
 use Rattle.solver.specs.Limits.{blockLimit}
 use Rattle.solver.specs.Working.{Ready}
-use Rattle.solver.proofs.Numbers.{counts}
-use Rattle.solver.proofs.Turns.{inner-spent, none-left, settled, moved, Going, unchanged, begins, left-loop, goes-on}
+use Rattle.solver.proofs.Tables.{counted}
+use Rattle.solver.proofs.Reading.{few-blocks, own-block, row-fits}
+use Rattle.solver.proofs.Turns.{inner-spent, none-left, settled, moved, Going, unchanged, begins, left-loop, goes-on, fewer}
 use borrow.Fn.Kinds.{In}
 use borrow.Fn.PlainCycle.{Measures, is, falls, and}
 use Rattle.solver.proofs.rounds.round.Reads as round
@@ -47,7 +48,7 @@ abbrev solve-from-calls : ℕ → solve-from-lts.Claims
 solve-from-calls t = (start-of-reads.Asked, start-of-reads.Learnt, round-below t, round.Post)
 
 round-add-solve-from : (t : ℕ) → round-lts.Need-add-solve-from (round-calls t) (round-at t) round.Post
-round-add-solve-from t c = let n = counts (c .before .before .pre .1 .0 .opens) in omega (arith, c .before .before .pre .1 .1, n .blocks, n .sound .blocks-high)
+round-add-solve-from t c = omega (arith, few-blocks (c .before .before .pre .1 .0 .opens) (c .before .before .pre .1 .1))
 
 round-solve-from-requires : (t : ℕ) → round-lts.Need-solve-from-requires (round-calls t) (round-at t) round.Post
 round-solve-from-requires t c κs = (omega arith, (c .before .before .before .before .before .pre .1 .0, omega arith, c .before .before .before .before .before .pre .1 .2))
@@ -71,10 +72,10 @@ round-right-sides-requires : (t : ℕ) → round-lts.Need-right-sides-requires (
 round-right-sides-requires t c κs = (record { opens = c .before .before .before .before .before .before .before .before .before .before .before .before .before .pre .1 .0 .opens; room = c .before .before .before .before .before .before .before .solve-from .ensures .room; bits = c .before .before .before .before .before .before .before .solve-from .ensures .bits }, c .before .before .before .before .before .before .before .before .before .before .before .before .before .pre .1 .1)
 
 round-mul-held : (t : ℕ) → round-lts.Need-mul-held (round-calls t) (round-at t) round.Post
-round-mul-held t c = let n = counts (c .before .before .before .before .before .before .before .before .before .before .before .before .before .before .before .before .pre .1 .0 .opens) in omega (arith, c .before .before .before .before .before .before .before .before .before .before .before .before .before .before .before .before .pre .1 .1, n .blocks, n .sound .blocks-high)
+round-mul-held t c = row-fits (few-blocks (c .before .before .before .before .before .before .before .before .before .before .before .before .before .before .before .before .pre .1 .0 .opens) (c .before .before .before .before .before .before .before .before .before .before .before .before .before .before .before .before .pre .1 .1))
 
 round-array-copy-out-held : (t : ℕ) → round-lts.Need-array-copy-out-held (round-calls t) (round-at t) round.Post
-round-array-copy-out-held t c = let n = counts (c .before .before .before .before .before .before .before .before .before .before .before .before .before .before .before .before .pre .1 .0 .opens) in omega (arith, c .before .before .before .before .before .before .before .before .before .before .before .before .before .before .before .before .pre .1 .1, n .blocks, n .sound .blocks-high)
+round-array-copy-out-held t c = few-blocks (c .before .before .before .before .before .before .before .before .before .before .before .before .before .before .before .before .pre .1 .0 .opens) (c .before .before .before .before .before .before .before .before .before .before .before .before .before .before .before .before .pre .1 .1)
 
 round-equal-requires : (t : ℕ) → round-lts.Need-equal-requires (round-calls t) (round-at t) round.Post
 round-equal-requires t c κs = tt
@@ -83,19 +84,19 @@ round-same-length-3 : (t : ℕ) → round-lts.Need-same-length-3 (round-calls t)
 round-same-length-3 t c = c .before .before .before .before .before .before .before .right-sides .ensures .room ∙ sym (c .before .before .before .before .before .before .before .before .before .before .before .before .before .before .before .before .before .before .before .before .before .pre .1 .0 .room)
 
 round-returns-3 : (t : ℕ) → round-lts.Need-returns-3 (round-calls t) (round-at t) round.Post
-round-returns-3 t c = let n = counts (c .before .before .before .before .before .before .before .before .before .before .before .before .before .before .before .before .before .before .before .before .before .pre .1 .0 .opens) in settled (c .before .before .before .before .before .before .before .before .before .before .before .before .before .before .before .solve-from .ensures) (c .before .before .before .before .before .before .before .before .before .before .before .if1 .left) (c .before .before .before .before .before .before .before .before .before .if2 .left) (c .before .before .before .before .before .before .before .before .before .before .before .before .before .before .before .before .before .before .before .before .before .pre .1 .0 .opens .formed) (omega (arith, c .before .before .before .before .before .before .before .before .before .before .before .before .before .before .before .before .before .before .before .before .before .pre .1 .1, n .blocks)) (omega (arith, c .before .before .before .before .before .before .before .before .before .before .before .before .before .before .before .before .before .before .before .before .before .pre .1 .1, n .blocks, n .sound .blocks-high)) (c .before .before .before .before .before .before .before .right-sides .ensures) (c .before .equal .ensures .yes-if (c .if3 .taken))
+round-returns-3 t c = settled (c .before .before .before .before .before .before .before .before .before .before .before .before .before .before .before .solve-from .ensures) (c .before .before .before .before .before .before .before .before .before .before .before .if1 .left) (c .before .before .before .before .before .before .before .before .before .if2 .left) (c .before .before .before .before .before .before .before .before .before .before .before .before .before .before .before .before .before .before .before .before .before .pre .1 .0 .opens .formed) (own-block (c .before .before .before .before .before .before .before .before .before .before .before .before .before .before .before .before .before .before .before .before .before .pre .1 .0 .opens) (c .before .before .before .before .before .before .before .before .before .before .before .before .before .before .before .before .before .before .before .before .before .pre .1 .1)) (few-blocks (c .before .before .before .before .before .before .before .before .before .before .before .before .before .before .before .before .before .before .before .before .before .pre .1 .0 .opens) (c .before .before .before .before .before .before .before .before .before .before .before .before .before .before .before .before .before .before .before .before .before .pre .1 .1)) (c .before .before .before .before .before .before .before .right-sides .ensures) (c .before .equal .ensures .yes-if (c .if3 .taken))
 
 round-mul-s : (t : ℕ) → round-lts.Need-mul-s (round-calls t) (round-at t) round.Post
-round-mul-s t c = let n = counts (c .before .before .before .before .before .before .before .before .before .before .before .before .before .before .before .before .before .before .before .before .before .pre .1 .0 .opens) in omega (arith, c .before .before .before .before .before .before .before .before .before .before .before .before .before .before .before .before .before .before .before .before .before .pre .1 .1, n .blocks, n .sound .blocks-high)
+round-mul-s t c = row-fits (few-blocks (c .before .before .before .before .before .before .before .before .before .before .before .before .before .before .before .before .before .before .before .before .before .pre .1 .0 .opens) (c .before .before .before .before .before .before .before .before .before .before .before .before .before .before .before .before .before .before .before .before .before .pre .1 .1))
 
 round-array-set-from-s : (t : ℕ) → round-lts.Need-array-set-from-s (round-calls t) (round-at t) round.Post
-round-array-set-from-s t c = let n = counts (c .before .before .before .before .before .before .before .before .before .before .before .before .before .before .before .before .before .before .before .before .before .pre .1 .0 .opens) in omega (arith, c .before .before .before .before .before .before .before .before .before .before .before .before .before .before .before .before .before .before .before .before .before .pre .1 .1, n .blocks, n .sound .blocks-high)
+round-array-set-from-s t c = few-blocks (c .before .before .before .before .before .before .before .before .before .before .before .before .before .before .before .before .before .before .before .before .before .pre .1 .0 .opens) (c .before .before .before .before .before .before .before .before .before .before .before .before .before .before .before .before .before .before .before .before .before .pre .1 .1)
 
 round-same-length-4 : (t : ℕ) → round-lts.Need-same-length-4 (round-calls t) (round-at t) round.Post
 round-same-length-4 t c = c .before .before .before .before .before .before .before .right-sides .ensures .room ∙ sym (c .before .before .before .before .before .before .before .before .before .before .before .before .before .before .before .before .before .before .before .before .before .pre .1 .0 .room)
 
 round-returns-4 : (t : ℕ) → round-lts.Need-returns-4 (round-calls t) (round-at t) round.Post
-round-returns-4 t c = let n = counts (c .before .before .before .before .before .before .before .before .before .before .before .before .before .before .before .before .before .before .before .before .before .pre .1 .0 .opens) in moved (c .before .before .before .before .before .before .before .before .before .before .before .before .before .before .before .solve-from .ensures) (c .before .before .before .before .before .before .before .before .before .before .before .if1 .left) (c .before .before .before .before .before .before .before .before .before .if2 .left) (c .before .before .before .before .before .before .before .before .before .before .before .before .before .before .before .before .before .before .before .before .before .pre .1 .0 .opens .formed) (omega (arith, c .before .before .before .before .before .before .before .before .before .before .before .before .before .before .before .before .before .before .before .before .before .pre .1 .1, n .blocks)) (omega (arith, c .before .before .before .before .before .before .before .before .before .before .before .before .before .before .before .before .before .before .before .before .before .pre .1 .1, n .blocks, n .sound .blocks-high)) (c .before .before .before .before .before .before .before .right-sides .ensures) (omega (arith, c .before .before .before .before .before .before .before .before .before .before .before .before .before .before .before .before .before .before .before .before .before .pre .1 .1, n .blocks, n .sound .blocks-high)) (c .before .equal .ensures .no-if (c .if3 .left))
+round-returns-4 t c = moved (c .before .before .before .before .before .before .before .before .before .before .before .before .before .before .before .solve-from .ensures) (c .before .before .before .before .before .before .before .before .before .before .before .if1 .left) (c .before .before .before .before .before .before .before .before .before .if2 .left) (c .before .before .before .before .before .before .before .before .before .before .before .before .before .before .before .before .before .before .before .before .before .pre .1 .0 .opens .formed) (own-block (c .before .before .before .before .before .before .before .before .before .before .before .before .before .before .before .before .before .before .before .before .before .pre .1 .0 .opens) (c .before .before .before .before .before .before .before .before .before .before .before .before .before .before .before .before .before .before .before .before .before .pre .1 .1)) (few-blocks (c .before .before .before .before .before .before .before .before .before .before .before .before .before .before .before .before .before .before .before .before .before .pre .1 .0 .opens) (c .before .before .before .before .before .before .before .before .before .before .before .before .before .before .before .before .before .before .before .before .before .pre .1 .1)) (c .before .before .before .before .before .before .before .right-sides .ensures) (omega (arith, few-blocks (c .before .before .before .before .before .before .before .before .before .before .before .before .before .before .before .before .before .before .before .before .before .pre .1 .0 .opens) (c .before .before .before .before .before .before .before .before .before .before .before .before .before .before .before .before .before .before .before .before .before .pre .1 .1))) (c .before .equal .ensures .no-if (c .if3 .left))
 
 abbrev solve-from-Inv-loop : solve-from-lts.InvT-loop
 solve-from-Inv-loop file sizes sets k limit work₀ rounds₀ status₀ held₀ work rounds status held = (k < sizes .blocks) × (length sets ≡ blockLimit) × Ready file sizes work × Going file sets k rounds₀ limit held rounds
@@ -104,7 +105,7 @@ abbrev solve-from-μ-loop : solve-from-lts.MeasureT-loop
 solve-from-μ-loop file sizes sets k limit work₀ rounds₀ status₀ held₀ work rounds status held = limit - rounds
 
 solve-from-returns : (t : ℕ) → solve-from-lts.Need-returns (solve-from-calls t) (solve-from-at t) solve-from.Post solve-from-Inv-loop solve-from-μ-loop
-solve-from-returns t c = let n = counts (c .before .before .before .before .pre .1 .0 .opens) in unchanged (omega (arith, c .if1 .taken, n .blocks)) (c .before .before .before .before .pre .1 .2) (c .before .before .before .before .pre .1 .0 .room) (c .before .before .before .before .pre .1 .0 .bits)
+solve-from-returns t c = unchanged (omega (arith, c .if1 .taken, counted (c .before .before .before .before .pre .1 .0 .opens .counts) .blocks)) (c .before .before .before .before .pre .1 .2) (c .before .before .before .before .pre .1 .0 .room) (c .before .before .before .before .pre .1 .0 .bits)
 
 solve-from-start-of-requires : (t : ℕ) → solve-from-lts.Need-start-of-requires (solve-from-calls t) (solve-from-at t) solve-from.Post solve-from-Inv-loop solve-from-μ-loop
 solve-from-start-of-requires t c κs = (c .before .before .before .before .pre .1 .0 .opens, c .if1 .left)
@@ -113,10 +114,10 @@ solve-from-loop-holds : (t : ℕ) → solve-from-lts.Need-loop-holds (solve-from
 solve-from-loop-holds t c = (c .before .if1 .left, omega arith, c .before .before .before .before .before .pre .1 .0, begins (c .before .before .before .before .before .pre .1 .2) (c .start-of .ensures))
 
 solve-from-mul-s : (t : ℕ) → solve-from-lts.Need-mul-s (solve-from-calls t) (solve-from-at t) solve-from.Post solve-from-Inv-loop solve-from-μ-loop
-solve-from-mul-s t c = let n = counts (c .loop .inv .2 .opens) in omega (arith, c .loop .inv .0, n .blocks, n .sound .blocks-high)
+solve-from-mul-s t c = row-fits (few-blocks (c .loop .inv .2 .opens) (c .loop .inv .0))
 
 solve-from-array-set-from-s : (t : ℕ) → solve-from-lts.Need-array-set-from-s (solve-from-calls t) (solve-from-at t) solve-from.Post solve-from-Inv-loop solve-from-μ-loop
-solve-from-array-set-from-s t c = let n = counts (c .loop .inv .2 .opens) in omega (arith, c .loop .inv .0, n .blocks, n .sound .blocks-high)
+solve-from-array-set-from-s t c = few-blocks (c .loop .inv .2 .opens) (c .loop .inv .0)
 
 solve-from-round-requires : (t : ℕ) → solve-from-lts.Need-round-requires (solve-from-calls t) (solve-from-at t) solve-from.Post solve-from-Inv-loop solve-from-μ-loop
 solve-from-round-requires t c κs = (omega arith, (c .before .before .before .loop .inv .2, c .before .before .before .loop .inv .0, c .before .before .before .loop .inv .3 .high))
@@ -125,19 +126,19 @@ solve-from-same-length : (t : ℕ) → solve-from-lts.Need-same-length (solve-fr
 solve-from-same-length t c = c .before .before .before .before .round .ensures .room ∙ sym (c .before .before .before .before .before .before .before .before .before .before .before .before .before .before .pre .1 .0 .room)
 
 solve-from-returns-2 : (t : ℕ) → solve-from-lts.Need-returns-2 (solve-from-calls t) (solve-from-at t) solve-from.Post solve-from-Inv-loop solve-from-μ-loop
-solve-from-returns-2 t c = let n = counts (c .before .before .before .before .before .before .before .before .loop .inv .2 .opens) in left-loop (c .before .before .before .before .before .before .before .before .loop .inv .2 .opens .formed) (omega (arith, c .before .before .before .before .before .before .before .before .loop .inv .0, n .blocks)) (omega (arith, c .before .before .before .before .before .before .before .before .loop .inv .0, c .before .before .before .before .before .before .before .before .loop .inv .1, n .blocks, n .sound .blocks-high)) (c .before .before .before .before .before .before .before .before .loop .inv .3) (c .before .before .before .before .round .ensures) (c .if2 .taken)
+solve-from-returns-2 t c = left-loop (c .before .before .before .before .before .before .before .before .loop .inv .2 .opens .formed) (own-block (c .before .before .before .before .before .before .before .before .loop .inv .2 .opens) (c .before .before .before .before .before .before .before .before .loop .inv .0)) (rw (c .before .before .before .before .before .before .before .before .loop .inv .1) (few-blocks (c .before .before .before .before .before .before .before .before .loop .inv .2 .opens) (c .before .before .before .before .before .before .before .before .loop .inv .0))) (c .before .before .before .before .before .before .before .before .loop .inv .3) (c .before .before .before .before .round .ensures) (c .if2 .taken)
 
 solve-from-mul-held : (t : ℕ) → solve-from-lts.Need-mul-held (solve-from-calls t) (solve-from-at t) solve-from.Post solve-from-Inv-loop solve-from-μ-loop
-solve-from-mul-held t c = let n = counts (c .before .before .before .before .before .before .before .before .loop .inv .2 .opens) in omega (arith, c .before .before .before .before .before .before .before .before .loop .inv .0, n .blocks, n .sound .blocks-high)
+solve-from-mul-held t c = row-fits (few-blocks (c .before .before .before .before .before .before .before .before .loop .inv .2 .opens) (c .before .before .before .before .before .before .before .before .loop .inv .0))
 
 solve-from-array-copy-out-held : (t : ℕ) → solve-from-lts.Need-array-copy-out-held (solve-from-calls t) (solve-from-at t) solve-from.Post solve-from-Inv-loop solve-from-μ-loop
-solve-from-array-copy-out-held t c = let n = counts (c .before .before .before .before .before .before .before .before .loop .inv .2 .opens) in omega (arith, c .before .before .before .before .before .before .before .before .loop .inv .0, n .blocks, n .sound .blocks-high)
+solve-from-array-copy-out-held t c = few-blocks (c .before .before .before .before .before .before .before .before .loop .inv .2 .opens) (c .before .before .before .before .before .before .before .before .loop .inv .0)
 
 solve-from-loop-less : (t : ℕ) → solve-from-lts.Need-loop-less (solve-from-calls t) (solve-from-at t) solve-from.Post solve-from-Inv-loop solve-from-μ-loop
-solve-from-loop-less t c = omega (arith, c .before .before .before .before .before .round .ensures .low (λ z. omega arith), c .before .before .before .before .before .round .ensures .high (λ z. omega arith))
+solve-from-loop-less t c = fewer (c .before .before .before .before .before .before .before .before .before .loop .inv .2 .opens .formed) (own-block (c .before .before .before .before .before .before .before .before .before .loop .inv .2 .opens) (c .before .before .before .before .before .before .before .before .before .loop .inv .0)) (rw (c .before .before .before .before .before .before .before .before .before .loop .inv .1) (few-blocks (c .before .before .before .before .before .before .before .before .before .loop .inv .2 .opens) (c .before .before .before .before .before .before .before .before .before .loop .inv .0))) (c .before .before .before .before .before .before .before .before .before .loop .inv .3) (c .before .before .before .before .before .round .ensures) (c .before .if2 .left)
 
 solve-from-loop-again : (t : ℕ) → solve-from-lts.Need-loop-again (solve-from-calls t) (solve-from-at t) solve-from.Post solve-from-Inv-loop solve-from-μ-loop
-solve-from-loop-again t c = (c .before .before .before .before .before .before .before .before .before .loop .inv .0, c .before .before .before .before .before .before .before .before .before .loop .inv .1, record { opens = c .before .before .before .before .before .before .before .before .before .loop .inv .2 .opens; room = c .before .before .before .before .before .round .ensures .room; bits = c .before .before .before .before .before .round .ensures .bits }, let n = counts (c .before .before .before .before .before .before .before .before .before .loop .inv .2 .opens) in goes-on (c .before .before .before .before .before .before .before .before .before .loop .inv .2 .opens .formed) (omega (arith, c .before .before .before .before .before .before .before .before .before .loop .inv .0, n .blocks)) (omega (arith, c .before .before .before .before .before .before .before .before .before .loop .inv .0, c .before .before .before .before .before .before .before .before .before .loop .inv .1, n .blocks, n .sound .blocks-high)) (c .before .before .before .before .before .before .before .before .before .loop .inv .3) (c .before .before .before .before .before .round .ensures) (λ z. omega arith) (λ z. omega arith))
+solve-from-loop-again t c = (c .before .before .before .before .before .before .before .before .before .loop .inv .0, c .before .before .before .before .before .before .before .before .before .loop .inv .1, record { opens = c .before .before .before .before .before .before .before .before .before .loop .inv .2 .opens; room = c .before .before .before .before .before .round .ensures .room; bits = c .before .before .before .before .before .round .ensures .bits }, goes-on (c .before .before .before .before .before .before .before .before .before .loop .inv .2 .opens .formed) (own-block (c .before .before .before .before .before .before .before .before .before .loop .inv .2 .opens) (c .before .before .before .before .before .before .before .before .before .loop .inv .0)) (rw (c .before .before .before .before .before .before .before .before .before .loop .inv .1) (few-blocks (c .before .before .before .before .before .before .before .before .before .loop .inv .2 .opens) (c .before .before .before .before .before .before .before .before .before .loop .inv .0))) (c .before .before .before .before .before .before .before .before .before .loop .inv .3) (c .before .before .before .before .before .round .ensures) (c .before .if2 .left))
 
 pub +round+solve-from-spec : {M : Type 1} → statement M
 +round+solve-from-spec = close μ-round μ-solve-from (λ t. round-lts.spec

@@ -1,0 +1,107 @@
+-- The counts and tables of any file: how long each table is, and each element by the place where it stands.
+use mathlib.Core.Path.{_≡_, ap, _∙_}
+use mathlib.Core.Bool.{Bool}
+use mathlib.Core.List.{List, [], _∷_}
+use Prim.Native.Nat.{ℕ, _+_, _*_, _≤_, _<_}
+use native.Mathlib.Omega.{arith}
+use lib.ListN.{length, getD, drop, length-map, length-take, length-drop}
+use lib.Seq.{getD-take, getD-drop}
+use Rattle.sets.proofs.Lists.{getD-map, length-table, table-at, drop-next}
+use Rattle.solver.specs.Cells.{And}
+use Rattle.solver.specs.File.{u32, stateCount, blockCount, cellCount, operandCount, initialState, sizesOf, cellsAt, operandsAt}
+use Rattle.solver.specs.File.{Block, blockAt, blocks, operands, Entry, entryAt, entries, listOf, cellOf, cells}
+use Rattle.solver.specs.Conditions.{operandOk, entryOk, entriesOk}
+use Rattle.solver.specs.declared.Sizes.{Sizes}
+
+-- the counts that the code holds are the file's
+pub record Counted (e : List ℕ) (s : Sizes) : Type 0 where
+  pub states : s .states ≡ stateCount e
+  pub blocks : s .blocks ≡ blockCount e
+  pub cells : s .cells ≡ cellCount e
+  pub operands : s .operands ≡ operandCount e
+  pub initial : s .initial ≡ initialState e
+
+pub counted : {e : List ℕ} {s : Sizes} → s ≡ sizesOf e → Counted e s
+counted are = record {
+  states = ap (λ (x : Sizes). x .states) are;
+  blocks = ap (λ (x : Sizes). x .blocks) are;
+  cells = ap (λ (x : Sizes). x .cells) are;
+  operands = ap (λ (x : Sizes). x .operands) are;
+  initial = ap (λ (x : Sizes). x .initial) are;
+}
+
+-- what is read number by number is read whole: the counts, and a cell
+pub sizes-read : (e : List ℕ) {n d c p i : ℕ} → n ≡ stateCount e → d ≡ blockCount e → c ≡ cellCount e → p ≡ operandCount e → i ≡ initialState e
+    → _≡_ {A = Sizes} (record { states = n; blocks = d; cells = c; operands = p; initial = i }) (sizesOf e)
+sizes-read e states blocks cells operands initial = cc
+
+pub entry-read : (e : List ℕ) (i at : ℕ) {k x y : ℕ} → at ≡ cellsAt e + 12 * i → k ≡ u32 e at → x ≡ u32 e (at + 4) → y ≡ u32 e (at + 8)
+    → _≡_ {A = Entry} (record { kind = k; one = x; two = y }) (entryAt e i)
+entry-read e i at place kind one two = cc
+
+-- operand j of the operand table
+abbrev pub operandAt : List ℕ → ℕ → ℕ
+operandAt e j = u32 e (operandsAt e + 4 * j)
+
+module _ (e : List ℕ) where
+  pub length-blocks : length (blocks e) ≡ blockCount e
+  unfolding blocks
+  length-blocks = length-table (blockAt e) (blockCount e)
+
+  pub length-operands : length (operands e) ≡ operandCount e
+  unfolding operands
+  length-operands = length-table (operandAt e) (operandCount e)
+
+  pub length-entries : length (entries e) ≡ cellCount e
+  unfolding entries
+  length-entries = length-table (entryAt e) (cellCount e)
+
+  pub length-cells : length (cells e) ≡ cellCount e
+  unfolding cells
+  length-cells = length-map (entries e) _ ∙ length-entries
+
+  pub block-at : (k : ℕ) (b : Block) → k < blockCount e → getD (blocks e) k b ≡ blockAt e k
+  unfolding blocks
+  block-at k b h = table-at (blockAt e) (blockCount e) k b h
+
+  pub operand-at : (j : ℕ) → j < operandCount e → getD (operands e) j 0 ≡ operandAt e j
+  unfolding operands
+  operand-at j h = table-at (operandAt e) (operandCount e) j 0 h
+
+  pub entry-at : (i : ℕ) (x : Entry) → i < cellCount e → getD (entries e) i x ≡ entryAt e i
+  unfolding entries
+  entry-at i x h = table-at (entryAt e) (cellCount e) i x h
+
+  -- a cell is made of its three numbers and the operand table
+  pub cell-at : (i : ℕ) → i < cellCount e →
+      getD (cells e) i (And []) ≡ cellOf (operands e) (entryAt e i .kind) (entryAt e i .one) (entryAt e i .two)
+  unfolding cells
+  cell-at i h =
+      getD-map _ (entries e) i (entryAt e i) (And []) (omega (arith, length-entries))
+      ∙ ap (λ (x : Entry). cellOf (operands e) (x .kind) (x .one) (x .two)) (entry-at i (entryAt e i) h)
+
+  -- the cells from cell i on
+  pub entries-from : (i : ℕ) → i < cellCount e → drop i (entries e) ≡ entryAt e i ∷ drop (i + 1) (entries e)
+  entries-from i h = drop-next (entries e) i (entryAt e i) (entryAt e i) (omega (arith, length-entries)) (entry-at i (entryAt e i) h)
+
+  -- a list of operands: its length and its elements
+  module _ (from count : ℕ) (fits : from + count ≤ operandCount e) where
+    pub length-list : length (listOf (operands e) from count) ≡ count
+    length-list = simp (length-take, length-drop, length-operands) (omega arith)
+
+    pub list-at : (j : ℕ) → j < count → getD (listOf (operands e) from count) j 0 ≡ operandAt e (from + j)
+    list-at j h =
+        getD-take count (drop from (operands e)) j 0 h
+        ∙ getD-drop from (operands e) j 0
+        ∙ operand-at (from + j) (omega arith)
+
+-- the tests of condition 12, of an operand, of a cell and of the cells from cell i on
+module _ (e : List ℕ) (i : ℕ) where
+  abbrev pub operandTest : ℕ → Bool
+  operandTest = operandOk (stateCount e) (blockCount e) (cellCount e) (operandCount e) (operands e) i
+
+  abbrev pub cellTest : ℕ → ℕ → ℕ → ℕ → Bool
+  cellTest = entryOk (stateCount e) (blockCount e) (cellCount e) (operandCount e) (operands e) i
+
+  abbrev pub cellsTest : ℕ → List Entry → Bool
+  cellsTest = entriesOk (stateCount e) (blockCount e) (cellCount e) (operandCount e) (operands e) i

@@ -33,12 +33,19 @@ getD-map f [] i a b h = absurd (omega arith)
 getD-map f (x ∷ xs) zero a b h = refl
 getD-map f (x ∷ xs) (suc i) a b h = getD-map f xs i a b (omega arith)
 
--- the table of f at the first k numbers: its length and its elements
+-- f of a range of numbers: how many, and each
+pub length-map-range : {B : Type 0} (f : ℕ → B) (i k : ℕ) → length (map f (range i k)) ≡ k
+length-map-range f i k = length-map (range i k) f ∙ length-range i k
+
+pub getD-map-range : {B : Type 0} (f : ℕ → B) (i k j : ℕ) (b : B) → j < k → getD (map f (range i k)) j b ≡ f (i + j)
+getD-map-range f i k j b h = getD-map f (range i k) j 0 b (omega (arith, length-range i k)) ∙ ap f (getD-range i k j 0 h)
+
+-- the table of f at the first k numbers
 pub length-table : {B : Type 0} (f : ℕ → B) (k : ℕ) → length (map f (range 0 k)) ≡ k
-length-table f k = length-map (range 0 k) f ∙ length-range 0 k
+length-table f k = length-map-range f 0 k
 
 pub table-at : {B : Type 0} (f : ℕ → B) (k i : ℕ) (b : B) → i < k → getD (map f (range 0 k)) i b ≡ f i
-table-at f k i b h = getD-map f (range 0 k) i 0 b (omega (arith, length-range 0 k)) ∙ ap f (range-at k i 0 h)
+table-at f k i b h = getD-map-range f 0 k i b h ∙ ap f (zero-add i)
 
 -- the truth values differ
 pub false-true : ¬ (false ≡ true)

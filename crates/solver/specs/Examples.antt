@@ -78,12 +78,12 @@ unfolding file
 overlapping initial = file 2 2 3 0 initial (1 ∷ 1 ∷ 0 ∷ 0 ∷ 2 ∷ 1 ∷ 1 ∷ 2 ∷ 0 ∷ 0 ∷ 1 ∷ 0 ∷ 0 ∷ [])
 
 -- the largest number of 32 bits
-largest : ℕ
-largest = 4_294_967_295
+most32 : ℕ
+most32 = 4_294_967_295
 
 -- Files that are refused with 11.
 badLayouts : List (List ℕ)
-unfolding bytes p1 changed file nested largest
+unfolding bytes p1 changed file nested most32
 badLayouts =
     []
     ∷ take 35 (bytes p1)
@@ -93,18 +93,18 @@ badLayouts =
     -- states
     ∷ changed ((1, 0) ∷ [])
     ∷ changed ((1, 257) ∷ [])
-    ∷ changed ((1, largest) ∷ [])
+    ∷ changed ((1, most32) ∷ [])
     -- blocks: none, and seven nested nu
     ∷ file 1 0 1 0 0 (0 ∷ 0 ∷ 0 ∷ [])
     ∷ nested 7
-    ∷ changed ((2, largest) ∷ [])
+    ∷ changed ((2, most32) ∷ [])
     -- cells; of 16,641 and of 133,121 operands only the header is here, so that the length differs too
     ∷ file 1 1 0 0 0 (0 ∷ 0 ∷ [])
     ∷ changed ((3, 16_641) ∷ (8, 199_736) ∷ [])
-    ∷ changed ((3, largest) ∷ [])
+    ∷ changed ((3, most32) ∷ [])
     -- operands
     ∷ changed ((4, 133_121) ∷ [])
-    ∷ changed ((4, largest) ∷ [])
+    ∷ changed ((4, most32) ∷ [])
     -- initial state
     ∷ changed ((5, 3) ∷ [])
     -- offsets
@@ -118,13 +118,13 @@ badLayouts =
 
 -- Files that are refused with 12.
 badTables : List (List ℕ)
-unfolding changed file largest
+unfolding changed file most32
 badTables =
     -- a block's sign
     changed ((9, 2) ∷ [])
     -- its first cell: too few cells follow, and fewer cells than states
     ∷ changed ((10, 7) ∷ [])
-    ∷ changed ((10, largest) ∷ [])
+    ∷ changed ((10, most32) ∷ [])
     ∷ file 3 1 2 0 0 (0 ∷ 0 ∷ 0 ∷ 0 ∷ 0 ∷ 0 ∷ 0 ∷ 0 ∷ [])
     -- a cell's kind
     ∷ changed ((11, 3) ∷ [])
@@ -137,7 +137,7 @@ badTables =
     -- operand counts: too few, too many
     ∷ changed ((25, 0) ∷ (27, 1) ∷ [])
     ∷ changed ((28, 1) ∷ [])
-    ∷ changed ((28, largest) ∷ [])
+    ∷ changed ((28, most32) ∷ [])
     -- an operand of cell 3: the cell itself, one before it, one past the last
     ∷ changed ((38, 3) ∷ [])
     ∷ changed ((38, 2) ∷ [])

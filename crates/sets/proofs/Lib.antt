@@ -3,3 +3,4 @@ pub mod Lists
 pub mod Order
 pub mod FixedPoint
 pub mod Words
+pub mod Masks

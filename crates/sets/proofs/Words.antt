@@ -21,12 +21,12 @@ use Rattle.sets.proofs.Lists.{length-table, table-at, false-true}
 -- ---- the number of a set
 
 -- the number without its first state
-half : (b : Bool) (x : ℕ) → (bit b + 2 * x) / 2 ≡ x
+pub half : (b : Bool) (x : ℕ) → (bit b + 2 * x) / 2 ≡ x
 half true x = omega arith
 half false x = omega arith
 
 -- its first state
-odd : (b : Bool) (x : ℕ) → (bit b + 2 * x) % 2 ≡ bit b
+pub odd : (b : Bool) (x : ℕ) → (bit b + 2 * x) % 2 ≡ bit b
 odd true x = omega arith
 odd false x = omega arith
 

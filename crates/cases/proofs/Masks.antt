@@ -1,0 +1,245 @@
+-- Laws of the masks of action formulas, and of reading an action table from its end.
+use mathlib.Core.Path.{_≡_, refl, sym, ap, _∙_}
+use mathlib.Core.Bool.{Bool, false, cond, _&&_}
+use mathlib.Core.List.{List, [], _∷_, map}
+use mathlib.Core.Option.{some}
+use Prim.Native.Nat.{ℕ, zero, suc, _+_, _-_, _^_, _<_, _≤_}
+use native.Mathlib.Numerals.{add-one}
+use native.Mathlib.Omega.{arith}
+use borrow.Author.Tests.{eq-eqb, not-false}
+use lib.Bits.{bitAnd, bitOr}
+use lib.Dec.{T, eqb, ltb, leb, ltb→lt}
+use lib.ListN.{length, getD, set, drop, length-set, length-drop, length-map, drop-of-length-le, List·getD-map}
+use lib.Seq.{drop-cons, drop-drop, drop-length, getD-drop, getD-set-same, drop-set-lt}
+use Rattle.sets.specs.Lists.{range, all}
+use Rattle.sets.proofs.Lists.{length-range, length-table, table-at, and-left, and-right, all-at}
+use Rattle.sets.proofs.Masks.{number-false, number-true, number-one, number-not, number-and, number-or}
+use Rattle.cases.specs.Limits.{labelLimit, actionLimit}
+use Rattle.cases.specs.Action.{Action, accepts}
+use Rattle.cases.specs.Prefix.{Node, arityIn, actionArities, wholeFormulas, trees, placeAction, actionAt}
+use Rattle.cases.specs.File.{nodeIn, labelCount, actionTable}
+use Rattle.cases.specs.Conditions.{nodeAt, actionOk, badActions}
+use Rattle.cases.specs.Masks.{maskOf, actionOf, WholeActions}
+use Rattle.cases.proofs.Trees.{drop-map, first, made, placed, row-after}
+use Rattle.cases.proofs.TableTrees.{held, action-table, each-action-kind, actionOperator, placing-actions}
+
+-- ---- the mask of a formula by those of its operands
+
+abbrev labels : List ℕ
+labels = range 0 labelLimit
+
+pub mask-false : 0 ≡ maskOf Action.False
+unfolding accepts
+mask-false = sym (number-false labels)
+
+pub mask-true : 2 ^ 64 - 1 ≡ maskOf Action.True
+unfolding accepts
+mask-true = sym (rw (length-range 0 labelLimit) at (number-true labels))
+
+pub mask-label : (j : ℕ) → j < labelLimit → 2 ^ j ≡ maskOf (Action.Label j)
+unfolding accepts
+mask-label j h = sym (number-one j labelLimit h)
+
+pub mask-not : (a : Action) → (2 ^ 64 - 1) - maskOf a ≡ maskOf (Action.Not a)
+unfolding accepts
+mask-not a = rw (length-range 0 labelLimit) at (number-not (accepts eqb a) labels)
+
+pub mask-and : (a b : Action) → bitAnd (maskOf a) (maskOf b) ≡ maskOf (Action.And a b)
+unfolding accepts
+mask-and a b = number-and (accepts eqb a) (accepts eqb b) labels
+
+pub mask-or : (a b : Action) → bitOr (maskOf a) (maskOf b) ≡ maskOf (Action.Or a b)
+unfolding accepts
+mask-or a b = number-or (accepts eqb a) (accepts eqb b) labels
+
+pub mask-implies : (a b : Action) → bitOr ((2 ^ 64 - 1) - maskOf a) (maskOf b) ≡ maskOf (Action.Implies a b)
+unfolding accepts
+mask-implies a b = rw (mask-not a) (number-or (accepts eqb (Action.Not a)) (accepts eqb b) labels)
+
+-- ---- a node on top of the formulas after it
+
+-- how many operands a node takes
+abbrev taken : Node → ℕ
+taken x = arityIn actionArities x
+
+-- the formula of a node on top of others
+abbrev formulaOf : Node → List Action → Action
+formulaOf x st = actionOf (x .kind) (x .arg) (getD st 0 Action.False) (getD st 1 Action.False)
+
+-- the first and the second of some formulas
+top-first : (st : List Action) → first Action.False st ≡ getD st 0 Action.False
+top-first [] = refl
+top-first (a ∷ st) = refl
+
+top-second : (st : List Action) → first Action.False (drop 1 st) ≡ getD st 1 Action.False
+top-second [] = refl
+top-second (a ∷ st) = top-first st
+
+-- the formula that a node's operator makes
+operator-makes : (arg : ℕ) (a b : Action) (kind : ℕ) → kind ≤ 6 → made (actionOperator arg kind) a b ≡ actionOf kind arg a b
+unfolding actionOf
+operator-makes arg a b = each-action-kind (λ k. made (actionOperator arg k) a b ≡ actionOf k arg a b) refl refl refl refl refl refl refl
+
+-- ---- the masks of the formulas read so far
+
+-- From place `at` on stand the masks of the formulas that start at node i or after it.
+pub record Masked (table : List Node) (ws : List ℕ) (at i : ℕ) : Type 0 where
+  pub long : length ws ≡ actionLimit
+  pub room : (i ≤ at) × (at ≤ actionLimit) × (i ≤ length table)
+  pub formulas : List Action
+  pub read : trees placeAction i (drop i table) ≡ some formulas
+  pub held : drop at ws ≡ map maskOf formulas
+
+-- before the first turn
+pub masked-none : (table : List Node) (ws : List ℕ) (i : ℕ) → length ws ≡ actionLimit → length table ≡ i → i ≤ actionLimit → Masked table ws actionLimit i
+unfolding trees
+masked-none table ws i l e h = record {
+  long = l;
+  room = (h, omega arith, omega arith);
+  formulas = [];
+  read = rw (← e, drop-length table);
+  held = drop-of-length-le ws {i = actionLimit} (omega arith);
+}
+
+-- mask k is that of formula k, and 0 where there is none
+mask-held : (ws : List ℕ) (at : ℕ) (st : List Action) (k : ℕ) → drop at ws ≡ map maskOf st → getD ws (at + k) 0 ≡ maskOf (getD st k Action.False)
+mask-held ws at st k e =
+    sym (getD-drop at ws k 0) ∙ ap (λ (l : List ℕ). getD l k 0) e ∙ ap (λ (d : ℕ). getD (map maskOf st) k d) mask-false ∙ List·getD-map maskOf st k Action.False
+
+module _ (table : List Node) (good : WholeActions table) (ws : List ℕ) (at i : ℕ) (below : i < length table) (m : Masked table ws at (suc i)) where
+  -- as many formulas are there as node i takes
+  there : taken (nodeAt table i) ≤ length (m .formulas)
+  there =
+      let rows = row-after Action.False placeAction actionArities 6 placing-actions table (good .known) 0 (good .whole) i below in
+      let same : trees placeAction (suc i) (drop (suc i) table) ≡ some (rows .0 .row) = rw (add-one i) at (rows .0 .is) in
+      let e : rows .0 .row ≡ m .formulas = cc (same, m .read) in
+      rw e at (rows .1)
+
+  -- node i on top of the formulas after it
+  on-top : trees placeAction i (drop i table) ≡ some (formulaOf (nodeAt table i) (m .formulas) ∷ drop (taken (nodeAt table i)) (m .formulas))
+  unfolding placing-actions
+  on-top =
+      let known = good .known i below in
+      ap (trees placeAction i) (drop-cons table i (record { kind = 0; arg = 0 }) below)
+      ∙ placed Action.False placeAction actionArities 6 placing-actions i (nodeAt table i) (drop (suc i) table) (m .formulas) known (m .read) there
+      ∙ rw (top-first (m .formulas), top-second (m .formulas), operator-makes (nodeAt table i .arg) (getD (m .formulas) 0 Action.False) (getD (m .formulas) 1 Action.False) (nodeAt table i .kind) known)
+
+  -- so there is a place for the mask of node i
+  room-for : (1 ≤ at + taken (nodeAt table i)) × (at + taken (nodeAt table i) ≤ actionLimit)
+  room-for = omega (arith, there, ap length (m .held), length-map (m .formulas) maskOf, length-drop at ws, m .long, m .room)
+
+  -- the mask of node i takes the place of its operands' masks
+  masked-more : (n v : ℕ) → suc n ≡ at + taken (nodeAt table i)
+      → v ≡ maskOf (formulaOf (nodeAt table i) (m .formulas)) → Masked table (set ws n v) n i
+  masked-more n v e q = record {
+    long = length-set ws n v ∙ m .long;
+    room = omega (arith, room-for, m .room);
+    formulas = formulaOf (nodeAt table i) (m .formulas) ∷ drop (taken (nodeAt table i)) (m .formulas);
+    read = on-top;
+    held = stored;
+  }
+    where
+      inside : n < length (set ws n v)
+      inside = rw (length-set ws n v) (omega (arith, room-for, m .long))
+
+      stored : drop n (set ws n v) ≡ maskOf (formulaOf (nodeAt table i) (m .formulas)) ∷ map maskOf (drop (taken (nodeAt table i)) (m .formulas))
+      stored =
+          drop-cons (set ws n v) n 0 inside
+          ∙ rw (
+            getD-set-same ws n v 0 (omega (arith, room-for, m .long)),
+            drop-set-lt (suc n) ws n v (omega arith),
+            e,
+            ← drop-drop (taken (nodeAt table i)) at ws,
+            m .held,
+            drop-map maskOf (m .formulas) (taken (nodeAt table i)),
+            q,
+          )
+
+-- ---- the turn of the code, which reads the table's nodes out of a part of the file
+
+-- a nodes
+abbrev pub nodesIn : List ℕ → ℕ → List Node
+nodesIn part a = map (nodeIn part) (range 0 a)
+
+module _ (part : List ℕ) (a : ℕ) (good : WholeActions (nodesIn part a)) where
+  -- node i, as it is read
+  node-read : (i : ℕ) (x : Node) → i < a → x ≡ nodeIn part i → nodeAt (nodesIn part a) i ≡ x
+  node-read i x h e = table-at (nodeIn part) a i (record { kind = 0; arg = 0 }) h ∙ sym e
+
+  -- its kind is known, and its label is small
+  pub node-known : (i : ℕ) (x : Node) → i < a → x ≡ nodeIn part i → (x .kind ≤ 6) × (x .kind ≡ 2 → x .arg < labelLimit)
+  node-known i x h e =
+      let inside : i < length (nodesIn part a) = rw (length-table (nodeIn part) a) h in
+      let r = node-read i x h e in
+      (rw r at (good .known i inside), rw r at (good .small i inside))
+
+  module _ (ws : List ℕ) (at i : ℕ) (above : 0 < i) (within : i ≤ a) (m : Masked (nodesIn part a) ws at i) (x : Node) (e : x ≡ nodeIn part (i - 1)) where
+    -- the node before node i
+    inside : i - 1 < length (nodesIn part a)
+    inside = rw (length-table (nodeIn part) a) (omega arith)
+
+    next : Masked (nodesIn part a) ws at (suc (i - 1))
+    next =
+        let z : suc (i - 1) ≡ i = omega arith in
+        rw z m
+
+    -- there is a place for its mask
+    pub turn-fits : (1 ≤ at + getD actionArities (x .kind) 0) × (at + getD actionArities (x .kind) 0 ≤ actionLimit)
+    turn-fits = rw (node-read (i - 1) x (omega arith) e) at (room-for (nodesIn part a) good ws at (i - 1) inside next)
+
+    -- its mask is stored
+    pub turn-masked : (k v : ℕ) → k ≡ getD actionArities (x .kind) 0
+        → ((p q : Action) → getD ws at 0 ≡ maskOf p → getD ws (at + 1) 0 ≡ maskOf q → v ≡ maskOf (actionOf (x .kind) (x .arg) p q))
+        → Masked (nodesIn part a) (set ws (at + k - 1) v) (at + k - 1) (i - 1)
+    turn-masked k v q f =
+        let r = node-read (i - 1) x (omega arith) e in
+        let z : at + 0 ≡ at = omega arith in
+        let st = next .formulas in
+        masked-more (nodesIn part a) good ws at (i - 1) inside next (at + k - 1) v
+        (rw r (omega (arith, turn-fits, q)))
+        (rw r (f (getD st 0 Action.False) (getD st 1 Action.False) (rw z at (mask-held ws at st 0 (next .held))) (mask-held ws at st 1 (next .held))))
+
+-- after the last turn, the first mask is that of the formula at node j
+pub masked-first : (table : List Node) (ws : List ℕ) (at j : ℕ) → Masked table ws at j → getD ws at 0 ≡ maskOf (actionAt table j)
+unfolding actionAt
+masked-first table ws at j m =
+    let z : at + 0 ≡ at = omega arith in
+    rw z at (mask-held ws at (m .formulas) 0 (m .held)) ∙ ap maskOf (rw (m .read) (sym (top-first (m .formulas))))
+
+-- ---- operands by kind
+
+pub takes-none : (kind : ℕ) → kind < 3 → 0 ≡ getD actionArities kind 0
+takes-none zero h = refl
+takes-none (suc zero) h = refl
+takes-none (suc (suc zero)) h = refl
+takes-none (suc (suc (suc kind))) h = absurd (omega arith)
+
+pub takes-two : (kind : ℕ) → 3 < kind → kind ≤ 6 → 2 ≡ getD actionArities kind 0
+takes-two zero h g = absurd (omega arith)
+takes-two (suc zero) h g = absurd (omega arith)
+takes-two (suc (suc zero)) h g = absurd (omega arith)
+takes-two (suc (suc (suc zero))) h g = absurd (omega arith)
+takes-two (suc (suc (suc (suc zero)))) h g = refl
+takes-two (suc (suc (suc (suc (suc zero))))) h g = refl
+takes-two (suc (suc (suc (suc (suc (suc zero)))))) h g = refl
+takes-two (suc (suc (suc (suc (suc (suc (suc kind))))))) h g = absurd (omega arith)
+
+-- ---- condition 7
+
+-- a label node that passes has a label
+label-small : (l : ℕ) (x : Node) → T (actionOk l x) → x .kind ≡ 2 → x .arg < l
+label-small l x t e = ltb→lt (x .arg) l (rw (eq-eqb (x .kind) 2 e) at (and-right (leb (x .kind) 6) (cond (eqb (x .kind) 2) (ltb (x .arg) l) (eqb (x .arg) 0)) t))
+
+-- an action table that passes can be read
+pub whole-actions : (b : List ℕ) → badActions b ≡ false → labelCount b ≤ labelLimit → WholeActions (actionTable b)
+unfolding badActions
+whole-actions b e h =
+    let t : List Node = actionTable b in
+    let oks : Bool = all (actionOk (labelCount b)) t in
+    let fits : Bool = wholeFormulas 0 (map (arityIn actionArities) t) in
+    let each : T oks = and-left oks fits (held (oks && fits) (not-false (oks && fits) e)) in
+    record {
+      known = action-table b e .kinds;
+      small = λ i g k. omega (arith, label-small (labelCount b) (nodeAt t i) (all-at (actionOk (labelCount b)) t i (record { kind = 0; arg = 0 }) g each) k);
+      whole = action-table b e .whole;
+    }

@@ -1,0 +1,405 @@
+-- The meaning of a formula: it exists, it is one, and it grows with the valuation. It depends on the free variables only, and on the
+-- transitions only through which there are.
+use mathlib.Core.Path.{_≡_, refl, sym, ap, ap₂, subst, _∙_}
+use mathlib.Core.Bool.{Bool, true, false, not, cond, _&&_, _||_}
+use mathlib.Core.List.{List, [], _∷_, map}
+use Prim.Native.Nat.{ℕ, zero, suc, _+_, _<_}
+use native.Mathlib.Nat.{zero-add}
+use native.Mathlib.Omega.{arith}
+use borrow.Author.Tests.{eq-eqb}
+use lib.Dec.{T, eqb, eqb→eq, eqb-refl, T-not, not-T}
+use lib.ListN.{length, getD, take, replicate, length-replicate}
+use Rattle.sets.specs.Lists.{range, all, any}
+use Rattle.sets.specs.Set.{Set, has, Subset, same, start, Extremal}
+use Rattle.sets.specs.Loop.{Worked, iterate}
+use Rattle.sets.proofs.Lists.{length-map-range, getD-map-range, and-left, and-right, and-both, Implies, kept-implies}
+use Rattle.sets.proofs.Order.{before-eq, subset-antisym, extremal-map, extremal-one}
+use Rattle.sets.proofs.FixedPoint.{extremal, fixed-mono}
+use Rattle.solver.specs.Cells.{Valuation, bind}
+use Rattle.solver.proofs.Solving.{Sized, bind-sized, bind-mono}
+use Rattle.cases.specs.Action.{Action}
+use Rattle.cases.specs.Formula.{Formula, False, True, And, Or, Box, Diamond, Variable, Fix}
+use Rattle.cases.specs.File.{Transition}
+use Rattle.cases.specs.Case.{sameTransition, copies, transitionAt, copiesBefore, keep, distinct}
+use Rattle.cases.specs.Meaning.{setOf, from, boxIn, diamondIn, Means}
+
+-- ---- any and all
+
+-- an or is true if one is
+or-left : (a b : Bool) → T a → T (a || b)
+or-left true b t = tt
+or-left false b t = absurd t
+
+or-right : (a b : Bool) → T b → T (a || b)
+or-right true b t = tt
+or-right false b t = t
+
+-- the contrary of an implication
+contrary : (a b : Bool) → Implies a b → Implies (not b) (not a)
+contrary a b h t = not-T a (λ s. T-not b t (h s))
+
+-- all have p if none has not
+all-not : {A : Type 0} (p : A → Bool) (xs : List A) → all p xs ≡ not (any (λ x. not (p x)) xs)
+unfolding all any
+all-not p [] = refl
+all-not p (x ∷ xs) = go (p x) (all-not p xs)
+  where
+    go : (b : Bool) → all p xs ≡ not (any (λ y. not (p y)) xs) → (b && all p xs) ≡ not (not b || any (λ y. not (p y)) xs)
+    go true e = e
+    go false e = refl
+
+-- an element with p makes any true
+pub any-at : {A : Type 0} (p : A → Bool) (d : A) (xs : List A) (j : ℕ) → j < length xs → T (p (getD xs j d)) → T (any p xs)
+unfolding any
+any-at p d [] j h t = absurd (omega arith)
+any-at p d (x ∷ xs) zero h t = or-left (p x) (any p xs) t
+any-at p d (x ∷ xs) (suc j) h t = or-right (p x) (any p xs) (any-at p d xs j (omega arith) t)
+
+-- Element i has p, and none before it has.
+pub record First {A : Type 0} (p : A → Bool) (d : A) (xs : List A) : Type 0 where
+  pub index : ℕ
+  pub below : index < length xs
+  pub holds : T (p (getD xs index d))
+  pub new : T (not (any p (take index xs)))
+
+-- where any is true there is a first element with p
+pub any-first : {A : Type 0} (p : A → Bool) (d : A) (xs : List A) → T (any p xs) → First p d xs
+unfolding any
+any-first p d [] t = absurd t
+any-first p d (x ∷ xs) t = go (p x) refl t (any-first p d xs)
+  where
+    go : (b : Bool) → p x ≡ b → T (b || any p xs) → (T (any p xs) → First p d xs) → First p d (x ∷ xs)
+    go true e u next = record { index = 0; below = omega arith; holds = subst T (sym e) tt; new = tt }
+    go false e u next =
+        let f = next u in
+        record { index = suc (f .index); below = omega (arith, f .below); holds = f .holds; new = rw e (f .new) }
+
+-- any of a list that is made from another
+any-map : {A B : Type 0} (p : B → Bool) (f : A → B) (xs : List A) → any p (map f xs) ≡ any (λ x. p (f x)) xs
+unfolding any
+any-map p f [] = refl
+any-map p f (x ∷ xs) = ap (λ b. p (f x) || b) (any-map p f xs)
+
+-- any of the elements that are kept
+any-keep : {A : Type 0} (p q : A → Bool) (xs : List A) → any p (keep q xs) ≡ any (λ x. q x && p x) xs
+unfolding any keep
+any-keep p q [] = refl
+any-keep p q (x ∷ xs) = go (q x) (any-keep p q xs)
+  where
+    go : (b : Bool) → any p (keep q xs) ≡ any (λ y. q y && p y) xs → any p (cond b (x ∷ keep q xs) (keep q xs)) ≡ ((b && p x) || any (λ y. q y && p y) xs)
+    go true e = ap (λ b. p x || b) e
+    go false e = e
+
+-- some number below n has p
+any-below : (p : ℕ → Bool) (n : ℕ) → T (any p (range 0 n)) → (j : ℕ) × (j < n) × T (p j)
+any-below p n t =
+    let f = any-first (λ b. b) false (map p (range 0 n)) (rw (any-map (λ b. b) p (range 0 n)) t) in
+    let h : f .index < n = omega (arith, f .below, length-map-range p 0 n) in
+    (f .index, h, rw (getD-map-range p 0 n (f .index) false h, zero-add) at (f .holds))
+
+-- and the other way
+below-any : (p : ℕ → Bool) (n j : ℕ) → j < n → T (p j) → T (any p (range 0 n))
+below-any p n j h t =
+    rw (any-map (λ b. b) p (range 0 n)) at
+    (any-at (λ b. b) false (map p (range 0 n)) j (omega (arith, length-map-range p 0 n)) (rw (getD-map-range p 0 n j false h, zero-add) t))
+
+-- ---- members of a list of transitions
+
+-- Each member of ts is one of us.
+abbrev pub Within : List Transition → List Transition → Type 0
+Within ts us = (t : Transition) → T (any (sameTransition t) ts) → T (any (sameTransition t) us)
+
+-- each list has its own members
+pub within-refl : (ts : List Transition) → Within ts ts
+within-refl ts t h = h
+
+-- a transition from its parts
+abbrev transition : ℕ → ℕ → ℕ → Transition
+transition s l e = record { source = s; label = l; target = e }
+
+-- sameTransition says true of equal records only, and of each and itself
+pub same-equal : (t u : Transition) → T (sameTransition t u) → t ≡ u
+unfolding sameTransition
+same-equal t u h =
+    let g = and-left (eqb (t .source) (u .source) && eqb (t .label) (u .label)) (eqb (t .target) (u .target)) h in
+    let a : t .source ≡ u .source = eqb→eq (t .source) (u .source) (and-left (eqb (t .source) (u .source)) (eqb (t .label) (u .label)) g) in
+    let b : t .label ≡ u .label = eqb→eq (t .label) (u .label) (and-right (eqb (t .source) (u .source)) (eqb (t .label) (u .label)) g) in
+    let c : t .target ≡ u .target = eqb→eq (t .target) (u .target) (and-right (eqb (t .source) (u .source) && eqb (t .label) (u .label)) (eqb (t .target) (u .target)) h) in
+    let e : transition (t .source) (t .label) (t .target) ≡ transition (u .source) (u .label) (u .target) = cc in
+    e
+
+pub same-self : (t : Transition) → T (sameTransition t t)
+unfolding sameTransition
+same-self t = rw (eq-eqb (t .source) (t .source) refl, eq-eqb (t .label) (t .label) refl, eq-eqb (t .target) (t .target) refl) tt
+
+-- a member with p makes any true
+member-any : (p : Transition → Bool) (t : Transition) → T (p t) → (ts : List Transition) → T (any (sameTransition t) ts) → T (any p ts)
+member-any p t h ts m =
+    let f = any-first (sameTransition t) t ts m in
+    any-at p t ts (f .index) (f .below) (subst (λ u. T (p u)) (same-equal t (getD ts (f .index) t) (f .holds)) h)
+
+-- So any grows with the property and the members; all grows with the property, and with fewer members.
+pub any-within : (ts us : List Transition) → Within ts us → (p q : Transition → Bool) → ((t : Transition) → Implies (p t) (q t)) → Implies (any p ts) (any q us)
+any-within ts us w p q h m =
+    let d : Transition = transition 0 0 0 in
+    let f = any-first p d ts m in
+    let t : Transition = getD ts (f .index) d in
+    member-any q t (h t (f .holds)) us (w t (any-at (sameTransition t) d ts (f .index) (f .below) (same-self t)))
+
+pub all-within : (ts us : List Transition) → Within us ts → (p q : Transition → Bool) → ((t : Transition) → Implies (p t) (q t)) → Implies (all p ts) (all q us)
+all-within ts us w p q h =
+    rw (all-not p ts, all-not q us)
+    (contrary (any (λ t. not (q t)) us) (any (λ t. not (p t)) ts)
+    (any-within us ts w (λ t. not (q t)) (λ t. not (p t)) (λ t. contrary (p t) (q t) (h t))))
+
+-- ---- distinct transitions
+
+-- where x is no member, no record equals it
+copies-none : (x : Transition) (ys : List Transition) → T (not (any (sameTransition x) ys)) → copies x ys ≡ 0
+unfolding copies any
+copies-none x [] h = refl
+copies-none x (y ∷ ys) h = go (sameTransition y x) refl (copies-none x ys (contrary later (here || later) (or-right here later) h))
+  where
+    here : Bool
+    here = sameTransition x y
+
+    later : Bool
+    later = any (sameTransition x) ys
+
+    go : (b : Bool) → sameTransition y x ≡ b → copies x ys ≡ 0 → cond b 1 0 + copies x ys ≡ 0
+    go true e none =
+        let q : y ≡ x = same-equal y x (subst T (sym e) tt) in
+        absurd (T-not (here || later) h (or-left here later (rw q (same-self x))))
+    go false e none = omega arith
+
+-- a member of the distinct transitions is a record that is the first of its kind
+distinct-any : (p : Transition → Bool) (ts : List Transition)
+    → any p (distinct ts) ≡ any (λ i. eqb (copiesBefore ts i) 0 && p (transitionAt ts i)) (range 0 (length ts))
+unfolding distinct
+distinct-any p ts =
+    any-map p (transitionAt ts) (keep (λ i. eqb (copiesBefore ts i) 0) (range 0 (length ts)))
+    ∙ any-keep (λ i. p (transitionAt ts i)) (λ i. eqb (copiesBefore ts i) 0) (range 0 (length ts))
+
+-- The distinct transitions have the members of all.
+pub within-distinct : (ts : List Transition) → Within ts (distinct ts)
+unfolding copiesBefore
+within-distinct ts t m =
+    let d : Transition = transition 0 0 0 in
+    let f = any-first (sameTransition t) d ts m in
+    rw (distinct-any (sameTransition t) ts)
+    (below-any (λ i. eqb (copiesBefore ts i) 0 && sameTransition t (transitionAt ts i)) (length ts) (f .index) (f .below)
+    (and-both (eqb (copiesBefore ts (f .index)) 0) (sameTransition t (transitionAt ts (f .index)))
+    (rw (← same-equal t (transitionAt ts (f .index)) (f .holds), copies-none t (take (f .index) ts) (f .new)) tt) (f .holds)))
+
+pub distinct-within : (ts : List Transition) → Within (distinct ts) ts
+distinct-within ts t m =
+    let f = any-below (λ i. eqb (copiesBefore ts i) 0 && sameTransition t (transitionAt ts i)) (length ts) (rw (distinct-any (sameTransition t) ts) at m) in
+    any-at (sameTransition t) (transition 0 0 0) ts (f .0) (f .1) (and-right (eqb (copiesBefore ts (f .0)) 0) _ (f .2))
+
+-- ---- the meaning as a function
+
+module _ (n : ℕ) (ts : List Transition) where
+  -- A binder's set is worked out from the empty (mu) or full (nu) set on, in at most n + 1 turns.
+  unfoldable pub meaning : Formula → Valuation → Set
+  meaning False ρ = replicate n false
+  meaning True ρ = replicate n true
+  meaning (And a b) ρ = setOf n (λ s. has (meaning a ρ) s && has (meaning b ρ) s)
+  meaning (Or a b) ρ = setOf n (λ s. has (meaning a ρ) s || has (meaning b ρ) s)
+  meaning (Box α a) ρ = setOf n (boxIn n ts α (meaning a ρ))
+  meaning (Diamond α a) ρ = setOf n (diamondIn n ts α (meaning a ρ))
+  meaning (Variable i) ρ = ρ i
+  meaning (Fix sign i a) ρ = iterate (suc n) (λ v. (meaning a (bind ρ i v), 0)) (start n sign) .0
+
+  -- one turn at the binder of variable i
+  abbrev pub bodyOf : ℕ → Formula → Valuation → Set → Worked
+  bodyOf i a ρ v = (meaning a (bind ρ i v), 0)
+
+-- a loop of steps that keep the number of states keeps it
+iterate-sized : (n : ℕ) (f : Set → Worked) → ((v : Set) → length v ≡ n → length (f v .0) ≡ n)
+    → (m : ℕ) (v : Set) → length v ≡ n → length (iterate m f v .0) ≡ n
+unfolding iterate
+iterate-sized n f h zero v o = o
+iterate-sized n f h (suc m) v o = go (same (f v .0) v) refl (iterate-sized n f h m (f v .0) (h v o))
+  where
+    go : (b : Bool) → same (f v .0) v ≡ b → length (iterate m f (f v .0) .0) ≡ n → length (iterate (suc m) f v .0) ≡ n
+    go true e l = rw (e, iterate) o
+    go false e l = rw (e, iterate) l
+
+-- The meaning has n states.
+pub meaning-sized : (n : ℕ) (ts : List Transition) (a : Formula) (ρ : Valuation) → Sized n ρ → length (meaning n ts a ρ) ≡ n
+unfolding meaning
+meaning-sized n ts False ρ r = length-replicate n false
+meaning-sized n ts True ρ r = length-replicate n true
+meaning-sized n ts (And a b) ρ r = length-map-range _ 0 n
+meaning-sized n ts (Or a b) ρ r = length-map-range _ 0 n
+meaning-sized n ts (Box α a) ρ r = length-map-range _ 0 n
+meaning-sized n ts (Diamond α a) ρ r = length-map-range _ 0 n
+meaning-sized n ts (Variable i) ρ r = r i
+meaning-sized n ts (Fix sign i a) ρ r =
+    iterate-sized n (bodyOf n ts i a ρ) (λ v o. meaning-sized n ts a (bind ρ i v) (bind-sized ρ i v r o)) (suc n) (start n sign) (length-replicate n sign)
+
+-- ---- the meaning grows
+
+-- whether variable i occurs outside of its binders
+unfoldable pub free : ℕ → Formula → Bool
+free i False = false
+free i True = false
+free i (And a b) = free i a || free i b
+free i (Or a b) = free i a || free i b
+free i (Box α a) = free i a
+free i (Diamond α a) = free i a
+free i (Variable j) = eqb i j
+free i (Fix sign j a) = not (eqb i j) && free i a
+
+-- a set of the states with a property grows with the property
+map-mono : {A : Type 0} (f g : A → Bool) → ((x : A) → Implies (f x) (g x)) → (xs : List A) → Subset (map f xs) (map g xs)
+map-mono f g h [] s t = t
+map-mono f g h (x ∷ xs) zero t = h x t
+map-mono f g h (x ∷ xs) (suc s) t = map-mono f g h xs s t
+
+-- Sets joined state by state grow with both.
+join-mono : (n : ℕ) (op : Bool → Bool → Bool) → ((a b c d : Bool) → Implies a c → Implies b d → Implies (op a b) (op c d))
+    → (x y v w : Set) → Subset x v → Subset y w → Subset (setOf n (λ s. op (has x s) (has y s))) (setOf n (λ s. op (has v s) (has w s)))
+join-mono n op mono x y v w g h =
+    map-mono (λ s. op (has x s) (has y s)) (λ s. op (has v s) (has w s)) (λ s. mono (has x s) (has y s) (has v s) (has w s) (g s) (h s)) (range 0 n)
+
+-- Box and diamond grow with the set, and look only at which transitions there are.
+module _ (n : ℕ) (ts us : List Transition) (there : Within ts us) (back : Within us ts) (α : Action) (x y : Set) (h : Subset x y) where
+  box-mono : Subset (setOf n (boxIn n ts α x)) (setOf n (boxIn n us α y))
+  box-mono = map-mono (boxIn n ts α x) (boxIn n us α y) (λ s.
+      all-within ts us back (λ t. not (from s α t) || has x (t .target)) (λ t. not (from s α t) || has y (t .target)) (λ t.
+      kept-implies .or (not (from s α t)) (has x (t .target)) (not (from s α t)) (has y (t .target)) (λ g. g) (h (t .target)))) (range 0 n)
+
+  diamond-mono : Subset (setOf n (diamondIn n ts α x)) (setOf n (diamondIn n us α y))
+  diamond-mono = map-mono (diamondIn n ts α x) (diamondIn n us α y) (λ s.
+      any-within ts us there (λ t. from s α t && has x (t .target)) (λ t. from s α t && has y (t .target)) (λ t.
+      kept-implies .and (from s α t) (has x (t .target)) (from s α t) (has y (t .target)) (λ g. g) (h (t .target)))) (range 0 n)
+
+-- The sets of the free variables of a grow from ρ to σ.
+abbrev pub Below : Formula → Valuation → Valuation → Type 0
+Below a ρ σ = (i : ℕ) → T (free i a) → Subset (ρ i) (σ i)
+
+-- at a binder the variable's set may grow too
+bind-below : (sign : Bool) (i : ℕ) (a : Formula) (ρ σ : Valuation) → Below (Fix sign i a) ρ σ → (v w : Set) → Subset v w → Below a (bind ρ i v) (bind σ i w)
+unfolding free bind
+bind-below sign i a ρ σ h v w g j t = go (eqb j i) (λ u. h j (and-both (not (eqb j i)) (free j a) u t))
+  where
+    go : (b : Bool) → (T (not b) → Subset (ρ j) (σ j)) → Subset (cond b v (ρ j)) (cond b w (σ j))
+    go true k = g
+    go false k = k tt
+
+-- The meaning grows with the sets of the free variables, and looks only at which transitions there are.
+pub meaning-below : (n : ℕ) (a : Formula) (ts us : List Transition) → Within ts us → Within us ts
+    → (ρ σ : Valuation) → Sized n ρ → Sized n σ → Below a ρ σ → Subset (meaning n ts a ρ) (meaning n us a σ)
+unfolding meaning free
+meaning-below n False ts us there back ρ σ r q h = λ s t. t
+meaning-below n True ts us there back ρ σ r q h = λ s t. t
+meaning-below n (And a b) ts us there back ρ σ r q h =
+    join-mono n _&&_ (kept-implies .and) (meaning n ts a ρ) (meaning n ts b ρ) (meaning n us a σ) (meaning n us b σ)
+    (meaning-below n a ts us there back ρ σ r q (λ i t. h i (or-left (free i a) (free i b) t)))
+    (meaning-below n b ts us there back ρ σ r q (λ i t. h i (or-right (free i a) (free i b) t)))
+meaning-below n (Or a b) ts us there back ρ σ r q h =
+    join-mono n _||_ (kept-implies .or) (meaning n ts a ρ) (meaning n ts b ρ) (meaning n us a σ) (meaning n us b σ)
+    (meaning-below n a ts us there back ρ σ r q (λ i t. h i (or-left (free i a) (free i b) t)))
+    (meaning-below n b ts us there back ρ σ r q (λ i t. h i (or-right (free i a) (free i b) t)))
+meaning-below n (Box α a) ts us there back ρ σ r q h =
+    box-mono n ts us there back α (meaning n ts a ρ) (meaning n us a σ) (meaning-below n a ts us there back ρ σ r q h)
+meaning-below n (Diamond α a) ts us there back ρ σ r q h =
+    diamond-mono n ts us there back α (meaning n ts a ρ) (meaning n us a σ) (meaning-below n a ts us there back ρ σ r q h)
+meaning-below n (Variable i) ts us there back ρ σ r q h = h i (eqb-refl i)
+meaning-below n (Fix sign i a) ts us there back ρ σ r q h =
+    fixed-mono n (bodyOf n ts i a ρ) (bodyOf n us i a σ)
+    (λ v o. meaning-sized n ts a (bind ρ i v) (bind-sized ρ i v r o))
+    (λ v w o l g. meaning-below n a ts ts (within-refl ts) (within-refl ts) (bind ρ i v) (bind ρ i w) (bind-sized ρ i v r o) (bind-sized ρ i w r l)
+    (bind-below sign i a ρ ρ (λ j t s u. u) v w g))
+    (λ v o. meaning-sized n us a (bind σ i v) (bind-sized σ i v q o))
+    (λ v w o l g. meaning-below n a us us (within-refl us) (within-refl us) (bind σ i v) (bind σ i w) (bind-sized σ i v q o) (bind-sized σ i w q l)
+    (bind-below sign i a σ σ (λ j t s u. u) v w g))
+    (λ v o. meaning-below n a ts us there back (bind ρ i v) (bind σ i v) (bind-sized ρ i v r o) (bind-sized σ i v q o)
+    (bind-below sign i a ρ σ h v v (λ s u. u)))
+    sign
+
+-- The meaning grows with the valuation.
+pub meaning-mono : (n : ℕ) (ts : List Transition) (a : Formula) (ρ σ : Valuation) → Sized n ρ → Sized n σ
+    → ((k : ℕ) → Subset (ρ k) (σ k)) → Subset (meaning n ts a ρ) (meaning n ts a σ)
+meaning-mono n ts a ρ σ r q h = meaning-below n a ts ts (within-refl ts) (within-refl ts) ρ σ r q (λ i t. h i)
+
+-- ---- what the meaning depends on
+
+-- Equal members, and equal sets of the free variables: equal meanings.
+pub meaning-same : (n : ℕ) (a : Formula) (ts us : List Transition) → Within ts us → Within us ts
+    → (ρ σ : Valuation) → Sized n ρ → Sized n σ → ((i : ℕ) → T (free i a) → ρ i ≡ σ i) → meaning n ts a ρ ≡ meaning n us a σ
+meaning-same n a ts us there back ρ σ r q h =
+    subset-antisym (meaning n ts a ρ) (meaning n us a σ) (meaning-sized n ts a ρ r ∙ sym (meaning-sized n us a σ q))
+    (meaning-below n a ts us there back ρ σ r q (λ i t. before-eq false (h i t)))
+    (meaning-below n a us ts back there σ ρ q r (λ i t. before-eq false (sym (h i t))))
+
+-- The meaning depends on the free variables only.
+pub means-scope : (n : ℕ) (ts : List Transition) (a : Formula) (ρ σ : Valuation) → Sized n ρ → Sized n σ
+    → ((i : ℕ) → T (free i a) → ρ i ≡ σ i) → meaning n ts a ρ ≡ meaning n ts a σ
+means-scope n ts a = meaning-same n a ts ts (within-refl ts) (within-refl ts)
+
+-- It depends on the transitions only through which there are.
+pub means-members : (n : ℕ) (ts us : List Transition) → Within ts us → Within us ts
+    → (a : Formula) (ρ : Valuation) → Sized n ρ → meaning n ts a ρ ≡ meaning n us a ρ
+means-members n ts us there back a ρ r = meaning-same n a ts us there back ρ ρ r r (λ i t. refl)
+
+-- ---- the meaning is what the definition says
+
+-- w is the only set with the property P.
+pub record Only (P : Set → Type 0) (w : Set) : Type 0 where
+  pub holds : P w
+  pub one : (v : Set) → P v → v ≡ w
+
+-- what is equal to a set, or worked out from one or two sets that are the only ones
+only-equal : (x : Set) → Only (λ v. v ≡ x) x
+only-equal x = record { holds = refl; one = λ v e. e }
+
+only-from : {P : Set → Type 0} {x : Set} (f : Set → Set) → Only P x → Only (λ v. (y : Set) × P y × (v ≡ f y)) (f x)
+only-from {x = x} f p = record { holds = (x, p .holds, refl); one = λ v m. m .2 ∙ ap f (p .one (m .0) (m .1)) }
+
+only-join : {P Q : Set → Type 0} {x y : Set} (f : Set → Set → Set) → Only P x → Only Q y
+    → Only (λ v. (u : Set) × (w : Set) × P u × Q w × (v ≡ f u w)) (f x y)
+only-join {x = x} {y = y} f p q = record {
+  holds = (x, y, p .holds, q .holds, refl);
+  one = λ v m. m .4 ∙ ap₂ f (p .one (m .0) (m .2)) (q .one (m .1) (m .3));
+}
+
+module _ (n : ℕ) (ts : List Transition) where
+  -- a binder's set, where the body's meaning is known for every set: the iteration stops at the least or greatest fixed point
+  only-fix : (sign : Bool) (i : ℕ) (a : Formula) (ρ : Valuation) → Sized n ρ
+      → ((u : Set) → length u ≡ n → Only (Means n ts a (bind ρ i u)) (meaning n ts a (bind ρ i u)))
+      → Only (Extremal n sign (λ u. Means n ts a (bind ρ i u) u)) (iterate (suc n) (bodyOf n ts i a ρ) (start n sign) .0)
+  only-fix sign i a ρ r body = record { holds = least; one = λ v m. extremal-one m least }
+    where
+      least : Extremal n sign (λ u. Means n ts a (bind ρ i u) u) (iterate (suc n) (bodyOf n ts i a ρ) (start n sign) .0)
+      least = extremal-map
+          (λ u o e. subst (Means n ts a (bind ρ i u)) e (body u o .holds))
+          (λ u o m. sym (body u o .one u m))
+          (extremal n sign (bodyOf n ts i a ρ)
+          (λ v o. meaning-sized n ts a (bind ρ i v) (bind-sized ρ i v r o))
+          (λ v w o l g. meaning-mono n ts a (bind ρ i v) (bind ρ i w) (bind-sized ρ i v r o) (bind-sized ρ i w r l) (bind-mono ρ ρ i v w (λ k s t. t) g)))
+
+  -- Each formula means its meaning, and nothing else.
+  pub means-only : (a : Formula) (ρ : Valuation) → Sized n ρ → Only (Means n ts a ρ) (meaning n ts a ρ)
+  unfolding Means meaning
+  means-only False ρ r = only-equal (replicate n false)
+  means-only True ρ r = only-equal (replicate n true)
+  means-only (And a b) ρ r = only-join (λ x y. setOf n (λ s. has x s && has y s)) (means-only a ρ r) (means-only b ρ r)
+  means-only (Or a b) ρ r = only-join (λ x y. setOf n (λ s. has x s || has y s)) (means-only a ρ r) (means-only b ρ r)
+  means-only (Box α a) ρ r = only-from (λ x. setOf n (boxIn n ts α x)) (means-only a ρ r)
+  means-only (Diamond α a) ρ r = only-from (λ x. setOf n (diamondIn n ts α x)) (means-only a ρ r)
+  means-only (Variable i) ρ r = only-equal (ρ i)
+  means-only (Fix sign i a) ρ r = only-fix sign i a ρ r (λ u o. means-only a (bind ρ i u) (bind-sized ρ i u r o))
+
+  -- The meaning exists,
+  pub means-exists : (a : Formula) (ρ : Valuation) → Sized n ρ → Means n ts a ρ (meaning n ts a ρ)
+  means-exists a ρ r = means-only a ρ r .holds
+
+  -- is one,
+  pub means-unique : (a : Formula) (ρ : Valuation) → Sized n ρ → (v : Set) → Means n ts a ρ v → v ≡ meaning n ts a ρ
+  means-unique a ρ r = means-only a ρ r .one
+
+  -- and has n states.
+  pub means-sized : (a : Formula) (ρ : Valuation) → Sized n ρ → (v : Set) → Means n ts a ρ v → length v ≡ n
+  means-sized a ρ r v m = ap length (means-unique a ρ r v m) ∙ meaning-sized n ts a ρ r

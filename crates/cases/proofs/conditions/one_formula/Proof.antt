@@ -1,0 +1,65 @@
+-- `one_formula` meets its contract: before node i, `due` operands are due.
+use Prim.Native.Nat.{_+_, _-_, _*_, _≤_}
+use mathlib.Core.Path.{_≡_, refl, sym, _∙_}
+use native.Mathlib.Omega.{arith}
+use borrow.Author.Needs.{needs}
+use Rattle.cases.specs.Prefix.{formulaArities, exactly}
+use Rattle.cases.specs.Checks.{nodesIn}
+use Rattle.cases.proofs.PrefixRules.{aritiesFrom, exactly-done, exactly-none, exactly-next}
+use Rattle.cases.proofs.conditions.one_formula.Statement.{statement}
+use Rattle.cases.proofs.conditions.one_formula.Tie as tie
+
+abbrev Inv-loop : tie.InvT-loop
+Inv-loop part f due₀ i₀ due i = (i ≤ f) × (due ≤ 2 * i + 1) × (exactly 1 (aritiesFrom formulaArities part f 0) ≡ exactly due (aritiesFrom formulaArities part f i))
+
+abbrev μ-loop : tie.MeasureT-loop
+μ-loop part f due₀ i₀ due i = f - i
+
+loop-holds : tie.Need-loop-holds Inv-loop μ-loop
+loop-holds c = (omega arith, omega arith, refl)
+
+returns : tie.Need-returns Inv-loop μ-loop
+unfolding nodesIn
+returns c = sym (c .before .before .loop .inv .2 ∙ exactly-none formulaArities (c .before .before .before .before .args .part .now) (c .before .before .before .before .args .f) (c .before .before .loop .i) (c .before .before .loop .due) (c .if1 .taken) (c .before .loop-test .taken))
+
+node-at-requires : tie.Need-node-at-requires Inv-loop μ-loop
+node-at-requires c κs = omega arith
+
+sub-due : tie.Need-sub-due Inv-loop μ-loop
+sub-due c = omega arith
+
+formula-arity-requires : tie.Need-formula-arity-requires Inv-loop μ-loop
+formula-arity-requires c κs = search needs
+
+add-due : tie.Need-add-due Inv-loop μ-loop
+add-due c = omega arith
+
+add-i : tie.Need-add-i Inv-loop μ-loop
+add-i c = omega arith
+
+loop-less : tie.Need-loop-less Inv-loop μ-loop
+loop-less c = omega arith
+
+loop-again : tie.Need-loop-again Inv-loop μ-loop
+loop-again c = (omega arith, omega arith, c .before .before .before .before .loop .inv .2 ∙ exactly-next formulaArities (c .before .before .before .before .before .before .args .part .now) (c .before .before .before .before .before .before .args .f) (c .before .before .before .before .loop .i) (c .before .before .before .before .loop .due) _ _ (c .before .before .if1 .left) (c .before .before .before .loop-test .taken) (c .before .node-at .ensures) (c .formula-arity .ensures .0))
+
+returns-2 : tie.Need-returns-2 Inv-loop μ-loop
+unfolding nodesIn
+returns-2 c = sym (c .before .loop .inv .2 ∙ exactly-done formulaArities (c .before .before .before .args .part .now) (c .before .before .before .args .f) (c .before .loop .i) (c .before .loop .due) (c .loop-test .left))
+
+pub one-formula-spec : {M : Type 1} → statement M
+one-formula-spec =
+    tie.close
+    (tie.spec
+    Inv-loop
+    μ-loop
+    loop-holds
+    returns
+    node-at-requires
+    sub-due
+    formula-arity-requires
+    add-due
+    add-i
+    loop-less
+    loop-again
+    returns-2)

@@ -1,0 +1,53 @@
+-- A case: a model and a formula; and the distinct transitions.
+use mathlib.Core.Bool.{Bool, true, false, cond, _&&_}
+use mathlib.Core.List.{List, [], _∷_, map}
+use Prim.Native.Nat.{ℕ, zero, suc, _+_}
+use lib.Dec.{eqb}
+use lib.ListN.{length, getD, take}
+use Rattle.sets.specs.Lists.{range}
+use Rattle.cases.specs.Action.{Action}
+use Rattle.cases.specs.Formula.{Formula}
+use Rattle.cases.specs.Prefix.{Node, actionAt, formulaAt}
+use Rattle.cases.specs.File.{Transition, stateCount, labelCount, initialState, transitionTable, actionTable, formulaTable}
+
+pub record Case : Type 0 where
+  pub states : ℕ
+  pub labels : ℕ
+  pub initial : ℕ
+  pub transitions : List Transition
+  pub formula : Formula
+
+-- the case of any bytes: the formula is the one at the formula table's first node
+unfoldable pub caseOf : List ℕ → Case
+caseOf b = record {
+  states = stateCount b;
+  labels = labelCount b;
+  initial = initialState b;
+  transitions = transitionTable b;
+  formula = formulaAt (actionAt (actionTable b)) (formulaTable b) 0;
+}
+
+-- whether two records are equal
+unfoldable pub sameTransition : Transition → Transition → Bool
+sameTransition x y = eqb (x .source) (y .source) && eqb (x .label) (y .label) && eqb (x .target) (y .target)
+
+-- how many records of a list equal x
+unfoldable pub copies : Transition → List Transition → ℕ
+copies x [] = 0
+copies x (y ∷ ys) = cond (sameTransition y x) 1 0 + copies x ys
+
+abbrev pub transitionAt : List Transition → ℕ → Transition
+transitionAt ts i = getD ts i (record { source = 0; label = 0; target = 0 })
+
+-- How many equal records stand before record i. The first of its kind is the one with 0.
+unfoldable pub copiesBefore : List Transition → ℕ → ℕ
+copiesBefore ts i = copies (transitionAt ts i) (take i ts)
+
+-- those elements of a list for which p holds
+unfoldable pub keep : {A : Type 0} → (A → Bool) → List A → List A
+keep p [] = []
+keep p (x ∷ xs) = cond (p x) (x ∷ keep p xs) (keep p xs)
+
+-- Equal records are one transition; distinct ones stand in order of first appearance.
+unfoldable pub distinct : List Transition → List Transition
+distinct ts = map (transitionAt ts) (keep (λ i. eqb (copiesBefore ts i) 0) (range 0 (length ts)))

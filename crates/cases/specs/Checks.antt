@@ -1,0 +1,43 @@
+-- What the functions that check a case ask and promise.
+use mathlib.Core.Path.{_≡_}
+use mathlib.Core.List.{List, map}
+use Prim.Native.Nat.{ℕ, _*_, _≤_}
+use lib.ListN.{length}
+use Rattle.sets.specs.Lists.{range}
+use Rattle.sets.specs.Size.{stateLimit}
+use Rattle.cases.specs.declared.Header.{Header}
+use Rattle.cases.specs.Limits.{labelLimit, transitionLimit, actionLimit, nodeLimit}
+use Rattle.cases.specs.Prefix.{Node}
+use Rattle.cases.specs.File.{u16, transitionsAt, actionsAt, formulaStart, fileEnd, headerOf, Transition, transitionIn, nodeIn}
+
+-- the first transitions, or nodes, of a part
+unfoldable pub transitionsIn : List ℕ → ℕ → List Transition
+transitionsIn part m = map (transitionIn part) (range 0 m)
+
+unfoldable pub nodesIn : List ℕ → ℕ → List Node
+nodesIn part k = map (nodeIn part) (range 0 k)
+
+-- a part holds k nodes, and they are not more than `limit`
+pub record Holds (limit : ℕ) (part : List ℕ) (k : ℕ) : Type 0 where
+  pub few : k ≤ limit
+  pub inside : 4 * k ≤ length part
+
+-- each count is in its range
+pub record Counts (h : Header) : Type 0 where
+  pub some-state : 1 ≤ h .states
+  pub few-states : h .states ≤ stateLimit
+  pub few-transitions : h .transitions ≤ transitionLimit
+  pub some-label : 1 ≤ h .labels
+  pub few-labels : h .labels ≤ labelLimit
+  pub few-actions : h .actions ≤ actionLimit
+  pub some-node : 1 ≤ h .nodes
+  pub few-nodes : h .nodes ≤ nodeLimit
+
+-- what holds of a case if conditions 1 to 5 do not, but for the version
+pub record Laid (b : List ℕ) : Type 0 where
+  pub header : 20 ≤ length b
+  pub counts : Counts (headerOf b)
+  pub first : u16 b 14 ≡ transitionsAt
+  pub second : u16 b 16 ≡ actionsAt b
+  pub third : u16 b 18 ≡ formulaStart b
+  pub ends : length b ≡ fileEnd b

@@ -1,0 +1,105 @@
+-- Conditions 1 to 10 of a case, in order.
+use mathlib.Core.Path.{_≡_}
+use mathlib.Core.Bool.{Bool, true, false, cond, not, _&&_, _||_}
+use mathlib.Core.List.{List, [], _∷_, _++_, map}
+use Prim.Native.Nat.{ℕ, zero, suc, _+_, _*_}
+use lib.Dec.{eqb, ltb, leb}
+use lib.ListN.{length, getD}
+use Rattle.sets.specs.Lists.{range, all, any}
+use Rattle.sets.specs.Size.{stateLimit}
+use Rattle.solver.specs.Limits.{blockLimit}
+use Rattle.solver.specs.Conditions.{between}
+use Rattle.solver.specs.Outcome.{firstOf}
+use Rattle.cases.specs.Limits.{labelLimit, transitionLimit, actionLimit, nodeLimit}
+use Rattle.cases.specs.Prefix.{Node, arityIn, actionArities, formulaArities, wholeFormulas, exactly, endOf}
+use Rattle.cases.specs.File.{u16, stateCount, transitionCount, labelCount, initialState, actionCount, nodeCount, transitionsAt, actionsAt, formulaStart, fileEnd, Transition, transitionTable, actionTable, formulaTable}
+
+-- 1: under 20 bytes
+unfoldable pub tooSmall : List ℕ → Bool
+tooSmall b = ltb (length b) 20
+
+-- 2: the version is not 1
+unfoldable pub otherVersion : List ℕ → Bool
+otherVersion b = not (eqb (u16 b 0) 1)
+
+-- 3: a count outside its range
+unfoldable pub badCount : List ℕ → Bool
+badCount b = not (all (λ test. test)
+    (between 1 stateLimit (stateCount b)
+    ∷ between 0 transitionLimit (transitionCount b)
+    ∷ between 1 labelLimit (labelCount b)
+    ∷ between 0 actionLimit (actionCount b)
+    ∷ between 1 nodeLimit (nodeCount b)
+    ∷ []))
+
+-- 4: an offset differs
+unfoldable pub badOffset : List ℕ → Bool
+badOffset b = not (eqb (u16 b 14) transitionsAt && eqb (u16 b 16) (actionsAt b) && eqb (u16 b 18) (formulaStart b))
+
+-- 5: the length differs
+unfoldable pub badLength : List ℕ → Bool
+badLength b = not (eqb (length b) (fileEnd b))
+
+-- 6: the initial state, a source or a target is not below n, or a label not below l
+abbrev pub transitionOk : ℕ → ℕ → Transition → Bool
+transitionOk n l t = ltb (t .source) n && ltb (t .label) l && ltb (t .target) n
+
+unfoldable pub badModel : List ℕ → Bool
+badModel b = not (ltb (initialState b) (stateCount b) && all (transitionOk (stateCount b) (labelCount b)) (transitionTable b))
+
+-- 7: an action node's kind or argument, or no whole formulas. The argument of a label (2) is a label, of any other kind 0.
+abbrev pub actionOk : ℕ → Node → Bool
+actionOk l x = leb (x .kind) 6 && cond (eqb (x .kind) 2) (ltb (x .arg) l) (eqb (x .arg) 0)
+
+unfoldable pub badActions : List ℕ → Bool
+badActions b = not (all (actionOk (labelCount b)) (actionTable b) && wholeFormulas 0 (map (arityIn actionArities) (actionTable b)))
+
+-- 8: a formula node's kind or argument, or not one whole formula. A box (4) or diamond (5) has an action node, a variable (6) is
+-- exempt, and the argument of any other kind is 0. It looks at the formula table and the number of action nodes only.
+abbrev pub nodeOk : ℕ → Node → Bool
+nodeOk a x = leb (x .kind) 8 && cond (eqb (x .kind) 6) true (cond (eqb (x .kind) 4 || eqb (x .kind) 5) (ltb (x .arg) a) (eqb (x .arg) 0))
+
+unfoldable pub badFormula : ℕ → List Node → Bool
+badFormula a table = not (all (nodeOk a) table && exactly 1 (map (arityIn formulaArities) table))
+
+-- 9: a variable whose argument is not a mu (7) or nu (8) node with that variable in its subtree
+abbrev pub isBinder : Node → Bool
+isBinder x = eqb (x .kind) 7 || eqb (x .kind) 8
+
+abbrev pub nodeAt : List Node → ℕ → Node
+nodeAt table i = getD table i (record { kind = 0; arg = 0 })
+
+unfoldable pub boundOk : List Node → ℕ → Bool
+boundOk table i =
+    let j : ℕ = nodeAt table i .arg in
+    not (eqb (nodeAt table i .kind) 6) || (isBinder (nodeAt table j) && ltb j i && ltb i (endOf (map (arityIn formulaArities) table) j))
+
+unfoldable pub badVariable : List Node → Bool
+badVariable table = not (all (boundOk table) (range 0 (length table)))
+
+-- 10: more than six blocks. Blocks are the binders, and one more if the root is none.
+unfoldable pub binderCount : List Node → ℕ
+binderCount [] = 0
+binderCount (x ∷ xs) = cond (isBinder x) 1 0 + binderCount xs
+
+unfoldable pub blockCount : List Node → ℕ
+blockCount table = cond (isBinder (nodeAt table 0)) 0 1 + binderCount table
+
+unfoldable pub tooDeep : List Node → Bool
+tooDeep table = ltb blockLimit (blockCount table)
+
+-- Conditions 1 to 7 are of the model and the action table, 8 to 10 of a formula table.
+unfoldable pub modelConditions : List ℕ → List (ℕ × Bool)
+modelConditions b =
+    (1, tooSmall b) ∷ (2, otherVersion b) ∷ (3, badCount b) ∷ (4, badOffset b) ∷ (5, badLength b) ∷ (6, badModel b) ∷ (7, badActions b) ∷ []
+
+unfoldable pub formulaConditions : ℕ → List Node → List (ℕ × Bool)
+formulaConditions a table = (8, badFormula a table) ∷ (9, badVariable table) ∷ (10, tooDeep table) ∷ []
+
+-- the number of the first condition that holds, or 0
+unfoldable pub caseRefusal : List ℕ → ℕ
+caseRefusal b = firstOf (modelConditions b ++ formulaConditions (actionCount b) (formulaTable b))
+
+-- A case is accepted if no condition on its own bytes holds.
+abbrev pub Accepted : List ℕ → Type 0
+Accepted b = caseRefusal b ≡ 0

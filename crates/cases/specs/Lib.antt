@@ -1,0 +1,12 @@
+-- What the contracts of this crate say: the case file, its conditions, action formulas, formulas and their meaning.
+pub mod Limits
+pub mod Action
+pub mod Formula
+pub mod Prefix
+pub mod File
+pub mod Case
+pub mod Conditions
+pub mod Meaning
+pub mod Masks
+pub mod Checks
+pub mod Examples

@@ -1,0 +1,447 @@
+// Conditions 1 to 10.
+use crate::Node;
+use crate::Transition;
+use crate::file::HEADER;
+use crate::file::header;
+use crate::file::node_at;
+use crate::file::number_at;
+use crate::file::transition_at;
+ghost use mathlib.Core.Path.{_≡_};
+ghost use mathlib.Core.Bool.{cond, not};
+ghost use mathlib.Core.List.{map};
+ghost use Prim.Native.Nat.{_-_, _*_, _≤_, _<_};
+ghost use lib.ListN.{length, getD};
+ghost use Rattle.sets.specs.Lists.{range, all};
+ghost use Rattle.solver.specs.Conditions.{between};
+ghost use Rattle.solver.specs.Outcome.{firstOf};
+ghost use Rattle.cases.specs.Limits.{actionLimit, nodeLimit};
+ghost use Rattle.cases.specs.Prefix.{arityIn, actionArities, formulaArities, wholeFormulas, exactly, endOf};
+ghost use Rattle.cases.specs.File.{headerOf};
+ghost use Rattle.cases.specs.Conditions.{badCount, badOffset, badLength, badModel, badActions, badFormula, badVariable, tooDeep};
+ghost use Rattle.cases.specs.Conditions.{transitionOk, actionOk, nodeOk, boundOk, isBinder, binderCount};
+ghost use Rattle.cases.specs.Conditions.{modelConditions, formulaConditions, caseRefusal};
+ghost use Rattle.cases.specs.Checks.{transitionsIn, nodesIn, Counts, Laid, Holds};
+
+// Whether a count is below `low` or above `high`.
+fn outside(low: usize, high: usize, count: usize) -> bool
+    ensures { λ r. ⌜ r ≡ not (between low high count) ⌝ }
+{
+    if count < low {
+        return true;
+    }
+    high < count
+}
+
+// Condition 3, of a case with a header.
+fn bad_count(case: &[u8]) -> bool
+    requires { ⌜ 20 ≤ length (now case) ⌝ }
+    ensures { λ r. ⌜ r ≡ badCount (now (case .entry)) ⌝ }
+{
+    let h = header(case);
+    if outside(1, sets::STATES, h.states) {
+        return true;
+    }
+    if outside(0, crate::TRANSITIONS, h.transitions) {
+        return true;
+    }
+    if outside(1, crate::LABELS, h.labels) {
+        return true;
+    }
+    if outside(0, crate::ACTIONS, h.actions) {
+        return true;
+    }
+    outside(1, crate::NODES, h.nodes)
+}
+
+// Condition 4, where the counts are in range.
+fn bad_offset(case: &[u8]) -> bool
+    requires { ⌜ 20 ≤ length (now case) ⌝ ∗ ⌜ Counts (headerOf (now case)) ⌝ }
+    ensures { λ r. ⌜ r ≡ badOffset (now (case .entry)) ⌝ }
+{
+    let h = header(case);
+    if h.first != HEADER {
+        return true;
+    }
+    if h.second != HEADER + 6 * h.transitions {
+        return true;
+    }
+    h.third != HEADER + 6 * h.transitions + 4 * h.actions
+}
+
+// Condition 5, where the counts are in range.
+fn bad_length(case: &[u8]) -> bool
+    requires { ⌜ 20 ≤ length (now case) ⌝ ∗ ⌜ Counts (headerOf (now case)) ⌝ }
+    ensures { λ r. ⌜ r ≡ badLength (now (case .entry)) ⌝ }
+{
+    let h = header(case);
+    case.len() != HEADER + 6 * h.transitions + 4 * h.actions + 4 * h.nodes
+}
+
+// Whether the ends of a transition are below n, and its label below l.
+fn transition_holds(t: Transition, n: usize, l: usize) -> bool
+    ensures { λ r. ⌜ r ≡ transitionOk n l t ⌝ }
+{
+    if n <= t.source {
+        return false;
+    }
+    if l <= t.label {
+        return false;
+    }
+    t.target < n
+}
+
+// Whether that holds of each of the m transitions of a part.
+fn transitions_hold(part: &[u8], m: usize, n: usize, l: usize) -> bool
+    requires { ⌜ 6 * m ≤ length (now part) ⌝ }
+    ensures { λ r. ⌜ r ≡ all (transitionOk n l) (transitionsIn (now (part .entry)) m) ⌝ }
+{
+    let mut i = 0;
+    while i < m {
+        if !transition_holds(transition_at(part, i), n, l) {
+            return false;
+        }
+        i += 1;
+    }
+    true
+}
+
+// Condition 6, where 1 to 5 do not hold.
+fn bad_model(case: &[u8]) -> bool
+    requires { ⌜ Laid (now case) ⌝ }
+    ensures { λ r. ⌜ r ≡ badModel (now (case .entry)) ⌝ }
+{
+    let h = header(case);
+    if h.states <= h.initial {
+        return true;
+    }
+    let first = h.first;
+    !transitions_hold(&case[first..], h.transitions, h.states, h.labels)
+}
+
+// One less, or 0.
+fn one_less(due: usize) -> usize
+    ensures { λ r. ⌜ r ≡ due - 1 ⌝ }
+{
+    if due == 0 {
+        return 0;
+    }
+    due - 1
+}
+
+// How many operands an action kind has.
+fn action_arity(kind: usize) -> usize
+    ensures { λ r. ⌜ (r ≡ getD actionArities kind 0) × (r ≤ 2) ⌝ }
+{
+    if kind < 3 {
+        return 0;
+    }
+    if kind == 3 {
+        return 1;
+    }
+    if kind < 7 {
+        return 2;
+    }
+    0
+}
+
+// Whether the kind and the argument of an action node are right, with l labels.
+fn action_holds(x: Node, l: usize) -> bool
+    ensures { λ r. ⌜ r ≡ actionOk l x ⌝ }
+{
+    if 6 < x.kind {
+        return false;
+    }
+    if x.kind == 2 {
+        return x.arg < l;
+    }
+    x.arg == 0
+}
+
+// Whether that holds of each of the a nodes of a part.
+fn actions_hold(part: &[u8], a: usize, l: usize) -> bool
+    requires { ⌜ Holds actionLimit (now part) a ⌝ }
+    ensures { λ r. ⌜ r ≡ all (actionOk l) (nodesIn (now (part .entry)) a) ⌝ }
+{
+    let mut i = 0;
+    while i < a {
+        if !action_holds(node_at(part, i), l) {
+            return false;
+        }
+        i += 1;
+    }
+    true
+}
+
+// Whether the a nodes of a part are whole formulas. Where a formula begins none is due, and its root stands for itself.
+fn actions_whole(part: &[u8], a: usize) -> bool
+    requires { ⌜ Holds actionLimit (now part) a ⌝ }
+    ensures { λ r. ⌜ r ≡ wholeFormulas 0 (map (arityIn actionArities) (nodesIn (now (part .entry)) a)) ⌝ }
+{
+    let mut due = 0;
+    let mut i = 0;
+    while i < a {
+        let x = node_at(part, i);
+        due = one_less(due) + action_arity(x.kind);
+        i += 1;
+    }
+    due == 0
+}
+
+// Condition 7, where 1 to 5 do not hold.
+fn bad_actions(case: &[u8]) -> bool
+    requires { ⌜ Laid (now case) ⌝ }
+    ensures { λ r. ⌜ r ≡ badActions (now (case .entry)) ⌝ }
+{
+    let h = header(case);
+    let second = h.second;
+    if !actions_hold(&case[second..], h.actions, h.labels) {
+        return true;
+    }
+    !actions_whole(&case[second..], h.actions)
+}
+
+// The first of conditions 1 to 7 that holds, or 0.
+fn model_refusal(case: &[u8]) -> u8
+    ensures { λ r. ⌜ r ≡ firstOf (modelConditions (now (case .entry))) ⌝ }
+{
+    if case.len() < HEADER {
+        return 1;
+    }
+    if number_at(case, 0) != 1 {
+        return 2;
+    }
+    if bad_count(case) {
+        return 3;
+    }
+    if bad_offset(case) {
+        return 4;
+    }
+    if bad_length(case) {
+        return 5;
+    }
+    if bad_model(case) {
+        return 6;
+    }
+    if bad_actions(case) {
+        return 7;
+    }
+    0
+}
+
+// How many operands a formula kind has.
+fn formula_arity(kind: usize) -> usize
+    ensures { λ r. ⌜ (r ≡ getD formulaArities kind 0) × (r ≤ 2) ⌝ }
+{
+    if kind < 2 {
+        return 0;
+    }
+    if kind < 4 {
+        return 2;
+    }
+    if kind == 6 {
+        return 0;
+    }
+    if kind < 9 {
+        return 1;
+    }
+    0
+}
+
+// Whether the kind and the argument of a formula node are right, with a action nodes.
+fn node_holds(x: Node, a: usize) -> bool
+    ensures { λ r. ⌜ r ≡ nodeOk a x ⌝ }
+{
+    if 8 < x.kind {
+        return false;
+    }
+    if x.kind == 6 {
+        return true;
+    }
+    if x.kind == 4 {
+        return x.arg < a;
+    }
+    if x.kind == 5 {
+        return x.arg < a;
+    }
+    x.arg == 0
+}
+
+// Whether that holds of each of the f nodes of a part.
+fn nodes_hold(part: &[u8], f: usize, a: usize) -> bool
+    requires { ⌜ Holds nodeLimit (now part) f ⌝ }
+    ensures { λ r. ⌜ r ≡ all (nodeOk a) (nodesIn (now (part .entry)) f) ⌝ }
+{
+    let mut i = 0;
+    while i < f {
+        if !node_holds(node_at(part, i), a) {
+            return false;
+        }
+        i += 1;
+    }
+    true
+}
+
+// Whether the f nodes of a part are one whole formula.
+fn one_formula(part: &[u8], f: usize) -> bool
+    requires { ⌜ Holds nodeLimit (now part) f ⌝ }
+    ensures { λ r. ⌜ r ≡ exactly 1 (map (arityIn formulaArities) (nodesIn (now (part .entry)) f)) ⌝ }
+{
+    let mut due = 1;
+    let mut i = 0;
+    while i < f {
+        if due == 0 {
+            return false;
+        }
+        let x = node_at(part, i);
+        due = due - 1 + formula_arity(x.kind);
+        i += 1;
+    }
+    due == 0
+}
+
+// Condition 8.
+fn bad_formula(actions: usize, part: &[u8], f: usize) -> bool
+    requires { ⌜ Holds nodeLimit (now part) f ⌝ }
+    ensures { λ r. ⌜ r ≡ badFormula actions (nodesIn (now (part .entry)) f) ⌝ }
+{
+    if !nodes_hold(part, f, actions) {
+        return true;
+    }
+    !one_formula(part, f)
+}
+
+// The node after the subtree of a node.
+pub fn subtree_end(part: &[u8], f: usize, at: usize) -> usize
+    requires { ⌜ Holds nodeLimit (now part) f ⌝ }
+    ensures { λ r. ⌜ r ≡ endOf (map (arityIn formulaArities) (nodesIn (now (part .entry)) f)) at ⌝ }
+{
+    let mut due = 1;
+    let mut i = at;
+    while i < f {
+        if due == 0 {
+            return i;
+        }
+        let x = node_at(part, i);
+        due = due - 1 + formula_arity(x.kind);
+        i += 1;
+    }
+    i
+}
+
+// Whether a node is a mu or a nu.
+pub fn is_binder(x: Node) -> bool
+    ensures { λ r. ⌜ r ≡ isBinder x ⌝ }
+{
+    if x.kind == 7 {
+        return true;
+    }
+    x.kind == 8
+}
+
+// Whether node i stands in the subtree of its binder, if it is a variable.
+fn variable_bound(part: &[u8], f: usize, i: usize) -> bool
+    requires { ⌜ Holds nodeLimit (now part) f ⌝ ∗ ⌜ i < f ⌝ }
+    ensures { λ r. ⌜ r ≡ boundOk (nodesIn (now (part .entry)) f) i ⌝ }
+{
+    let x = node_at(part, i);
+    if x.kind != 6 {
+        return true;
+    }
+    let j = x.arg;
+    if i <= j {
+        return false;
+    }
+    if !is_binder(node_at(part, j)) {
+        return false;
+    }
+    i < subtree_end(part, f, j)
+}
+
+// Whether every variable stands in the subtree of its binder.
+fn variables_bound(part: &[u8], f: usize) -> bool
+    requires { ⌜ Holds nodeLimit (now part) f ⌝ }
+    ensures { λ r. ⌜ r ≡ all (boundOk (nodesIn (now (part .entry)) f)) (range 0 f) ⌝ }
+{
+    let mut i = 0;
+    while i < f {
+        if !variable_bound(part, f, i) {
+            return false;
+        }
+        i += 1;
+    }
+    true
+}
+
+// Condition 9.
+fn bad_variable(part: &[u8], f: usize) -> bool
+    requires { ⌜ Holds nodeLimit (now part) f ⌝ }
+    ensures { λ r. ⌜ r ≡ badVariable (nodesIn (now (part .entry)) f) ⌝ }
+{
+    !variables_bound(part, f)
+}
+
+// 1 for a mu or a nu, 0 for another node.
+fn one_if_binder(x: Node) -> usize
+    ensures { λ r. ⌜ (r ≡ cond (isBinder x) 1 0) × (r ≤ 1) ⌝ }
+{
+    if is_binder(x) {
+        return 1;
+    }
+    0
+}
+
+// How many binders there are.
+pub fn binders(part: &[u8], f: usize) -> usize
+    requires { ⌜ Holds nodeLimit (now part) f ⌝ }
+    ensures { λ r. ⌜ (r ≡ binderCount (nodesIn (now (part .entry)) f)) × (r ≤ f) ⌝ }
+{
+    let mut count = 0;
+    let mut i = 0;
+    while i < f {
+        count += one_if_binder(node_at(part, i));
+        i += 1;
+    }
+    count
+}
+
+// Condition 10.
+fn too_deep(part: &[u8], f: usize) -> bool
+    requires { ⌜ Holds nodeLimit (now part) f ⌝ ∗ ⌜ 1 ≤ f ⌝ }
+    ensures { λ r. ⌜ r ≡ tooDeep (nodesIn (now (part .entry)) f) ⌝ }
+{
+    let count = binders(part, f);
+    if is_binder(node_at(part, 0)) {
+        return solver::BLOCKS < count;
+    }
+    solver::BLOCKS < count + 1
+}
+
+// The first of conditions 8 to 10 that holds of the f nodes of a part, or 0.
+fn formula_refusal(actions: usize, part: &[u8], f: usize) -> u8
+    requires { ⌜ Holds nodeLimit (now part) f ⌝ ∗ ⌜ 1 ≤ f ⌝ }
+    ensures { λ r. ⌜ r ≡ firstOf (formulaConditions actions (nodesIn (now (part .entry)) f)) ⌝ }
+{
+    if bad_formula(actions, part, f) {
+        return 8;
+    }
+    if bad_variable(part, f) {
+        return 9;
+    }
+    if too_deep(part, f) {
+        return 10;
+    }
+    0
+}
+
+// The first of conditions 1 to 10 that holds of a case, or 0.
+pub fn refusal(case: &[u8]) -> u8
+    ensures { λ r. ⌜ r ≡ caseRefusal (now (case .entry)) ⌝ }
+{
+    let first = model_refusal(case);
+    if first != 0 {
+        return first;
+    }
+    let h = header(case);
+    let third = h.third;
+    formula_refusal(h.actions, &case[third..], h.nodes)
+}

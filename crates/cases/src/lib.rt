@@ -1,0 +1,49 @@
+// Case files: their tables and their conditions.
+mod actions;
+mod conditions;
+mod file;
+mod transitions;
+
+pub use actions::accepted_labels;
+pub use conditions::binders;
+pub use conditions::is_binder;
+pub use conditions::refusal;
+pub use conditions::subtree_end;
+pub use file::header as header_of;
+pub use file::node_at;
+pub use file::transition_at;
+pub use transitions::is_first;
+
+pub const LABELS: usize = 64;
+
+pub const TRANSITIONS: usize = 2048;
+
+pub const ACTIONS: usize = 128;
+
+pub const NODES: usize = 64;
+
+// The counts of a case, its initial state, and the offsets of its tables.
+pub struct Header {
+    pub states: usize,
+    pub transitions: usize,
+    pub labels: usize,
+    pub initial: usize,
+    pub actions: usize,
+    pub nodes: usize,
+    pub first: usize,
+    pub second: usize,
+    pub third: usize,
+}
+
+// A transition: source, label, target.
+pub struct Transition {
+    pub source: usize,
+    pub label: usize,
+    pub target: usize,
+}
+
+// A node of the action or formula table: kind, argument.
+pub struct Node {
+    pub kind: usize,
+    pub arg: usize,
+}

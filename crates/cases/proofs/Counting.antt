@@ -29,7 +29,7 @@ same-sum (suc zero) a b c d h p q = p (omega arith)
 same-sum (suc (suc m)) a b c d h p q = ap₂ _+_ (p (omega arith)) (q (omega arith))
 
 -- a formula node has at most two operands
-arity-small : (k : ℕ) → k ≤ 8 → getD formulaArities k 0 ≤ 2
+pub arity-small : (k : ℕ) → k ≤ 8 → getD formulaArities k 0 ≤ 2
 arity-small = each-kind (λ k. getD formulaArities k 0 ≤ 2)
     (omega arith) (omega arith) (omega arith) (omega arith) (omega arith) (omega arith) (omega arith) (omega arith) (omega arith)
 

@@ -11,6 +11,7 @@ pub use conditions::refusal;
 pub use conditions::subtree_end;
 pub use file::header as header_of;
 pub use file::node_at;
+pub use file::number_at;
 pub use file::transition_at;
 pub use transitions::is_first;
 

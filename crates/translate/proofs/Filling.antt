@@ -1,0 +1,109 @@
+-- The parts of an equation file, written one behind another.
+use mathlib.Core.Path.{_≡_, refl, sym, ap, _∙_, subst}
+use mathlib.Core.Bool.{Bool, true, false, cond}
+use mathlib.Core.List.{List, [], _∷_, _++_, append-assoc}
+use Prim.Native.Nat.{ℕ, _+_, _-_, _*_, _≤_, _<_}
+use native.Mathlib.Omega.{arith}
+use native.Mathlib.Nat.{mul-le-mul}
+use lib.Dec.{ltb}
+use lib.ListN.{length, take, drop, length-append}
+use borrow.Author.Tests.{lt-ltb, le-ltb}
+use Rattle.sets.specs.Size.{stateLimit}
+use Rattle.cases.specs.declared.Transition.{Transition}
+use Rattle.translate.specs.declared.Shape.{Shape}
+use Rattle.translate.specs.declared.Written.{Written}
+use Rattle.translate.specs.declared.Written.the-variants.{File, Refused}
+use Rattle.translate.specs.Bytes.{System, allOperands, blockNumbers, cellNumbers, numbers, bytes}
+use Rattle.translate.specs.Shapes.{shapeBlocks, shapeCells}
+use Rattle.translate.specs.Parts.{Wrote, WroteAt, WroteAll, WroteCells, distinctIn}
+use Rattle.translate.specs.Sources.{Sources, Sized, shapeSystem, Emitted}
+use Rattle.translate.proofs.Putting.{wrote-lent, wrote-more, length-bytes}
+use Rattle.translate.proofs.ReadBack.{length-file, length-cellNumbers}
+use Rattle.translate.proofs.BlockParts.{length-block-numbers}
+use Rattle.translate.proofs.NodeParts.{length-cells-to}
+
+-- the header of a file of some equations
+abbrev header : ℕ → ℕ → ℕ → ℕ → ℕ → List ℕ
+header n d c p initial = 1 ∷ n ∷ d ∷ c ∷ p ∷ initial ∷ 36 ∷ (36 + 8 * d) ∷ (36 + 8 * d + 12 * c) ∷ []
+
+-- header, blocks, cells and operands, each written into the part that starts where the one before ends
+module _ (y : System) {c d p room : ℕ} (sized : Sized y c d p room) where
+  pub filled : {s t u v w : List ℕ} → Wrote (header (y .states) d c p (y .initial)) s t → WroteAt 36 (blockNumbers (y .blocks)) t u
+      → WroteAt (36 + 8 * d) (cellNumbers 0 (y .cells)) u v → WroteAt (36 + 8 * d + 12 * c) (allOperands (y .cells)) v w → Wrote (numbers y) s w
+  unfolding numbers
+  filled {s} {t} {u} {v} {w} a b e f =
+      let h : List ℕ = header (y .states) d c p (y .initial) in
+      let x : List ℕ = blockNumbers (y .blocks) in
+      let z : List ℕ = cellNumbers 0 (y .cells) in
+      let lx : length x ≡ 2 * d = length-block-numbers (y .blocks) ∙ ap (λ (k : ℕ). 2 * k) (sym (sized .blocks)) in
+      let lz : length z ≡ 3 * c = length-cellNumbers 0 (y .cells) ∙ ap (λ (k : ℕ). 3 * k) (sym (sized .cells)) in
+      let two : Wrote (h ++ x) s u = wrote-more refl a b in
+      let three : Wrote ((h ++ x) ++ z) s v = wrote-more (omega (arith, length-append h x, lx)) two e in
+      let four : Wrote (((h ++ x) ++ z) ++ allOperands (y .cells)) s w = wrote-more (omega (arith, length-append (h ++ x) z, length-append h x, lx, lz)) three f in
+      let o : List ℕ = allOperands (y .cells) in
+      rw (sym (sized .blocks), sym (sized .cells), sym (sized .operands))
+      (subst (λ (l : List ℕ). Wrote l s w) (append-assoc (h ++ x) z o ∙ append-assoc h x (z ++ o)) four)
+
+  -- the file's length
+  pub file-length : length (bytes (numbers y)) ≡ 36 + 8 * d + 12 * c + 4 * p
+  file-length = rw (sized .blocks, sized .cells, sized .operands) (length-file y)
+
+  -- there is no room for the file, or it is written
+  pub short : {s : List ℕ} → length s < 36 + 8 * d + 12 * c + 4 * p → Emitted y s (Refused 13) s
+  short {s} h =
+      let no : ltb (length s) (length (bytes (numbers y))) ≡ true = lt-ltb (length s) (length (bytes (numbers y))) (rw file-length h) in
+      record { answer = rw no; written = rw no }
+
+  pub done : {s t : List ℕ} → 36 + 8 * d + 12 * c + 4 * p ≤ length s → Wrote (numbers y) s t → Emitted y s (File (36 + 8 * d + 12 * c + 4 * p)) t
+  done {s} {t} h w =
+      let yes : ltb (length s) (length (bytes (numbers y))) ≡ false = le-ltb (length s) (length (bytes (numbers y))) (rw file-length h) in
+      record { answer = rw (yes, file-length); written = w .exact ∙ rw (yes, length-bytes (numbers y)) }
+
+-- the sizes of what nodes with shapes give
+module _ {part first : List ℕ} {m : ℕ} {shapes : List Shape} {k n : ℕ} (src : Sources part first m shapes k n) where
+  abbrev ts : List Transition
+  ts = distinctIn part first m
+
+  -- so many cells fit
+  pub cells-few : k * n ≤ 16640
+  cells-few = mul-le-mul (src .few-nodes) (src .few-states)
+
+  -- counted sizes are those of the equations
+  pub sizes : (initial : ℕ) {d p room : ℕ} → d ≡ length (shapeBlocks n 0 (take k shapes)) → d ≤ k → p ≡ length (allOperands (shapeCells n ts 0 (take k shapes)))
+      → 36 + 8 * d + 12 * (k * n) + 4 * p ≤ room → Sized (shapeSystem n initial ts (take k shapes)) (k * n) d p room
+  unfolding shapeSystem
+  sizes initial b l o r = record {
+    blocks = b;
+    cells = sym (length-cells-to n ts shapes k (src .held));
+    operands = o;
+    few-blocks = omega (arith, l, src .few-nodes);
+    roomy = r;
+  }
+
+  -- in a buffer that has just room
+  pub sizes-just : (initial : ℕ) {d p : ℕ} → d ≡ length (shapeBlocks n 0 (take k shapes)) → d ≤ k → p ≡ length (allOperands (shapeCells n ts 0 (take k shapes)))
+      → Sized (shapeSystem n initial ts (take k shapes)) (k * n) d p (36 + 8 * d + 12 * (k * n) + 4 * p)
+  sizes-just initial b l o = sizes initial b l o (omega arith)
+
+  module _ (initial : ℕ) {d p room : ℕ} (sized : Sized (shapeSystem n initial ts (take k shapes)) (k * n) d p room) where
+    pub blocks-are : d ≡ length (shapeBlocks n 0 (take k shapes))
+    unfolding shapeSystem
+    blocks-are = sized .blocks
+
+    pub operands-are : p ≡ length (allOperands (shapeCells n ts 0 (take k shapes)))
+    unfolding shapeSystem
+    operands-are = sized .operands
+
+    -- the parts of the file, written into the parts of a buffer
+    pub filled-parts : {s t a b e : List ℕ} → Wrote (header n d (k * n) p initial) s t
+        → {q : ℕ} → WroteAll (blockNumbers (shapeBlocks n 0 (take k shapes))) (take (length t - 36) (drop 36 t)) a q
+        → {u : List ℕ} → u ≡ take 36 t ++ (a ++ drop (length t - 36) (drop 36 t))
+        → {used : ℕ} → WroteCells 0 (shapeCells n ts 0 (take k shapes)) (take (length u - (36 + 8 * d)) (drop (36 + 8 * d) u)) b used
+        → {v : List ℕ} → v ≡ take (36 + 8 * d) u ++ (b ++ drop (length u - (36 + 8 * d)) (drop (36 + 8 * d) u))
+        → {count : ℕ} → WroteAll (allOperands (shapeCells n ts 0 (take k shapes))) (take (length v - (36 + 8 * d + 12 * (k * n))) (drop (36 + 8 * d + 12 * (k * n)) v)) e count
+        → Wrote (numbers (shapeSystem n initial ts (take k shapes))) s
+        (take (36 + 8 * d + 12 * (k * n)) v ++ (e ++ drop (length v - (36 + 8 * d + 12 * (k * n))) (drop (36 + 8 * d + 12 * (k * n)) v)))
+    unfolding shapeSystem
+    filled-parts {t = t} h w {u} x y {v} z o =
+        filled (shapeSystem n initial ts (take k shapes)) sized h (subst (WroteAt 36 _ t) (sym x) (wrote-lent 36 (w .wrote)))
+        (subst (WroteAt (36 + 8 * d) _ u) (sym z) (wrote-lent (36 + 8 * d) (y .wrote))) (wrote-lent (36 + 8 * d + 12 * (k * n)) (o .wrote))

@@ -1,0 +1,26 @@
+-- Laws of the crate's definitions.
+pub mod NumberBytes
+pub mod AllLaws
+pub mod Counts
+pub mod Rules
+pub mod Closing
+pub mod ReadBack
+pub mod Formed
+pub mod CaseFile
+pub mod Unfold
+pub mod Equations
+pub mod BinderNodes
+pub mod TableShapes
+pub mod AcceptedCases
+pub mod Putting
+pub mod ShapeLaws
+pub mod Translations
+pub mod FirstAppearances
+pub mod ShapeFields
+pub mod BlockParts
+pub mod NodeParts
+pub mod CaseSources
+pub mod Filling
+pub mod TotalLaws
+pub mod RowLaws
+pub mod CaseParts

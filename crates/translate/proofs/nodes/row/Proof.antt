@@ -1,0 +1,15 @@
+-- `translate::nodes::row` meets its contract. Assumes nothing.
+use mathlib.Core.Path.{refl}
+use native.Mathlib.Nat.{mul-le-mul}
+use native.Mathlib.Omega.{arith}
+use Rattle.translate.proofs.nodes.row.Statement.{statement}
+use Rattle.translate.proofs.nodes.row.Tie as tie
+
+mul-result : tie.Need-mul-result
+mul-result c = omega (arith, mul-le-mul (c .pre .0) (c .pre .1))
+
+returns : tie.Need-returns
+returns c = (refl, omega (arith, mul-le-mul (c .pre .0) (c .pre .1)))
+
+pub row-spec : {M : Type 1} → statement M
+row-spec = tie.close (tie.spec mul-result returns)

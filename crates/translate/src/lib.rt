@@ -1,0 +1,129 @@
+// Writing the equation file of a case.
+mod blocks;
+mod bytes;
+mod nodes;
+mod rows;
+mod shapes;
+mod totals;
+
+use blocks::block_count;
+use blocks::write_blocks;
+use bytes::put_header;
+use cases::header_of;
+use rows::write_all_cells;
+use rows::write_all_operands;
+use shapes::SHAPES;
+use shapes::added_before;
+use shapes::first_appearances;
+use shapes::shapes_of;
+use totals::operand_total;
+ghost use mathlib.Core.Path.{_≡_};
+ghost use Prim.Native.Nat.{_+_, _*_, _≤_};
+ghost use lib.ListN.{length, take};
+ghost use Rattle.cases.specs.Conditions.{Accepted};
+ghost use Rattle.translate.specs.Bytes.{numbers};
+ghost use Rattle.translate.specs.Parts.{Wrote, distinctIn};
+ghost use Rattle.translate.specs.Sources.{Sources, Sized, shapeSystem, Emitted};
+ghost use Rattle.translate.specs.Translating.{Translated};
+
+// The length of the file that was written, or the number of the refusal.
+pub enum Written {
+    File(usize),
+    Refused(u8),
+}
+
+// What the writers need of a node: its kind as in the formula table, the node of a second operand, the block of a binder or variable,
+// and the labels that a box or diamond accepts, bit x for label x. What a kind does not have is 0.
+pub struct Shape {
+    pub kind: usize,
+    pub second: usize,
+    pub block: usize,
+    pub labels: u64,
+}
+
+// The equations of k nodes, with n states, written to a buffer that has room for them; there are d blocks and p operands.
+fn fill(
+    out: &mut [u8],
+    part: &[u8],
+    first: &[u8],
+    m: usize,
+    shapes: [Shape; SHAPES],
+    k: usize,
+    n: usize,
+    initial: usize,
+    d: usize,
+    p: usize,
+)
+    requires { ⌜ Sources (now part) (now first) m shapes k n ⌝ ∗ ⌜ Sized (shapeSystem n initial (distinctIn (now part) (now first) m) (take k shapes)) (k * n) d p (length (now out)) ⌝ }
+    ensures { λ _. ⌜ Wrote (numbers (shapeSystem n initial (distinctIn (now (part .entry)) (now (first .entry)) m) (take k shapes)))
+        (now (out .entry)) (now (out .exit)) ⌝ }
+{
+    let c = k * n;
+    put_header(out, n, d, c, p, initial);
+    let blocks = 36;
+    write_blocks(&mut out[blocks..], n, shapes, k);
+    let cells = blocks + 8 * d;
+    write_all_cells(&mut out[cells..], part, first, m, n, shapes, k);
+    let operands = cells + 12 * c;
+    write_all_operands(&mut out[operands..], part, first, m, n, shapes, k);
+}
+
+// The equations of k nodes, with n states, if there is room.
+fn emit(
+    out: &mut [u8],
+    part: &[u8],
+    first: &[u8],
+    m: usize,
+    shapes: [Shape; SHAPES],
+    k: usize,
+    n: usize,
+    initial: usize,
+) -> Written
+    requires { ⌜ Sources (now part) (now first) m shapes k n ⌝ }
+    ensures { λ w. ⌜ Emitted (shapeSystem n initial (distinctIn (now (part .entry)) (now (first .entry)) m) (take k shapes))
+        (now (out .entry)) w (now (out .exit)) ⌝ }
+{
+    let d = block_count(shapes, k);
+    let p = operand_total(part, first, m, n, shapes, k);
+    let size = 36 + 8 * d + 12 * (k * n) + 4 * p;
+    if out.len() < size {
+        return Written::Refused(13);
+    }
+    fill(out, part, first, m, shapes, k, n, initial, d, p);
+    Written::File(size)
+}
+
+// The equation file of an accepted case. First appearances are found once, and the labels that a node accepts once.
+fn write_case(case: &[u8], out: &mut [u8]) -> Written
+    requires { ⌜ Accepted (now case) ⌝ }
+    ensures { λ w. ⌜ Translated (now (case .entry)) (now (out .entry)) w (now (out .exit)) ⌝ }
+{
+    let h = header_of(case);
+    let records = h.first;
+    let actions = h.second;
+    let formula = h.third;
+    let first = first_appearances(&case[records..], h.transitions);
+    let shapes = shapes_of(&case[actions..], h.actions, &case[formula..], h.nodes);
+    let k = added_before(&case[formula..], h.nodes) + h.nodes;
+    emit(
+        out,
+        &case[records..],
+        &first,
+        h.transitions,
+        shapes,
+        k,
+        h.states,
+        h.initial,
+    )
+}
+
+// Writes the equation file of a case to the start of a buffer.
+pub fn translate(case: &[u8], out: &mut [u8]) -> Written
+    ensures { λ w. ⌜ Translated (now (case .entry)) (now (out .entry)) w (now (out .exit)) ⌝ }
+{
+    let cause = cases::refusal(case);
+    if cause != 0 {
+        return Written::Refused(cause);
+    }
+    write_case(case, out)
+}

@@ -1,0 +1,155 @@
+// Reading a case's tables: which transitions are the first of their kind, and the shape of each node.
+use crate::Shape;
+use cases::TRANSITIONS;
+ghost use mathlib.Core.Path.{_≡_};
+ghost use mathlib.Core.Bool.{cond, _||_};
+ghost use Prim.Native.Nat.{ℕ, _+_, _*_, _<_, _≤_};
+ghost use lib.Dec.{eqb};
+ghost use lib.ListN.{length};
+ghost use Rattle.sets.specs.Words.{bit};
+ghost use Rattle.cases.specs.Limits.{transitionLimit, nodeLimit};
+ghost use Rattle.cases.specs.Action.{Action};
+ghost use Rattle.cases.specs.Prefix.{actionAt};
+ghost use Rattle.cases.specs.Case.{copiesBefore};
+ghost use Rattle.cases.specs.Conditions.{nodeAt, isBinder};
+ghost use Rattle.cases.specs.Checks.{transitionsIn, nodesIn, Holds};
+ghost use Rattle.translate.specs.Shapes.{shapeIn};
+ghost use Rattle.translate.specs.Tabled.{FirstFlags, Blocks, Tables, HoldsShapes};
+
+// The limit on nodes, and one more for a nu that is put before the root.
+pub const SHAPES: usize = 65;
+
+// 1 where transition j of m is the first of its kind, and 0 where it is a copy.
+fn first_flag(part: &[u8], m: usize, j: usize) -> u8
+    requires { ⌜ (6 * m ≤ length (now part)) × (j < m) ⌝ }
+    ensures { λ r. ⌜ r ≡ bit (eqb (copiesBefore (transitionsIn (now (part .entry)) m) j) 0) ⌝ }
+{
+    if cases::is_first(part, j) {
+        return 1;
+    }
+    0
+}
+
+// Which of the m transitions of a part are the first of their kind.
+pub fn first_appearances(part: &[u8], m: usize) -> [u8; TRANSITIONS]
+    requires { ⌜ (6 * m ≤ length (now part)) × (m ≤ transitionLimit) ⌝ }
+    ensures { λ r. ⌜ FirstFlags (now (part .entry)) m r ⌝ }
+{
+    let mut flags = [0u8; TRANSITIONS];
+    let mut j = 0;
+    while j < m {
+        let flag = first_flag(part, m, j);
+        flags[j] = flag;
+        j += 1;
+    }
+    flags
+}
+
+// Whether a kind is and, or.
+fn is_pair(kind: usize) -> bool
+    ensures { λ r. ⌜ r ≡ (eqb kind 2 || eqb kind 3) ⌝ }
+{
+    if kind == 2 {
+        return true;
+    }
+    kind == 3
+}
+
+// Whether a kind is box, diamond.
+fn is_modal(kind: usize) -> bool
+    ensures { λ r. ⌜ r ≡ (eqb kind 4 || eqb kind 5) ⌝ }
+{
+    if kind == 4 {
+        return true;
+    }
+    kind == 5
+}
+
+// The node of the second operand of node i; 0 where there is none.
+fn second_of(part: &[u8], f: usize, added: usize, i: usize) -> usize
+    requires { ⌜ Holds nodeLimit (now part) f ⌝ ∗ ⌜ (added ≤ 1) × (i < f) ⌝ }
+    ensures { λ r. ⌜ ((action : ℕ → Action) → r ≡ shapeIn action (nodesIn (now (part .entry)) f) added i .second) ⌝ }
+{
+    let x = cases::node_at(part, i);
+    if is_pair(x.kind) {
+        return cases::subtree_end(part, f, i + 1) + added;
+    }
+    0
+}
+
+// The block of node i; 0 where there is none.
+fn block_of(part: &[u8], f: usize, added: usize, i: usize) -> usize
+    requires { ⌜ Blocks (now part) f ⌝ ∗ ⌜ (added ≤ 1) × (i < f) ⌝ }
+    ensures { λ r. ⌜ ((action : ℕ → Action) → r ≡ shapeIn action (nodesIn (now (part .entry)) f) added i .block) ⌝ }
+{
+    let x = cases::node_at(part, i);
+    if x.kind == 6 {
+        return cases::binders(part, x.arg) + added;
+    }
+    if cases::is_binder(x) {
+        return cases::binders(part, i) + added;
+    }
+    0
+}
+
+// The labels that node i accepts; 0 where there are none.
+fn labels_of(actions: &[u8], a: usize, part: &[u8], f: usize, i: usize) -> u64
+    requires { ⌜ Tables (now actions) a (now part) f ⌝ ∗ ⌜ i < f ⌝ }
+    ensures { λ r. ⌜ ((added : ℕ) → r ≡ shapeIn (actionAt (nodesIn (now (actions .entry)) a)) (nodesIn (now (part .entry)) f) added i .labels) ⌝ }
+{
+    let x = cases::node_at(part, i);
+    if is_modal(x.kind) {
+        return cases::accepted_labels(actions, a, x.arg);
+    }
+    0
+}
+
+// The shape of node i.
+fn shape_at(actions: &[u8], a: usize, part: &[u8], f: usize, added: usize, i: usize) -> Shape
+    requires { ⌜ Tables (now actions) a (now part) f ⌝ ∗ ⌜ (added ≤ 1) × (i < f) ⌝ }
+    ensures { λ r. ⌜ r ≡ shapeIn (actionAt (nodesIn (now (actions .entry)) a)) (nodesIn (now (part .entry)) f) added i ⌝ }
+{
+    let x = cases::node_at(part, i);
+    let second = second_of(part, f, added, i);
+    let block = block_of(part, f, added, i);
+    let labels = labels_of(actions, a, part, f, i);
+    Shape {
+        kind: x.kind,
+        second: second,
+        block: block,
+        labels: labels,
+    }
+}
+
+// How many nodes are put before the root: a nu where it is no binder.
+pub fn added_before(part: &[u8], f: usize) -> usize
+    requires { ⌜ (4 * f ≤ length (now part)) × (1 ≤ f) ⌝ }
+    ensures { λ r. ⌜ (r ≡ cond (isBinder (nodeAt (nodesIn (now (part .entry)) f) 0)) 0 1) × (r ≤ 1) ⌝ }
+{
+    if cases::is_binder(cases::node_at(part, 0)) {
+        return 0;
+    }
+    1
+}
+
+// The shapes of all nodes. Where a nu is put before the root, it is the first.
+pub fn shapes_of(actions: &[u8], a: usize, part: &[u8], f: usize) -> [Shape; SHAPES]
+    requires { ⌜ Tables (now actions) a (now part) f ⌝ ∗ ⌜ 1 ≤ f ⌝ }
+    ensures { λ r. ⌜ HoldsShapes (now (actions .entry)) a (now (part .entry)) f r ⌝ }
+{
+    let added = added_before(part, f);
+    let nu = Shape {
+        kind: 8,
+        second: 0,
+        block: 0,
+        labels: 0,
+    };
+    let mut shapes = [nu; SHAPES];
+    let mut i = 0;
+    while i < f {
+        let shape = shape_at(actions, a, part, f, added, i);
+        shapes[added + i] = shape;
+        i += 1;
+    }
+    shapes
+}

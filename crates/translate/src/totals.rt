@@ -1,0 +1,47 @@
+// How many operands the cells of a formula's nodes have.
+use crate::Shape;
+use crate::nodes::operand_count;
+ghost use mathlib.Core.Path.{_≡_};
+ghost use mathlib.Core.List.{map};
+ghost use Prim.Native.Nat.{ℕ, _*_, _≤_};
+ghost use lib.ListN.{length, take};
+ghost use Rattle.sets.specs.Lists.{range};
+ghost use Rattle.sets.specs.Size.{stateLimit};
+ghost use Rattle.cases.specs.Limits.{transitionLimit};
+ghost use Rattle.translate.specs.Bytes.{allOperands};
+ghost use Rattle.translate.specs.Writing.{shapeCell};
+ghost use Rattle.translate.specs.Shapes.{shapeCells};
+ghost use Rattle.translate.specs.Parts.{Recorded, distinctIn};
+
+// Those of a node of a shape, in n states. A cell has at most 2,050.
+fn node_total(part: &[u8], first: &[u8], m: usize, n: usize, x: Shape) -> usize
+    requires { ⌜ Recorded (now part) (now first) m × (m ≤ transitionLimit) × (n ≤ stateLimit) ⌝ }
+    ensures { λ r. ⌜ ((i : ℕ) → r ≡ length (allOperands (map (shapeCell n (distinctIn (now (part .entry)) (now (first .entry)) m) x i) (range 0 n))))
+        × (r ≤ 2_050 * n) ⌝ }
+{
+    let mut total: usize = 0;
+    for s in 0..n {
+        total += operand_count(part, first, m, x, s);
+    }
+    total
+}
+
+// Those of the first k nodes.
+pub fn operand_total(
+    part: &[u8],
+    first: &[u8],
+    m: usize,
+    n: usize,
+    shapes: [Shape; 65],
+    k: usize,
+) -> usize
+    requires { ⌜ Recorded (now part) (now first) m × (m ≤ transitionLimit) × (n ≤ stateLimit) × (k ≤ 65) ⌝ }
+    ensures { λ r. ⌜ r ≡ length (allOperands (shapeCells n (distinctIn (now (part .entry)) (now (first .entry)) m) 0 (take k shapes))) ⌝ }
+{
+    let mut total: usize = 0;
+    for i in 0..k {
+        let x = shapes[i];
+        total += node_total(part, first, m, n, x);
+    }
+    total
+}

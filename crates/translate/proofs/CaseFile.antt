@@ -75,7 +75,7 @@ module _ (c : Case) (fit : Fit c) where
   operands-high = omega (arith, nodes-high, operands-few)
 
   -- the targets of the distinct transitions are states
-  ends : T (all (λ t. ltb (t .target) n) ts)
+  pub ends : T (all (λ t. ltb (t .target) n) ts)
   ends =
       all-distinct (λ t. ltb (t .target) n) (c .transitions)
       (all-mono (transitionOk n (c .labels)) (λ t. ltb (t .target) n)

@@ -3,12 +3,11 @@ use mathlib.Core.Path.{_≡_, refl, sym, ap, _∙_, subst}
 use mathlib.Core.Bool.{Bool, true, false, cond}
 use mathlib.Core.List.{List, _++_}
 use Prim.Native.Nat.{ℕ, _+_, _-_, _*_, _≤_}
-use native.Mathlib.Omega.{arith}
 use lib.Dec.{ltb}
 use lib.ListN.{length, take, drop}
 use borrow.Author.Tests.{ltb-true, ltb-false}
 use borrow.Rule.Slice.PartAt.{part-to-end}
-use Rattle.cases.specs.Limits.{transitionLimit, nodeLimit}
+use Rattle.cases.specs.Limits.{transitionLimit}
 use Rattle.cases.specs.declared.Header.{Header}
 use Rattle.cases.specs.File.{u16, stateCount, initialState, transitionCount, nodeCount, headerOf}
 use Rattle.cases.specs.Case.{caseOf}

@@ -352,3 +352,20 @@ copy-none us t vs h =
 pub copy-cells : (n : ℕ) (us : List Transition) (t : Transition) (vs : List Transition) (block : ℕ → ℕ) (a : Formula) (k : ℕ) → 0 < copies t us
     → cellsFrom n (distinct (us ++ (t ∷ vs))) block a k ≡ cellsFrom n (distinct (us ++ vs)) block a k
 copy-cells n us t vs block a k h = ap (λ (ts : List Transition). cellsFrom n ts block a k) (copy-none us t vs h)
+
+-- Transitions that differ in label are two, whatever their ends.
+pub labels-apart : (us : List Transition) (t u : Transition) (vs : List Transition) → ¬ (t .label ≡ u .label) → copies t us ≡ 0 → copies u us ≡ 0
+    → distinct (us ++ (t ∷ u ∷ vs)) ≡ distinct us ++ (t ∷ u ∷ fresh (us ++ (t ∷ []) ++ (u ∷ [])) vs)
+unfolding fresh copies sameTransition
+labels-apart us t u vs h p q =
+    let first : eqb (copies t us) 0 ≡ true = eq-eqb (copies t us) 0 p in
+    let apart : eqb (t .label) (u .label) ≡ false = ne-eqb (t .label) (u .label) h in
+    let other : sameTransition t u ≡ false = rw apart (and-false (eqb (t .source) (u .source)) (eqb (t .target) (u .target))) in
+    let none : copies u (us ++ (t ∷ [])) ≡ 0 = copies-append u us (t ∷ []) ∙ rw (q, other) refl in
+    let second : eqb (copies u (us ++ (t ∷ []))) 0 ≡ true = eq-eqb (copies u (us ++ (t ∷ []))) 0 none in
+    let both : fresh us (t ∷ u ∷ vs) ≡ t ∷ u ∷ fresh (us ++ (t ∷ []) ++ (u ∷ [])) vs = rw (first, second) in
+    distinct-fresh (us ++ (t ∷ u ∷ vs)) ∙ fresh-append us [] (t ∷ u ∷ vs) ∙ rw (both, distinct-fresh us) refl
+  where
+    and-false : (a b : Bool) → (a && false && b) ≡ false
+    and-false true b = refl
+    and-false false b = refl

@@ -1,6 +1,6 @@
 -- The parts of an equation file, written one behind another.
 use mathlib.Core.Path.{_≡_, refl, sym, ap, _∙_, subst}
-use mathlib.Core.Bool.{Bool, true, false, cond}
+use mathlib.Core.Bool.{true, false}
 use mathlib.Core.List.{List, [], _∷_, _++_, append-assoc}
 use Prim.Native.Nat.{ℕ, _+_, _-_, _*_, _≤_, _<_}
 use native.Mathlib.Omega.{arith}
@@ -8,10 +8,8 @@ use native.Mathlib.Nat.{mul-le-mul}
 use lib.Dec.{ltb}
 use lib.ListN.{length, take, drop, length-append}
 use borrow.Author.Tests.{lt-ltb, le-ltb}
-use Rattle.sets.specs.Size.{stateLimit}
 use Rattle.cases.specs.declared.Transition.{Transition}
 use Rattle.translate.specs.declared.Shape.{Shape}
-use Rattle.translate.specs.declared.Written.{Written}
 use Rattle.translate.specs.declared.Written.the-variants.{File, Refused}
 use Rattle.translate.specs.Bytes.{System, allOperands, blockNumbers, cellNumbers, numbers, bytes}
 use Rattle.translate.specs.Shapes.{shapeBlocks, shapeCells}

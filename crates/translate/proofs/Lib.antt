@@ -24,3 +24,4 @@ pub mod Filling
 pub mod TotalLaws
 pub mod RowLaws
 pub mod CaseParts
+pub mod Promises

@@ -1,6 +1,6 @@
 -- The three ways a translation ends.
-use mathlib.Core.Path.{_≡_, refl, sym, ap, _∙_}
-use mathlib.Core.Bool.{Bool, true, false, cond}
+use mathlib.Core.Path.{_≡_, sym, _∙_}
+use mathlib.Core.Bool.{true, false}
 use mathlib.Core.List.{List, _++_}
 use Prim.Native.Nat.{ℕ, _≤_, _<_}
 use native.Mathlib.Omega.{arith}
@@ -9,7 +9,6 @@ use lib.ListN.{length, drop}
 use borrow.Author.Tests.{eq-eqb, ne-eqb, lt-ltb, le-ltb}
 use Rattle.cases.specs.Conditions.{caseRefusal, Accepted}
 use Rattle.translate.specs.Translating.{file, refusalIn, Translated}
-use Rattle.translate.specs.declared.Written.{Written}
 use Rattle.translate.specs.declared.Written.the-variants.{File, Refused}
 
 module _ (b before : List ℕ) where

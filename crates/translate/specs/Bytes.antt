@@ -1,5 +1,4 @@
 -- The equation file of a case, byte by byte.
-use mathlib.Core.Bool.{Bool, true, false}
 use mathlib.Core.List.{List, [], _∷_, _++_}
 use Prim.Native.Nat.{ℕ, _+_, _*_, _/_, _%_}
 use lib.ListN.{length}
@@ -7,7 +6,7 @@ use Rattle.sets.specs.Words.{bit}
 use Rattle.solver.specs.Cells.{Cell, And, Or, Variable, operandsOf}
 use Rattle.solver.specs.File.{Block}
 use Rattle.cases.specs.Formula.{Formula}
-use Rattle.cases.specs.Case.{Case, caseOf, distinct}
+use Rattle.cases.specs.Case.{Case, distinct}
 use Rattle.translate.specs.Whole.{whole, blockIn}
 use Rattle.translate.specs.Cells.{cellsFrom, blocksFrom}
 

@@ -1,8 +1,6 @@
 -- The cells and blocks of a formula: cell i * n + s is the right-hand side of node i in state s.
-use mathlib.Core.Bool.{Bool, true, false, _&&_}
 use mathlib.Core.List.{List, [], _∷_, _++_, map}
 use Prim.Native.Nat.{ℕ, _+_, _*_}
-use lib.Dec.{eqb}
 use Rattle.sets.specs.Lists.{range}
 use Rattle.solver.specs.Cells.{Cell}
 use Rattle.solver.specs.File.{Block}

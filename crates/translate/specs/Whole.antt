@@ -1,7 +1,7 @@
 -- The formula that is translated: a root that is not a binder first gets a nu that binds nothing used, and node numbers rise by one.
 use mathlib.Core.Bool.{Bool, true, false, cond}
 use mathlib.Core.List.{List, [], _∷_, _++_}
-use Prim.Native.Nat.{ℕ, zero, suc, _+_}
+use Prim.Native.Nat.{ℕ, suc, _+_}
 use lib.Dec.{eqb}
 use Rattle.cases.specs.Formula.{Formula, False, True, And, Or, Box, Diamond, Variable, Fix}
 

@@ -1,10 +1,9 @@
 -- What the writers hold and write: nodes by their shape.
-use mathlib.Core.Path.{_≡_}
 use mathlib.Core.Bool.{Bool, true, false, cond, _&&_, _||_}
-use mathlib.Core.List.{List, [], _∷_, _++_, map}
-use Prim.Native.Nat.{ℕ, zero, suc, _+_, _*_}
+use mathlib.Core.List.{List, [], _∷_, map}
+use Prim.Native.Nat.{ℕ, _+_, _*_}
 use lib.Dec.{eqb}
-use lib.ListN.{length, getD}
+use lib.ListN.{getD}
 use Rattle.sets.specs.Lists.{range}
 use Rattle.sets.specs.Words.{number, marked}
 use Rattle.solver.specs.Cells.{Cell}

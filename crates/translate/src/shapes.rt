@@ -121,6 +121,9 @@ fn shape_at(actions: &[u8], a: usize, part: &[u8], f: usize, added: usize, i: us
     }
 }
 
+// The nu before a root that is no binder is one node.
+const ADDED: usize = 1;
+
 // How many nodes are put before the root: a nu where it is no binder.
 pub fn added_before(part: &[u8], f: usize) -> usize
     requires { ⌜ (4 * f ≤ length (now part)) × (1 ≤ f) ⌝ }
@@ -129,7 +132,7 @@ pub fn added_before(part: &[u8], f: usize) -> usize
     if cases::is_binder(cases::node_at(part, 0)) {
         return 0;
     }
-    1
+    ADDED
 }
 
 // The shapes of all nodes. Where a nu is put before the root, it is the first.

@@ -185,11 +185,11 @@ unfolding equations examples
 worked = refl
 
 -- An equation written out: sign, block, and the right-hand sides of states 0, 1 and so on, as the table has them and without Sat.
-abbrev pub Written : Type 0
-Written = Bool × ℕ × List Expression × List Plain
+abbrev pub Shown : Type 0
+Shown = Bool × ℕ × List Expression × List Plain
 
 -- the tables of a case's bytes
-pub written : List ℕ → List Written
+pub written : List ℕ → List Shown
 unfolding equations E RHS each plain plains leftOut
 written b =
     let c : Case = caseOf b in

@@ -1,5 +1,4 @@
 -- More laws of all and any: lists that are appended, mapped, kept.
-use mathlib.Core.Path.{_≡_, refl}
 use mathlib.Core.Bool.{Bool, true, false, cond, _||_}
 use mathlib.Core.List.{List, [], _∷_, _++_, map}
 use Prim.Native.Nat.{ℕ, zero, suc, _+_, _≤_, _<_}
@@ -10,11 +9,6 @@ use Rattle.sets.specs.Lists.{range, all, any}
 use Rattle.sets.proofs.Lists.{and-left, and-right, and-both, all-at, all-from}
 use Rattle.cases.specs.declared.Transition.{Transition}
 use Rattle.cases.specs.Case.{keep, distinct, transitionAt, copiesBefore}
-
--- what is so is true
-pub true-of : (b : Bool) → T b → b ≡ true
-true-of true t = refl
-true-of false t = absurd t
 
 -- a property of the elements of two lists
 module _ {A : Type 0} (p : A → Bool) where

@@ -7,7 +7,7 @@ use native.Mathlib.Numerals.{add-one}
 use native.Mathlib.Omega.{arith}
 use borrow.Author.Tests.{le-leb, lt-leb}
 use lib.Dec.{eqb, leb}
-use lib.ListN.{length, take, drop, getD, length-append}
+use lib.ListN.{length, take, drop, length-append}
 use lib.Seq.{take-suc, take-add, length-take-le}
 use Rattle.sets.specs.Words.{bit}
 use Rattle.solver.specs.File.{Block}
@@ -15,6 +15,8 @@ use Rattle.translate.specs.declared.Shape.{Shape}
 use Rattle.translate.specs.Bytes.{blockNumbers}
 use Rattle.translate.specs.Shapes.{shapeBlocks}
 use Rattle.translate.specs.Parts.{WroteAt, WroteMore}
+use Rattle.translate.specs.Sources.{shapeAt}
+use Rattle.translate.proofs.NumberBytes.{length-blockNumbers}
 use Rattle.translate.proofs.Putting.{wrote-no-more}
 
 -- the block that a node of a shape has if it is a binder
@@ -34,12 +36,6 @@ blocks-append n i (x ∷ xs) ys =
     let e : i + 1 + length xs ≡ i + length (x ∷ xs) = omega arith in
     cond-append (leb 7 (x .kind)) (blockOf n i x) _ _ (shapeBlocks n (i + length (x ∷ xs)) ys)
     (blocks-append n (i + 1) xs ys ∙ ap (λ (j : ℕ). shapeBlocks n (i + 1) xs ++ shapeBlocks n j ys) e)
-
--- a block has two numbers
-pub length-block-numbers : (bs : List Block) → length (blockNumbers bs) ≡ 2 * length bs
-unfolding blockNumbers
-length-block-numbers [] = refl
-length-block-numbers (b ∷ bs) = omega (arith, length-block-numbers bs)
 
 -- the numbers of two lists of blocks follow one another
 pub block-numbers-append : (bs cs : List Block) → blockNumbers (bs ++ cs) ≡ blockNumbers bs ++ blockNumbers cs
@@ -85,13 +81,6 @@ wrote-block n i x h e w = rw (numbers-of-binder n i x h, ← e) (record { wrote 
 pub wrote-no-block : (n i : ℕ) (x : Shape) (done : ℕ) (s : List ℕ) → x .kind < 7 → WroteMore done (blockNumbers (shapeBlocks n i (x ∷ []))) s s done
 wrote-no-block n i x done s h = rw (numbers-of-other n i x h) (wrote-no-more done s)
 
--- the shape at i
-abbrev noShape : Shape
-noShape = record { kind = 0; second = 0; block = 0; labels = 0 }
-
-abbrev pub shapeAt : List Shape → ℕ → Shape
-shapeAt xs i = getD xs i noShape
-
 -- the blocks of the first k shapes
 abbrev pub blocksTo : ℕ → List Shape → ℕ → List Block
 blocksTo n xs k = shapeBlocks n 0 (take k xs)
@@ -110,7 +99,7 @@ pub blocks-more : (n : ℕ) (xs : List Shape) (i : ℕ) → i < length xs
     → blocksTo n xs (i + 1) ≡ blocksTo n xs i ++ shapeBlocks n i (shapeAt xs i ∷ [])
 blocks-more n xs i h =
     let l : 0 + length (take i xs) ≡ i = omega (arith, length-take-le i xs (omega arith)) in
-    let e : take (i + 1) xs ≡ take i xs ++ (shapeAt xs i ∷ []) = rw add-one (take-suc xs i noShape h) in
+    let e : take (i + 1) xs ≡ take i xs ++ (shapeAt xs i ∷ []) = rw add-one (take-suc xs i _ h) in
     rw e (blocks-append n 0 (take i xs) (shapeAt xs i ∷ []) ∙ ap (λ (j : ℕ). blocksTo n xs i ++ shapeBlocks n j (shapeAt xs i ∷ [])) l)
 
 pub count-more : (n : ℕ) (xs : List Shape) (i : ℕ) → i < length xs
@@ -137,7 +126,7 @@ numbers-fit n xs i k h l =
     omega (
       arith,
       blocks-fewer n xs (i + 1) k (omega arith),
-      length-block-numbers (blocksTo n xs (i + 1)),
+      length-blockNumbers (blocksTo n xs (i + 1)),
       ap length (numbers-more n xs i (omega arith)),
       length-append (blockNumbers (blocksTo n xs i)) (blockNumbers (shapeBlocks n i (shapeAt xs i ∷ []))),
     )

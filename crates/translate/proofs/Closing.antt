@@ -9,8 +9,9 @@ use Rattle.sets.specs.Lists.{all, any}
 use Rattle.sets.proofs.Lists.{and-left, and-right, and-both}
 use Rattle.cases.specs.Formula.{Formula, False, True, And, Or, Box, Diamond, Variable, Fix}
 use Rattle.cases.proofs.Scopes.{scoped}
+use Rattle.cases.proofs.TableTrees.{holds}
 use Rattle.translate.specs.Whole.{raise, bindsFirst, whole, binderNodes}
-use Rattle.translate.proofs.AllLaws.{true-of, all-first, all-second, among-all}
+use Rattle.translate.proofs.AllLaws.{all-first, all-second, among-all}
 use Rattle.translate.proofs.Rules.{closed}
 
 -- whether a number is in a list
@@ -73,7 +74,7 @@ scoped-raise (Fix sign i a) around = scoped-raise a (i ∷ around)
 -- the formula that is translated
 pub closed-whole : (a : Formula) → scoped [] a ≡ true → closed (binderNodes (whole a)) (whole a) ≡ true
 unfolding whole binderNodes closed all
-closed-whole a s = true-of _ (go (bindsFirst a))
+closed-whole a s = holds _ (go (bindsFirst a))
   where
     go : (b : Bool) → T (closed (binderNodes (cond b a (Fix true 0 (raise a)))) (cond b a (Fix true 0 (raise a))))
     go true = closed-from (binderNodes a) a [] (subst T (sym s) tt) tt (among-all (binderNodes a))

@@ -1,5 +1,5 @@
 -- How many blocks, cells and operands the equations of a case have.
-use mathlib.Core.Path.{_≡_, refl, sym, ap, _∙_}
+use mathlib.Core.Path.{_≡_, refl, ap}
 use mathlib.Core.Bool.{Bool, true, false, cond, _&&_}
 use mathlib.Core.List.{List, [], _∷_, _++_, map, append-assoc}
 use Prim.Native.Nat.{ℕ, zero, suc, _+_, _*_, _≤_, _<_}
@@ -96,7 +96,7 @@ length-distinct ts = simp length-map (omega (arith, length-keep (λ i. eqb (copi
 pub operands-append : (xs ys : List Cell) → allOperands (xs ++ ys) ≡ allOperands xs ++ allOperands ys
 unfolding allOperands
 operands-append [] ys = refl
-operands-append (x ∷ xs) ys = ap (λ (os : List ℕ). operandsOf x ++ os) (operands-append xs ys) ∙ sym (append-assoc (operandsOf x) (allOperands xs) (allOperands ys))
+operands-append (x ∷ xs) ys = rw (operands-append xs ys, append-assoc)
 
 -- the sum of f over the k numbers from i on
 unfoldable total : (ℕ → ℕ) → ℕ → ℕ → ℕ

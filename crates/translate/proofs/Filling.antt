@@ -15,9 +15,9 @@ use Rattle.translate.specs.Bytes.{System, allOperands, blockNumbers, cel
 use Rattle.translate.specs.Shapes.{shapeBlocks, shapeCells}
 use Rattle.translate.specs.Parts.{Wrote, WroteAt, WroteAll, WroteCells, distinctIn}
 use Rattle.translate.specs.Sources.{Sources, Sized, shapeSystem, Emitted}
-use Rattle.translate.proofs.Putting.{wrote-lent, wrote-more, length-bytes}
-use Rattle.translate.proofs.ReadBack.{length-file, length-cellNumbers}
-use Rattle.translate.proofs.BlockParts.{length-block-numbers}
+use Rattle.translate.proofs.NumberBytes.{length-bytes, length-blockNumbers, length-cellNumbers}
+use Rattle.translate.proofs.Putting.{wrote-lent, wrote-more}
+use Rattle.translate.proofs.ReadBack.{length-file}
 use Rattle.translate.proofs.NodeParts.{length-cells-to}
 
 -- the header of a file of some equations
@@ -33,7 +33,7 @@ module _ (y : System) {c d p room : ℕ} (sized : Sized y c d p room) where
       let h : List ℕ = header (y .states) d c p (y .initial) in
       let x : List ℕ = blockNumbers (y .blocks) in
       let z : List ℕ = cellNumbers 0 (y .cells) in
-      let lx : length x ≡ 2 * d = length-block-numbers (y .blocks) ∙ ap (λ (k : ℕ). 2 * k) (sym (sized .blocks)) in
+      let lx : length x ≡ 2 * d = length-blockNumbers (y .blocks) ∙ ap (λ (k : ℕ). 2 * k) (sym (sized .blocks)) in
       let lz : length z ≡ 3 * c = length-cellNumbers 0 (y .cells) ∙ ap (λ (k : ℕ). 3 * k) (sym (sized .cells)) in
       let two : Wrote (h ++ x) s u = wrote-more refl a b in
       let three : Wrote ((h ++ x) ++ z) s v = wrote-more (omega (arith, length-append h x, lx)) two e in

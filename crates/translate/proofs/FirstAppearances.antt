@@ -12,17 +12,13 @@ use lib.Seq.{getD-set-same, getD-set-other}
 use Rattle.sets.specs.Lists.{range}
 use Rattle.sets.specs.Words.{bit}
 use Rattle.sets.proofs.Lists.{length-table, table-at}
+use Rattle.solver.proofs.Shown.{bit-back}
 use Rattle.cases.specs.Limits.{transitionLimit}
 use Rattle.cases.specs.File.{transitionIn}
 use Rattle.cases.specs.Case.{keep, distinct, copiesBefore, transitionAt}
 use Rattle.cases.specs.Checks.{transitionsIn}
 use Rattle.cases.proofs.Copies.{copies-any}
 use Rattle.translate.specs.Tabled.{FirstFlags}
-
--- whether a truth value's bit is 1 is the truth value
-bit-one : (b : Bool) → eqb (bit b) 1 ≡ b
-bit-one true = refl
-bit-one false = refl
 
 -- functions and tests that agree on a range pick the same
 same-kept : {B : Type 0} (f g : ℕ → B) (p q : ℕ → Bool) (m s k : ℕ) → s + k ≤ m → ((j : ℕ) → j < m → f j ≡ g j) → ((j : ℕ) → j < m → p j ≡ q j)
@@ -46,7 +42,7 @@ flagged-distinct part m flags h =
     rw (length-table (transitionIn part) m)
     (same-kept (transitionIn part) (transitionAt (transitionsIn part m)) (λ j. eqb (getD flags j 0) 1) (λ j. eqb (copiesBefore (transitionsIn part m) j) 0) m 0 m (omega arith)
     (λ j l. sym (table-at (transitionIn part) m j _ l))
-    (λ j l. ap (λ (x : ℕ). eqb x 1) (h .at j l) ∙ bit-one _))
+    (λ j l. ap (λ (x : ℕ). eqb x 1) (h .at j l) ∙ bit-back _))
 
 -- the flag of transition j by the first j + 1 records
 pub flag-any : (part : List ℕ) (m j : ℕ) → j < m → (b : Bool) → b ≡ eqb (copiesBefore (map (transitionIn part) (range 0 (j + 1))) j) 0

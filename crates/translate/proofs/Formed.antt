@@ -17,10 +17,12 @@ use Rattle.solver.specs.File.{u32, stateCount, blockCount, cellCount, operandCo
 use Rattle.solver.specs.File.{Block, blockAt, blocks, operands, entries, listOf, cells}
 use Rattle.solver.specs.Conditions.{layoutOk, blockOk, span, entryOk, entriesOk, tablesOk, WellFormed}
 use Rattle.translate.specs.Bytes.{System, allOperands, numbers, bytes}
-use Rattle.translate.proofs.AllLaws.{true-of, range-below}
+use Rattle.solver.proofs.Shown.{bit-low}
+use Rattle.cases.proofs.TableTrees.{holds}
+use Rattle.translate.proofs.AllLaws.{range-below}
 use Rattle.translate.proofs.Rules.{ruleOk, rulesOk, rule-first, rule-others, roomy}
 use Rattle.translate.proofs.ReadBack as back
-use Rattle.translate.proofs.ReadBack.{Ready, bit-low, entriesOf, list-back, list-rest}
+use Rattle.translate.proofs.ReadBack.{Ready, entriesOf, list-back, list-rest}
 
 -- Cells that keep their rules have entries that keep theirs, where ops are the operands and `used` of them are those of the cells before.
 module _ (n d c p : ℕ) (ops : List ℕ) where
@@ -128,4 +130,4 @@ module _ (y : System) (ready : Ready y) where
 
   pub ready-formed : WellFormed e
   unfolding tablesOk
-  ready-formed = record { layout = layout-ok; tables = true-of _ (and-both (all (blockOk e) (range 0 (blockCount e))) _ blocks-ok cells-ok) }
+  ready-formed = record { layout = layout-ok; tables = holds _ (and-both (all (blockOk e) (range 0 (blockCount e))) _ blocks-ok cells-ok) }

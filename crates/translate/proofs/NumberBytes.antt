@@ -1,12 +1,13 @@
--- Numbers below 2 ^ 32 are read back from their bytes.
+-- How many numbers and bytes there are; numbers below 2 ^ 32 are read back from their bytes.
 use mathlib.Core.Path.{_≡_, refl, _∙_}
 use mathlib.Core.List.{List, [], _∷_, _++_}
 use Prim.Native.Nat.{ℕ, zero, suc, _+_, _*_, _/_, _%_, _<_}
 use native.Mathlib.Omega.{arith}
 use native.Mathlib.Nat.{div-div-eq-div-mul, div-add-mod, mod-eq-of-lt}
 use lib.ListN.{length, getD}
-use Rattle.solver.specs.File.{u32}
-use Rattle.translate.specs.Bytes.{bytes}
+use Rattle.solver.specs.Cells.{Cell, And, Or, Variable}
+use Rattle.solver.specs.File.{Block, u32}
+use Rattle.translate.specs.Bytes.{blockNumbers, cellNumbers, bytes}
 
 -- each number of a list is below 2 ^ 32
 pub data Fits : List ℕ → Type 0 where
@@ -23,6 +24,19 @@ pub length-bytes : (xs : List ℕ) → length (bytes xs) ≡ 4 * length xs
 unfolding bytes
 length-bytes [] = refl
 length-bytes (x ∷ xs) = omega (arith, length-bytes xs)
+
+-- two numbers for each block, three for each cell
+pub length-blockNumbers : (bs : List Block) → length (blockNumbers bs) ≡ 2 * length bs
+unfolding blockNumbers
+length-blockNumbers [] = refl
+length-blockNumbers (b ∷ bs) = omega (arith, length-blockNumbers bs)
+
+pub length-cellNumbers : (used : ℕ) (cs : List Cell) → length (cellNumbers used cs) ≡ 3 * length cs
+unfolding cellNumbers
+length-cellNumbers used [] = refl
+length-cellNumbers used (And os ∷ cs) = omega (arith, length-cellNumbers (used + length os) cs)
+length-cellNumbers used (Or os ∷ cs) = omega (arith, length-cellNumbers (used + length os) cs)
+length-cellNumbers used (Variable k s ∷ cs) = omega (arith, length-cellNumbers used cs)
 
 -- the bytes of one number give it back
 digits : (x : ℕ) → x < 4_294_967_296 → x % 256 + 256 * (x / 256 % 256) + 65536 * (x / 65536 % 256) + 16777216 * (x / 16777216 % 256) ≡ x

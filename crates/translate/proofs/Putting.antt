@@ -7,12 +7,7 @@ use lib.ListN.{length, take, drop, set, length-append, length-drop, take-append-
 use lib.Seq.{take-all, take-at, drop-at, drop-drop}
 use Rattle.translate.specs.Bytes.{bytes}
 use Rattle.translate.specs.Parts.{Wrote, WroteAt, WroteMore, WroteAll}
-
--- a number has four bytes
-pub length-bytes : (xs : List ℕ) → length (bytes xs) ≡ 4 * length xs
-unfolding bytes
-length-bytes [] = refl
-length-bytes (x ∷ xs) = omega (arith, length-bytes xs)
+use Rattle.translate.proofs.NumberBytes.{length-bytes}
 
 -- the bytes of two lists follow one another
 pub bytes-append : (xs ys : List ℕ) → bytes (xs ++ ys) ≡ bytes xs ++ bytes ys

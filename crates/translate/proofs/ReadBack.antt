@@ -1,11 +1,11 @@
 -- The bytes of a system of equations give it back: counts, blocks, operands and cells.
 use mathlib.Core.Path.{_≡_, refl, sym, ap, ap₂, _∙_}
-use mathlib.Core.Bool.{Bool, true, false, _&&_}
+use mathlib.Core.Bool.{_&&_}
 use mathlib.Core.List.{List, [], _∷_, _++_, map}
 use Prim.Native.Nat.{ℕ, zero, suc, _+_, _*_, _≤_, _<_}
 use native.Mathlib.Omega.{arith}
 use native.Mathlib.Nat.{zero-add}
-use lib.Dec.{T, eqb, ltb, ltb→lt, leb→le}
+use lib.Dec.{T, ltb, ltb→lt, leb→le}
 use lib.ListN.{length, getD, take, drop, length-append, List·getD-append}
 use lib.Seq.{ext-getD, getD-append-add, take-append-seam, drop-append-seam, drop-drop}
 use Rattle.sets.specs.Lists.{range, all}
@@ -17,8 +17,9 @@ use Rattle.solver.specs.Limits.{blockLimit, cellLimit, operandLimit}
 use Rattle.solver.specs.Cells.{Cell, And, Or, Variable, operandsOf}
 use Rattle.solver.specs.File.{u32, stateCount, blockCount, cellCount, operandCount, initialState, blocksAt, cellsAt, operandsAt}
 use Rattle.solver.specs.File.{Block, blockAt, blocks, operands, entryAt, entries, listOf, cellOf, cells}
+use Rattle.solver.proofs.Shown.{bit-low, bit-back}
 use Rattle.translate.specs.Bytes.{System, allOperands, blockNumbers, cellNumbers, numbers, bytes}
-use Rattle.translate.proofs.NumberBytes.{Fits, none, more, fits-append, length-bytes, number-at}
+use Rattle.translate.proofs.NumberBytes.{Fits, none, more, fits-append, length-bytes, length-blockNumbers, length-cellNumbers, number-at}
 use Rattle.translate.proofs.Rules.{ruleOk, rulesOk, rule-first, rule-others, roomy}
 
 -- A system of equations within the limits, whose blocks and cells keep their rules.
@@ -34,24 +35,7 @@ pub record Ready (y : System) : Type 0 where
   pub roomy-blocks : T (all (roomy (y .states) (length (y .cells))) (y .blocks))
   pub rules : T (rulesOk (y .states) (length (y .blocks)) (length (y .cells)) 0 (y .cells))
 
--- two numbers for each block, three for each cell
-length-blockNumbers : (bs : List Block) → length (blockNumbers bs) ≡ 2 * length bs
-unfolding blockNumbers
-length-blockNumbers [] = refl
-length-blockNumbers (b ∷ bs) = omega (arith, length-blockNumbers bs)
-
-pub length-cellNumbers : (used : ℕ) (cs : List Cell) → length (cellNumbers used cs) ≡ 3 * length cs
-unfolding cellNumbers
-length-cellNumbers used [] = refl
-length-cellNumbers used (And os ∷ cs) = omega (arith, length-cellNumbers (used + length os) cs)
-length-cellNumbers used (Or os ∷ cs) = omega (arith, length-cellNumbers (used + length os) cs)
-length-cellNumbers used (Variable k s ∷ cs) = omega (arith, length-cellNumbers used cs)
-
 -- the numbers of blocks fit
-pub bit-low : (b : Bool) → bit b ≤ 1
-bit-low true = omega arith
-bit-low false = omega arith
-
 fits-blocks : (n c : ℕ) → c ≤ cellLimit → (bs : List Block) → T (all (roomy n c) bs) → Fits (blockNumbers bs)
 unfolding blockNumbers all
 fits-blocks n c h [] t = none
@@ -123,10 +107,6 @@ first-number (x ∷ bs) zero b h = refl
 first-number (x ∷ bs) (suc k) b h =
     let next : 2 * suc k + 1 ≡ suc (suc (2 * k + 1)) = omega arith in
     rw next (first-number bs k b (omega arith))
-
-bit-back : (b : Bool) → eqb (bit b) 1 ≡ b
-bit-back true = refl
-bit-back false = refl
 
 -- the cell of three numbers of a list, from number 3 * i on
 abbrev threeAt : List ℕ → ℕ → Entry

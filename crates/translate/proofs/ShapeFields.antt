@@ -3,14 +3,13 @@ use mathlib.Core.Path.{_≡_, refl, sym, ap, _∙_}
 use mathlib.Core.Bool.{Bool, true, false, cond, _||_}
 use mathlib.Core.List.{List, [], _∷_, _++_, map, append-assoc}
 use Prim.Native.Nat.{ℕ, zero, suc, _+_, _<_, _≤_}
-use native.Mathlib.Numerals.{add-one}
 use native.Mathlib.Omega.{arith}
 use borrow.Author.Tests.{eq-eqb, ne-eqb}
 use lib.Dec.{eqb}
 use lib.ListN.{length, take, drop, set, replicate, length-append, length-replicate, length-set, length-map, length-drop}
-use lib.Seq.{take-suc, take-suc-set}
+use lib.Seq.{take-suc-set}
 use Rattle.sets.specs.Lists.{range}
-use Rattle.sets.proofs.Lists.{length-table, table-at}
+use Rattle.sets.proofs.Lists.{length-table}
 use Rattle.cases.specs.Limits.{nodeLimit}
 use Rattle.cases.specs.Action.{Action}
 use Rattle.cases.specs.declared.Node.{Node}
@@ -23,9 +22,9 @@ use Rattle.cases.proofs.Copies.{take-map-range}
 use Rattle.cases.proofs.Spans.{span-length}
 use Rattle.cases.proofs.PrefixRules.{node-in}
 use Rattle.translate.specs.declared.Shape.{Shape}
-use Rattle.translate.specs.Writing.{mask}
 use Rattle.translate.specs.Shapes.{shapeIn, tableShapes}
 use Rattle.translate.specs.Tabled.{Blocks, Tables}
+use Rattle.translate.proofs.ShapeLaws.{map-range-more}
 
 -- the first j nodes of a part's f nodes
 take-nodes : (part : List ℕ) (j f : ℕ) → j ≤ f → take j (nodesIn part f) ≡ nodesIn part j
@@ -98,7 +97,7 @@ module _ (part : List ℕ) (f i : ℕ) (h : i < f) (x : Node) (e : x ≡ nodeIn 
     -- box, diamond; any other kind
     pub labels-there : (b : Bool) → b ≡ (eqb (x .kind) 4 || eqb (x .kind) 5) → b ≡ true
         → (r : ℕ) → r ≡ maskOf (action (x .arg)) → r ≡ here .labels
-    unfolding shapeIn mask
+    unfolding shapeIn
     labels-there b p q r s =
         let t : (eqb (x .kind) 4 || eqb (x .kind) 5) ≡ true = sym p ∙ q in
         rw (node-read, t) s
@@ -124,18 +123,6 @@ root-added part f h x e b p = rw (node-read part f 0 h x e) (ap (λ (t : Bool). 
 -- the nu that is put before a root
 abbrev pub nu : Shape
 nu = record { kind = 8; second = 0; block = 0; labels = 0 }
-
--- one more element of a list made of a range
-next-of-range : {B : Type 0} (g : ℕ → B) (i : ℕ) → map g (range 0 (i + 1)) ≡ map g (range 0 i) ++ (g i ∷ [])
-next-of-range g i =
-    let inside : i < i + 1 = omega arith in
-    let small : i ≤ i + 1 = omega arith in
-    let long : i < length (map g (range 0 (i + 1))) = rw (length-table g (i + 1)) inside in
-    let whole : take (suc i) (map g (range 0 (i + 1))) ≡ map g (range 0 (i + 1)) =
-    rw (← add-one i) (take-map-range g 0 (i + 1) (i + 1) (omega arith)) in
-    sym whole
-    ∙ take-suc (map g (range 0 (i + 1))) i (g i) long
-    ∙ rw (table-at g (i + 1) i (g i) inside, take-map-range g 0 i (i + 1) small)
 
 module _ (action : ℕ → Action) (table : List Node) (added : ℕ) where
   -- the nodes that are put before the root, and the first i nodes
@@ -187,7 +174,7 @@ module _ (action : ℕ → Action) (table : List Node) (added : ℕ) where
             ∙ ap (λ (l : List Shape). l ++ (x ∷ [])) (s .starts)
             ∙ append-assoc (replicate added nu) (map (shapeIn action table added) (range 0 i)) (x ∷ [])
             ∙ ap (λ (y : Shape). replicate added nu ++ (map (shapeIn action table added) (range 0 i) ++ (y ∷ []))) e
-            ∙ ap (λ (l : List Shape). replicate added nu ++ l) (sym (next-of-range (shapeIn action table added) i));
+            ∙ ap (λ (l : List Shape). replicate added nu ++ l) (sym (map-range-more (shapeIn action table added) i));
       }
 
   pub shapes-done : (shapes : List Shape) (i : ℕ) → i ≡ length table → added ≡ cond (isBinder (nodeAt table 0)) 0 1 → ShapesBefore i shapes

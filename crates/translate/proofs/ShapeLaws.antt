@@ -20,19 +20,22 @@ use Rattle.cases.specs.Limits.{labelLimit}
 use Rattle.cases.specs.Action.{Action, accepts}
 use Rattle.cases.specs.Formula.{Formula, False, True, And, Or, Box, Diamond, Variable, Fix}
 use Rattle.cases.specs.declared.Transition.{Transition}
+use Rattle.cases.specs.Masks.{maskOf}
 use Rattle.cases.specs.Case.{keep}
 use Rattle.cases.specs.Meaning.{from}
 use Rattle.cases.specs.File.{transitionIn}
 use Rattle.translate.specs.Bytes.{allOperands, cellNumbers}
 use Rattle.translate.specs.Cells.{targets, cellOf}
 use Rattle.translate.specs.declared.Shape.{Shape}
-use Rattle.translate.specs.Writing.{mask, shapeOf, leaves, shapeOperands, shapeKind, shapeCell}
+use Rattle.translate.specs.Writing.{shapeOf, leaves, shapeOperands, shapeKind, shapeCell}
+use Rattle.translate.proofs.NumberBytes.{length-cellNumbers}
+use Rattle.translate.proofs.Counts.{operands-append}
 use Rattle.translate.proofs.Putting.{wrote-none, wrote-no-more, wrote-more}
 use Rattle.translate.specs.Parts.{WroteAt, WroteMore, WroteCells, WroteCellsAt, flagged, distinctIn, leavesAt, leaving, targetCells, targetCell}
 
 -- bit x of an action formula's mask says whether label x is accepted
-pub mask-bit : (α : Action) (x : ℕ) → x < labelLimit → marked (mask α ∷ []) x ≡ accepts eqb α x
-unfolding mask words
+pub mask-bit : (α : Action) (x : ℕ) → x < labelLimit → marked (maskOf α ∷ []) x ≡ accepts eqb α x
+unfolding words
 mask-bit α x h =
     let v : Set = map (accepts eqb α) (range 0 labelLimit) in
     let e : take labelLimit v ≡ v = take-all labelLimit v (omega (arith, length-table (accepts eqb α) labelLimit)) in
@@ -47,9 +50,9 @@ keep-same u p q h (x ∷ xs) t = rw (h x (and-left (u x) (all u xs) t), keep-sam
 -- n states, the distinct transitions and the block of each binder
 module _ (n : ℕ) (ts : List Transition) (low : T (all (λ t. ltb (t .label) labelLimit) ts)) (block : ℕ → ℕ) where
   -- the transitions from s that a mask takes are those whose labels are accepted
-  leaves-from : (α : Action) (s : ℕ) → keep (leaves s (mask α)) ts ≡ keep (from s α) ts
+  leaves-from : (α : Action) (s : ℕ) → keep (leaves s (maskOf α)) ts ≡ keep (from s α) ts
   leaves-from α s =
-      keep-same (λ t. ltb (t .label) labelLimit) (leaves s (mask α)) (from s α)
+      keep-same (λ t. ltb (t .label) labelLimit) (leaves s (maskOf α)) (from s α)
       (λ t l. ap (λ (b : Bool). eqb (t .source) s && b) (mask-bit α (t .label) (ltb→lt _ _ l))) ts low
 
   pub shape-cell : (a : Formula) (i s : ℕ) → shapeCell n ts (shapeOf block a i) i s ≡ cellOf n ts block a i s
@@ -205,12 +208,6 @@ module _ (part first : List ℕ) (s labels : ℕ) where
 
 -- ---- cells and operands, one by one
 
--- the operands of two lists of cells follow one another
-operands-append : (cs ds : List Cell) → allOperands (cs ++ ds) ≡ allOperands cs ++ allOperands ds
-unfolding allOperands
-operands-append [] ds = refl
-operands-append (c ∷ cs) ds = rw (operands-append cs ds, append-assoc)
-
 -- the operands of one cell
 operands-one : (c : Cell) → allOperands (c ∷ []) ≡ operandsOf c
 unfolding allOperands
@@ -236,19 +233,11 @@ numbers-append used (c ∷ cs) ds =
     ∙ ap (λ (l : List ℕ). l ++ cellNumbers (used + length (operandsOf c) + length (allOperands cs)) ds) (sym (cell-first used c cs))
     ∙ ap (λ (u : ℕ). cellNumbers used (c ∷ cs) ++ cellNumbers u ds) k
 
--- a cell has three numbers
-length-numbers : (used : ℕ) (cs : List Cell) → length (cellNumbers used cs) ≡ 3 * length cs
-unfolding cellNumbers
-length-numbers used [] = refl
-length-numbers used (Cell.And os ∷ cs) = omega (arith, length-numbers (used + length os) cs)
-length-numbers used (Cell.Or os ∷ cs) = omega (arith, length-numbers (used + length os) cs)
-length-numbers used (Cell.Variable k s ∷ cs) = omega (arith, length-numbers used cs)
-
 -- Cells that are written behind cells follow them.
 pub wrote-cells-on : {used next r at : ℕ} {cs ds : List Cell} {s t u : List ℕ} → at ≡ 12 * length cs → WroteCells used cs s t next
     → WroteCellsAt at next ds t u r → WroteCells used (cs ++ ds) s u r
 wrote-cells-on {used} {next} {r} {at} {cs} {ds} {s} {t} {u} e p q =
-    let k : at ≡ 4 * length (cellNumbers used cs) = omega (arith, length-numbers used cs) in
+    let k : at ≡ 4 * length (cellNumbers used cs) = omega (arith, length-cellNumbers used cs) in
     record {
       wrote = rw (numbers-append used cs ds, ← p .count) (wrote-more k (p .wrote) (q .wrote));
       count = rw (operands-append cs ds, length-append (allOperands cs) (allOperands ds)) (omega (arith, p .count, q .count));

@@ -17,13 +17,14 @@ use Rattle.cases.specs.Formula.{Formula, False, True, And, Or, Box, Diamond, Va
 use Rattle.cases.specs.declared.Node.{Node}
 use Rattle.cases.specs.declared.Transition.{Transition}
 use Rattle.cases.specs.Prefix.{arityIn, formulaArities, endOf, formulaAt}
+use Rattle.cases.specs.Masks.{maskOf}
 use Rattle.cases.specs.Conditions.{nodeAt, isBinder, binderCount}
 use Rattle.cases.proofs.Trees.{made, arity-at}
 use Rattle.cases.proofs.TableTrees.{each-kind, formulaOperator, FormulaTable, formula-at, root}
 use Rattle.translate.specs.declared.Shape.{Shape}
 use Rattle.translate.specs.Cells.{cellOf, cellsFrom, blocksFrom}
 use Rattle.translate.specs.Whole.{raise, bindsFirst, whole, binderNodes, place, blockIn}
-use Rattle.translate.specs.Writing.{mask, shapeOf, shapeCell}
+use Rattle.translate.specs.Writing.{shapeOf, shapeCell}
 use Rattle.translate.specs.Shapes.{shapesFrom, shapeCells, shapeBlocks, shapeIn, tableShapes}
 use Rattle.translate.proofs.Counts.{nodes-raise}
 use Rattle.translate.proofs.Equations.{raised}
@@ -205,7 +206,7 @@ shape-up action t i = λ q. record {
   kind = nodeAt t i .kind;
   second = second-up (eqb (nodeAt t i .kind) 2 || eqb (nodeAt t i .kind) 3) (endOf (map (arityIn formulaArities) t) (i + 1)) q;
   block = block-up (eqb (nodeAt t i .kind) 6) (isBinder (nodeAt t i)) (binderCount (take (nodeAt t i .arg) t)) (binderCount (take i t)) q;
-  labels = cond (eqb (nodeAt t i .kind) 4 || eqb (nodeAt t i .kind) 5) (mask (action (nodeAt t i .arg))) 0;
+  labels = cond (eqb (nodeAt t i .kind) 4 || eqb (nodeAt t i .kind) 5) (maskOf (action (nodeAt t i .arg))) 0;
 }
 
 shapes-up : (action : ℕ → Action) (t : List Node) (is : List ℕ) → map up (map (shapeIn action t 0) is) ≡ map (shapeIn action t 1) is
@@ -228,7 +229,7 @@ MadeShapes action block i arg bound here next f g k =
       kind = k;
       second = cond (eqb k 2 || eqb k 3) (next + 0) 0;
       block = cond (eqb k 6) (bound + 0) (cond (eqb k 7 || eqb k 8) (here + 0) 0);
-      labels = cond (eqb k 4 || eqb k 5) (mask (action arg)) 0;
+      labels = cond (eqb k 4 || eqb k 5) (maskOf (action arg)) 0;
     } ∷ operandLists (getD formulaArities k 0) (shapesFrom block f (i + 1)) (shapesFrom block g (i + 1 + nodes f))
 
 made-shapes : (action : ℕ → Action) (block : ℕ → ℕ) (i arg bound here next : ℕ) (f g : Formula) (k : ℕ) → k ≤ 8

@@ -12,9 +12,10 @@ use Rattle.cases.specs.Formula.{Formula, False, True, And, Or, Box, Diamond, Va
 use Rattle.cases.specs.declared.Node.{Node}
 use Rattle.cases.specs.Prefix.{arityIn, formulaArities, endOf}
 use Rattle.cases.specs.Conditions.{nodeAt, isBinder, binderCount}
+use Rattle.cases.specs.Masks.{maskOf}
 use Rattle.cases.specs.declared.Transition.{Transition}
 use Rattle.translate.specs.declared.Shape.{Shape}
-use Rattle.translate.specs.Writing.{mask, shapeOf, shapeCell}
+use Rattle.translate.specs.Writing.{shapeOf, shapeCell}
 
 -- the shapes of a formula at node i, node by node in prefix order
 unfoldable pub shapesFrom : (ℕ → ℕ) → Formula → ℕ → List Shape
@@ -47,7 +48,7 @@ shapeIn action table added i =
       kind = x .kind;
       second = cond (eqb (x .kind) 2 || eqb (x .kind) 3) (endOf (map (arityIn formulaArities) table) (i + 1) + added) 0;
       block = cond (eqb (x .kind) 6) (binderCount (take (x .arg) table) + added) (cond (isBinder x) (binderCount (take i table) + added) 0);
-      labels = cond (eqb (x .kind) 4 || eqb (x .kind) 5) (mask (action (x .arg))) 0;
+      labels = cond (eqb (x .kind) 4 || eqb (x .kind) 5) (maskOf (action (x .arg))) 0;
     }
 
 -- the shapes of all nodes of a formula table

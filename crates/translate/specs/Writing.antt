@@ -1,15 +1,13 @@
 -- What the writers hold and write: nodes by their shape.
-use mathlib.Core.Bool.{Bool, true, false, cond, _&&_, _||_}
+use mathlib.Core.Bool.{Bool, cond, _&&_, _||_}
 use mathlib.Core.List.{List, [], _∷_, map}
 use Prim.Native.Nat.{ℕ, _+_, _*_}
 use lib.Dec.{eqb}
 use lib.ListN.{getD}
-use Rattle.sets.specs.Lists.{range}
-use Rattle.sets.specs.Words.{number, marked}
+use Rattle.sets.specs.Words.{marked}
 use Rattle.solver.specs.Cells.{Cell}
-use Rattle.cases.specs.Limits.{labelLimit}
-use Rattle.cases.specs.Action.{Action, accepts}
 use Rattle.cases.specs.Formula.{Formula, False, True, And, Or, Box, Diamond, Variable, Fix, nodes}
+use Rattle.cases.specs.Masks.{maskOf}
 use Rattle.cases.specs.declared.Transition.{Transition}
 use Rattle.cases.specs.Case.{keep}
 use Rattle.translate.specs.declared.Shape.{Shape}
@@ -17,18 +15,14 @@ use Rattle.translate.specs.declared.Shape.{Shape}
 abbrev shape : ℕ → ℕ → ℕ → ℕ → Shape
 shape kind second block labels = record { kind = kind; second = second; block = block; labels = labels }
 
--- the labels that an action formula accepts, as a number
-unfoldable pub mask : Action → ℕ
-mask α = number (map (accepts eqb α) (range 0 labelLimit))
-
 -- the shape of a formula that stands at node i
 unfoldable pub shapeOf : (ℕ → ℕ) → Formula → ℕ → Shape
 shapeOf block False i = shape 0 0 0 0
 shapeOf block True i = shape 1 0 0 0
 shapeOf block (And a b) i = shape 2 (i + 1 + nodes a) 0 0
 shapeOf block (Or a b) i = shape 3 (i + 1 + nodes a) 0 0
-shapeOf block (Box α a) i = shape 4 0 0 (mask α)
-shapeOf block (Diamond α a) i = shape 5 0 0 (mask α)
+shapeOf block (Box α a) i = shape 4 0 0 (maskOf α)
+shapeOf block (Diamond α a) i = shape 5 0 0 (maskOf α)
 shapeOf block (Variable j) i = shape 6 0 (block j) 0
 shapeOf block (Fix sign j a) i = shape (cond sign 8 7) 0 (block j) 0
 

@@ -3,13 +3,13 @@ use crate::Shape;
 use crate::bytes::put_at;
 use crate::bytes::put_three_at;
 use crate::bytes::put_two;
+use crate::shapes::is_modal;
+use crate::shapes::is_pair;
 use cases::number_at;
 use cases::transition_at;
 ghost use mathlib.Core.Path.{_≡_};
-ghost use mathlib.Core.Bool.{_||_};
 ghost use mathlib.Core.List.{[], _∷_, map};
 ghost use Prim.Native.Nat.{ℕ, _+_, _*_, _^_, _<_, _≤_};
-ghost use lib.Dec.{eqb};
 ghost use lib.ListN.{length};
 ghost use Rattle.sets.specs.Lists.{range};
 ghost use Rattle.sets.specs.Size.{stateLimit};
@@ -141,21 +141,7 @@ fn write_pair(out: &mut [u8], done: usize, x: usize, y: usize) -> usize
     done + 2
 }
 
-// Whether a node of this kind has two operands: and, or.
-fn is_pair(kind: usize) -> bool
-    ensures { λ r. ⌜ r ≡ (eqb kind 2 || eqb kind 3) ⌝ }
-{
-    kind == 2 || kind == 3
-}
-
-// Whether its operands follow transitions: box, diamond.
-fn is_modal(kind: usize) -> bool
-    ensures { λ r. ⌜ r ≡ (eqb kind 4 || eqb kind 5) ⌝ }
-{
-    kind == 4 || kind == 5
-}
-
-// The kind of its cells.
+// The kind of the cells of a node of this kind.
 fn cell_kind(kind: usize) -> usize
     requires { ⌜ kind ≤ 8 ⌝ }
     ensures { λ r. ⌜ r ≡ shapeKind kind ⌝ }

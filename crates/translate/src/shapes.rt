@@ -45,24 +45,18 @@ pub fn first_appearances(part: &[u8], m: usize) -> [u8; TRANSITIONS]
     flags
 }
 
-// Whether a kind is and, or.
-fn is_pair(kind: usize) -> bool
+// Whether a node of this kind has two operands: and, or.
+pub fn is_pair(kind: usize) -> bool
     ensures { λ r. ⌜ r ≡ (eqb kind 2 || eqb kind 3) ⌝ }
 {
-    if kind == 2 {
-        return true;
-    }
-    kind == 3
+    kind == 2 || kind == 3
 }
 
-// Whether a kind is box, diamond.
-fn is_modal(kind: usize) -> bool
+// Whether its operands follow transitions: box, diamond.
+pub fn is_modal(kind: usize) -> bool
     ensures { λ r. ⌜ r ≡ (eqb kind 4 || eqb kind 5) ⌝ }
 {
-    if kind == 4 {
-        return true;
-    }
-    kind == 5
+    kind == 4 || kind == 5
 }
 
 // The node of the second operand of node i; 0 where there is none.

@@ -11,3 +11,4 @@ pub mod Checking
 pub mod PrefixRules
 pub mod ModelRules
 pub mod FormulaRules
+pub mod ClosedMeaning

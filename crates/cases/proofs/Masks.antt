@@ -208,22 +208,6 @@ masked-first table ws at j m =
 
 -- ---- operands by kind
 
-pub takes-none : (kind : ℕ) → kind < 3 → 0 ≡ getD actionArities kind 0
-takes-none zero h = refl
-takes-none (suc zero) h = refl
-takes-none (suc (suc zero)) h = refl
-takes-none (suc (suc (suc kind))) h = absurd (omega arith)
-
-pub takes-two : (kind : ℕ) → 3 < kind → kind ≤ 6 → 2 ≡ getD actionArities kind 0
-takes-two zero h g = absurd (omega arith)
-takes-two (suc zero) h g = absurd (omega arith)
-takes-two (suc (suc zero)) h g = absurd (omega arith)
-takes-two (suc (suc (suc zero))) h g = absurd (omega arith)
-takes-two (suc (suc (suc (suc zero)))) h g = refl
-takes-two (suc (suc (suc (suc (suc zero))))) h g = refl
-takes-two (suc (suc (suc (suc (suc (suc zero)))))) h g = refl
-takes-two (suc (suc (suc (suc (suc (suc (suc kind))))))) h g = absurd (omega arith)
-
 -- ---- condition 7
 
 -- a label node that passes has a label

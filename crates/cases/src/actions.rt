@@ -1,5 +1,6 @@
 // The action part: the labels that an action formula accepts, as a mask with a bit for each label.
 use crate::ACTIONS;
+use crate::conditions::action_arity;
 use crate::file::node_at;
 ghost use mathlib.Core.Path.{_≡_};
 ghost use mathlib.Core.List.{map};
@@ -8,23 +9,9 @@ ghost use lib.ListN.{length, getD};
 ghost use Rattle.sets.specs.Lists.{range};
 ghost use Rattle.cases.specs.Limits.{labelLimit, actionLimit};
 ghost use Rattle.cases.specs.Action.{Action};
-ghost use Rattle.cases.specs.Prefix.{actionArities, actionAt};
+ghost use Rattle.cases.specs.Prefix.{actionAt};
 ghost use Rattle.cases.specs.File.{nodeIn};
 ghost use Rattle.cases.specs.Masks.{maskOf, actionOf, WholeActions};
-
-// How many operands a node of a kind takes.
-fn operand_count(kind: usize) -> usize
-    requires { ⌜ kind ≤ 6 ⌝ }
-    ensures { λ r. ⌜ r ≡ getD actionArities kind 0 ⌝ }
-{
-    if kind < 3 {
-        return 0;
-    }
-    if kind == 3 {
-        return 1;
-    }
-    2
-}
 
 // The mask of a node, where x and y are the masks that stand next after it.
 fn mask_of(kind: usize, arg: usize, x: u64, y: u64) -> u64
@@ -76,7 +63,7 @@ pub fn accepted_labels(part: &[u8], a: usize, j: usize) -> u64
         let node = node_at(part, i);
         let x = mask_at(&masks, at);
         let y = mask_at(&masks, at + 1);
-        at = at + operand_count(node.kind) - 1;
+        at = at + action_arity(node.kind) - 1;
         masks[at] = mask_of(node.kind, node.arg, x, y);
     }
     mask_at(&masks, at)

@@ -129,7 +129,7 @@ fn one_less(due: usize) -> usize
 }
 
 // How many operands an action kind has.
-fn action_arity(kind: usize) -> usize
+pub fn action_arity(kind: usize) -> usize
     ensures { λ r. ⌜ (r ≡ getD actionArities kind 0) × (r ≤ 2) ⌝ }
 {
     if kind < 3 {

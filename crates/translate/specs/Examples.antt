@@ -3,14 +3,17 @@ use mathlib.Core.Path.{_≡_, refl}
 use mathlib.Core.Bool.{Bool, true, false}
 use mathlib.Core.List.{List, [], _∷_, _++_, map, flatMap}
 use Prim.Native.Nat.{ℕ, _+_, _*_, _/_, _%_}
-use lib.ListN.{replicate}
+use lib.ListN.{replicate, take}
 use Rattle.sets.specs.Lists.{range, all, any}
 use Rattle.solver.specs.Cells.{operandsOf}
+use Rattle.solver.specs.Outcome.{firstOf}
 use Rattle.cases.specs.Action.{accepts}
 use Rattle.cases.specs.Formula.{nodes}
-use Rattle.cases.specs.Prefix.{trees, actionAt, formulaAt}
+use Rattle.cases.specs.Prefix.{trees, actionAt, formulaAt, wholeFormulas, exactly, span}
 use Rattle.cases.specs.File.{u16, transitionTable, actionTable, formulaTable}
 use Rattle.cases.specs.Case.{Case, caseOf, sameTransition, copies, copiesBefore, keep, distinct}
+use Rattle.cases.specs.Conditions.{tooSmall, otherVersion, badCount, badOffset, badLength, badModel, badActions, badFormula, boundOk, badVariable, binderCount, blockCount, tooDeep, modelConditions, formulaConditions, caseRefusal}
+use Rattle.translate.specs.Translating.{refusalIn}
 use Rattle.translate.specs.Whole.{raise, bindsFirst, whole, binderNodes, place, blockIn}
 use Rattle.translate.specs.Tables.{Expression, ⋀, Sat⇒, X, nil, cons, each, RHS, E}
 use Rattle.translate.specs.Plain.{Plain, All, Var, none, more, leftOut, plain, plains}
@@ -183,6 +186,17 @@ equations b = fileOf (caseOf b)
 pub worked : map (λ (x : Example). equations (x .0)) examples ≡ map (λ (x : Example). x .1) examples
 unfolding equations examples
 worked = refl
+
+-- what the bytes of a case are refused with, where the buffer has so many bytes, with all that this computes with
+pub refusals : List ℕ → List ℕ → List ℕ
+unfolding equations refusalIn caseRefusal firstOf modelConditions formulaConditions tooSmall otherVersion badCount badOffset badLength badModel badActions
+    badFormula boundOk badVariable binderCount blockCount tooDeep wholeFormulas exactly span
+refusals b rooms = map (refusalIn b) rooms
+
+-- P1 in buffers that are too short, just long enough, and longer; and P1 cut short, which no buffer helps
+pub rooms : (refusals p1 (0 ∷ 159 ∷ 160 ∷ 200 ∷ []) ≡ 13 ∷ 13 ∷ 0 ∷ 0 ∷ []) × (refusals (take 53 p1) (0 ∷ 200 ∷ []) ≡ 5 ∷ 5 ∷ [])
+unfolding refusals p1
+rooms = (refl, refl)
 
 -- An equation written out: sign, block, and the right-hand sides of states 0, 1 and so on, as the table has them and without Sat.
 abbrev pub Shown : Type 0

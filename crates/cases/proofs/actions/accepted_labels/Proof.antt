@@ -23,15 +23,15 @@ known c =
 
 -- there is a place for its mask
 fits :
-    (c : tie.After-operand-count Inv-loop μ-loop)
-    → (1 ≤ c .before .before .before .before .before .before .before .loop .at + c .operand-count .result)
-    × (c .before .before .before .before .before .before .before .loop .at + c .operand-count .result ≤ actionLimit)
+    (c : tie.After-action-arity Inv-loop μ-loop)
+    → (1 ≤ c .before .before .before .before .before .before .before .loop .at + c .action-arity .result)
+    × (c .before .before .before .before .before .before .before .loop .at + c .action-arity .result ≤ actionLimit)
 fits c =
     let p = c .before .before .before .before .before .before .before .before .before in
     let s = c .before .before .before .before .before .before .before .loop in
     let n = c .before .before .before .before .before .node-at in
     let t = turn-fits (p .args .part .now) (p .args .a) (p .pre .3) (s .masks) (s .at) (s .i) (omega arith) (omega arith) (s .inv .2) (n .result) (n .ensures) in
-    omega (arith, c .operand-count .ensures)
+    omega (arith, c .action-arity .ensures .0)
 
 loop-holds : tie.Need-loop-holds Inv-loop μ-loop
 loop-holds c =
@@ -59,8 +59,8 @@ add-mask-at c = omega arith
 mask-at-requires-2 : tie.Need-mask-at-requires-2 Inv-loop μ-loop
 mask-at-requires-2 c κs = tt
 
-operand-count-requires : tie.Need-operand-count-requires Inv-loop μ-loop
-operand-count-requires c κs = known (c .before .before .before .before) .0
+action-arity-requires : tie.Need-action-arity-requires Inv-loop μ-loop
+action-arity-requires c κs = tt
 
 add-at : tie.Need-add-at Inv-loop μ-loop
 add-at c = omega (arith, fits c)
@@ -85,10 +85,10 @@ loop-again c =
     let p = c .before .before .before .before .before .before .before .before .before .before in
     let s = c .before .before .before .before .before .before .before .before .loop in
     let n = c .before .before .before .before .before .before .node-at in
-    let k = c .before .operand-count in (
+    let k = c .before .action-arity in (
       omega arith,
       omega arith,
-      turn-masked (p .args .part .now) (p .args .a) (p .pre .3) (s .masks) (s .at) (s .i) (omega arith) (omega arith) (s .inv .2) (n .result) (n .ensures) (k .result) (c .mask-of .result) (k .ensures)
+      turn-masked (p .args .part .now) (p .args .a) (p .pre .3) (s .masks) (s .at) (s .i) (omega arith) (omega arith) (s .inv .2) (n .result) (n .ensures) (k .result) (c .mask-of .result) (k .ensures .0)
           (λ a b e f. c .mask-of .ensures a b (c .before .before .before .before .mask-at .ensures ∙ e) (c .before .before .mask-at2 .ensures ∙ f)),
     )
 
@@ -119,7 +119,7 @@ accepted-labels-spec =
     slice-aggregate-mask-at-2
     add-mask-at
     mask-at-requires-2
-    operand-count-requires
+    action-arity-requires
     add-at
     sub-at
     mask-of-requires

@@ -1,6 +1,7 @@
 // Writing the blocks of an equation file: one for each binder of the formula.
 use crate::Shape;
 use crate::bytes::put_two;
+use crate::shapes::SHAPES;
 ghost use mathlib.Core.Path.{_≡_};
 ghost use mathlib.Core.List.{[], _∷_};
 ghost use Prim.Native.Nat.{ℕ, _+_, _*_, _≤_};
@@ -14,8 +15,8 @@ ghost use Rattle.translate.specs.Parts.{WroteMore, WroteAll};
 ghost use Rattle.translate.specs.Shapes.{shapeBlocks};
 
 // How many of the first k nodes are binders.
-pub fn block_count(shapes: [Shape; 65], k: usize) -> usize
-    requires { ⌜ k ≤ 65 ⌝ }
+pub fn block_count(shapes: [Shape; SHAPES], k: usize) -> usize
+    requires { ⌜ k ≤ nodeLimit + 1 ⌝ }
     ensures { λ r. ⌜ ((n : ℕ) → r ≡ length (shapeBlocks n 0 (take k shapes))) × (r ≤ k) ⌝ }
 {
     let mut found: usize = 0;
@@ -53,8 +54,8 @@ fn write_block(out: &mut [u8], done: usize, n: usize, x: Shape, i: usize) -> usi
 }
 
 // The blocks of the first k nodes, where there are n states. Answers how many numbers are written.
-pub fn write_blocks(out: &mut [u8], n: usize, shapes: [Shape; 65], k: usize) -> usize
-    requires { ⌜ (n ≤ stateLimit) × (k ≤ 65)
+pub fn write_blocks(out: &mut [u8], n: usize, shapes: [Shape; SHAPES], k: usize) -> usize
+    requires { ⌜ (n ≤ stateLimit) × (k ≤ nodeLimit + 1)
         × (8 * length (shapeBlocks n 0 (take k shapes)) ≤ length (now out)) ⌝ }
     ensures { λ r. ⌜ WroteAll (blockNumbers (shapeBlocks n 0 (take k shapes))) (now (out .entry)) (now (out .exit)) r ⌝ }
 {

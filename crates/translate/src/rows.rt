@@ -2,6 +2,7 @@
 use crate::Shape;
 use crate::nodes::write_cells;
 use crate::nodes::write_operands;
+use crate::shapes::SHAPES;
 ghost use mathlib.Core.List.{map};
 ghost use Prim.Native.Nat.{ℕ, _+_, _*_, _^_, _<_, _≤_};
 ghost use lib.ListN.{length, take};
@@ -39,7 +40,7 @@ pub fn write_all_cells(
     first: &[u8],
     m: usize,
     n: usize,
-    shapes: [Shape; 65],
+    shapes: [Shape; SHAPES],
     k: usize,
 ) -> usize
     requires { ⌜ Sources (now part) (now first) m shapes k n × (12 * (k * n) ≤ length (now out)) ⌝ }
@@ -81,7 +82,7 @@ pub fn write_all_operands(
     first: &[u8],
     m: usize,
     n: usize,
-    shapes: [Shape; 65],
+    shapes: [Shape; SHAPES],
     k: usize,
 ) -> usize
     requires { ⌜ Sources (now part) (now first) m shapes k n

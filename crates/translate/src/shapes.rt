@@ -17,7 +17,7 @@ ghost use Rattle.translate.specs.Shapes.{shapeIn};
 ghost use Rattle.translate.specs.Tabled.{FirstFlags, Blocks, Tables, HoldsShapes};
 
 // The limit on nodes, and one more for a nu that is put before the root.
-pub const SHAPES: usize = 65;
+pub const SHAPES: usize = cases::NODES + 1;
 
 // 1 where transition j of m is the first of its kind, and 0 where it is a copy.
 fn first_flag(part: &[u8], m: usize, j: usize) -> u8

@@ -1,13 +1,14 @@
 // How many operands the cells of a formula's nodes have.
 use crate::Shape;
 use crate::nodes::operand_count;
+use crate::shapes::SHAPES;
 ghost use mathlib.Core.Path.{_≡_};
 ghost use mathlib.Core.List.{map};
-ghost use Prim.Native.Nat.{ℕ, _*_, _≤_};
+ghost use Prim.Native.Nat.{_+_, ℕ, _*_, _≤_};
 ghost use lib.ListN.{length, take};
 ghost use Rattle.sets.specs.Lists.{range};
 ghost use Rattle.sets.specs.Size.{stateLimit};
-ghost use Rattle.cases.specs.Limits.{transitionLimit};
+ghost use Rattle.cases.specs.Limits.{transitionLimit, nodeLimit};
 ghost use Rattle.translate.specs.Bytes.{allOperands};
 ghost use Rattle.translate.specs.Writing.{shapeCell};
 ghost use Rattle.translate.specs.Shapes.{shapeCells};
@@ -32,10 +33,10 @@ pub fn operand_total(
     first: &[u8],
     m: usize,
     n: usize,
-    shapes: [Shape; 65],
+    shapes: [Shape; SHAPES],
     k: usize,
 ) -> usize
-    requires { ⌜ Recorded (now part) (now first) m × (m ≤ transitionLimit) × (n ≤ stateLimit) × (k ≤ 65) ⌝ }
+    requires { ⌜ Recorded (now part) (now first) m × (m ≤ transitionLimit) × (n ≤ stateLimit) × (k ≤ nodeLimit + 1) ⌝ }
     ensures { λ r. ⌜ r ≡ length (allOperands (shapeCells n (distinctIn (now (part .entry)) (now (first .entry)) m) 0 (take k shapes))) ⌝ }
 {
     let mut total: usize = 0;

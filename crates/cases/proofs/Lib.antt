@@ -12,3 +12,4 @@ pub mod PrefixRules
 pub mod ModelRules
 pub mod FormulaRules
 pub mod ClosedMeaning
+pub mod Accepting

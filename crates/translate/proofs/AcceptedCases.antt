@@ -1,15 +1,14 @@
 -- An accepted case is within the limits of its equations, and each of its variables is bound.
 use mathlib.Core.Path.{_≡_, refl, ap, _∙_}
 use mathlib.Core.Bool.{Bool, true, false, cond, _&&_, _||_}
-use mathlib.Core.List.{List, [], _∷_, _++_, map}
-use Prim.Native.Nat.{ℕ, zero, suc, _+_, _≤_, _<_}
+use mathlib.Core.List.{List, map}
+use Prim.Native.Nat.{ℕ, _+_, _≤_, _<_}
 use native.Mathlib.Omega.{arith}
 use borrow.Author.Tests.{not-false, ltb-false}
 use lib.Dec.{T, eqb, ltb, ltb→lt}
-use lib.ListN.{length, getD, length-map, length-append}
+use lib.ListN.{length, length-map, length-append}
 use Rattle.sets.specs.Lists.{all}
 use Rattle.sets.proofs.Lists.{and-left, and-right, length-table}
-use Rattle.solver.specs.Outcome.{firstOf}
 use Rattle.cases.specs.Action.{Action}
 use Rattle.cases.specs.Formula.{Formula, False, True, And, Or, Box, Diamond, Variable, Fix, nodes, binders}
 use Rattle.cases.specs.declared.Node.{Node}
@@ -17,50 +16,17 @@ use Rattle.cases.specs.Prefix.{arityIn, formulaArities, actionAt, formulaAt}
 use Rattle.cases.specs.File.{stateCount, labelCount, initialState, transitionCount, nodeCount, actionCount, transitionTable, actionTable, formulaTable}
 use Rattle.cases.specs.File.{transitionPart, formulaPart, transitionIn, nodeIn}
 use Rattle.cases.specs.Case.{caseOf}
-use Rattle.cases.specs.Conditions.{transitionOk, nodeAt, isBinder, badModel, badActions, badFormula, badVariable, blockCount, tooDeep, modelConditions, formulaConditions, caseRefusal, Accepted}
-use Rattle.cases.specs.Checks.{Laid}
+use Rattle.cases.specs.Conditions.{transitionOk, nodeAt, isBinder, badModel, blockCount, tooDeep, Accepted}
 use Rattle.cases.proofs.Spans.{span-length}
 use Rattle.cases.proofs.Trees.{made}
 use Rattle.cases.proofs.TableTrees.{holds, held, each-kind, formulaOperator, FormulaTable, formula-table, formula-at, root}
 use Rattle.cases.proofs.Counting.{nodes-span, binders-all}
 use Rattle.cases.proofs.Scopes.{Bound, variable-bound, formula-scoped}
-use Rattle.cases.proofs.ModelRules.{small-not, laid}
+use Rattle.cases.proofs.Accepting.{Passed, passed}
 use Rattle.translate.specs.Whole.{raise, bindsFirst, whole, binderNodes}
 use Rattle.translate.proofs.Equations.{raised}
 use Rattle.translate.proofs.Closing.{closed-whole}
 use Rattle.translate.proofs.CaseFile.{Fit}
-
--- ---- no condition holds
-
--- If none of the conditions is the first that holds, and each has a number above 0, then none of them holds.
-pub condition-fails : (cs : List (ℕ × Bool)) → T (all (λ c. ltb 0 (c .0)) cs) → firstOf cs ≡ 0 → (i : ℕ) → getD cs i (0, false) .1 ≡ false
-unfolding firstOf all
-condition-fails [] t h i = refl
-condition-fails ((n, true) ∷ cs) t h i = absurd (omega (arith, ltb→lt 0 n (and-left (ltb 0 n) _ t)))
-condition-fails ((n, false) ∷ cs) t h zero = refl
-condition-fails ((n, false) ∷ cs) t h (suc i) = condition-fails cs (and-right (ltb 0 n) _ t) h i
-
--- what an accepted case's conditions give
-pub record Passed (b : List ℕ) : Type 0 where
-  pub lies : Laid b
-  pub model : badModel b ≡ false
-  pub actions : badActions b ≡ false
-  pub formula : badFormula (actionCount b) (formulaTable b) ≡ false
-  pub variables : badVariable (formulaTable b) ≡ false
-  pub depth : tooDeep (formulaTable b) ≡ false
-
-pub passed : (b : List ℕ) → Accepted b → Passed b
-unfolding caseRefusal modelConditions formulaConditions all
-passed b ok =
-    let fails = condition-fails (modelConditions b ++ formulaConditions (actionCount b) (formulaTable b)) tt ok in
-    record {
-      lies = laid b (small-not b (fails 0)) (fails 2) (fails 3) (fails 4);
-      model = fails 5;
-      actions = fails 6;
-      formula = fails 7;
-      variables = fails 8;
-      depth = fails 9;
-    }
 
 -- ---- the model
 

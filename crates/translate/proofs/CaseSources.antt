@@ -38,7 +38,8 @@ use Rattle.translate.proofs.FirstAppearances.{flagged-distinct}
 use Rattle.translate.proofs.TableShapes.{shape-blocks, shape-cells, table-shapes}
 use Rattle.translate.proofs.ShapeLaws.{shape-cell}
 use Rattle.translate.proofs.CaseFile.{operands-high}
-use Rattle.translate.proofs.AcceptedCases.{Passed, passed, model-holds, length-formula, variables-known, fit}
+use Rattle.cases.proofs.Accepting.{Passed, passed}
+use Rattle.translate.proofs.AcceptedCases.{model-holds, length-formula, variables-known, fit}
 
 -- ---- the tables
 

@@ -1,9 +1,11 @@
 -- The promises of the translator, as theorems about its definitions: b is the case file, any list of bytes.
 -- By its contract, Translated of specs/Translating.antt, translate answers and writes what refusalIn and file say.
 use mathlib.Core.Path.{_≡_, refl, sym, ap, _∙_}
+use mathlib.Core.Logic.{_⊎_, inl, inr}
 use mathlib.Core.Bool.{Bool, true, false, cond}
 use mathlib.Core.List.{List, [], _∷_, _++_, map, map-append}
 use Prim.Native.Nat.{ℕ, _+_, _*_, _≤_, _<_}
+use native.Mathlib.Omega.{arith}
 use lib.Dec.{T, eqb, ltb}
 use lib.ListN.{length, getD, drop}
 use borrow.Author.Tests.{eqb-true, eq-eqb, ne-eqb, lt-ltb, le-ltb}
@@ -32,7 +34,8 @@ use Rattle.translate.proofs.Equations as equations
 use Rattle.translate.proofs.BinderNodes.{increasing-binders}
 use Rattle.translate.proofs.ShapeLaws.{keep-append}
 use Rattle.translate.proofs.CaseFile as of
-use Rattle.translate.proofs.AcceptedCases.{fit, passed}
+use Rattle.cases.proofs.Accepting.{refusal-low, passed}
+use Rattle.translate.proofs.AcceptedCases.{fit}
 
 -- ---- the answer
 
@@ -70,6 +73,16 @@ too-short-when b room accepted h = rw (eq-eqb (caseRefusal b) 0 accepted, lt-ltb
 pub refused-when : (b : List ℕ) (room : ℕ) → ¬ Accepted b → refusalIn b room ≡ caseRefusal b
 unfolding refusalIn
 refused-when b room h = rw (ne-eqb (caseRefusal b) 0 h)
+
+-- So the number is one of 1 to 10, or 13, or there is none.
+pub one-number : (b : List ℕ) (room : ℕ) → (refusalIn b room ≤ 10) ⊎ (refusalIn b room ≡ 13)
+unfolding refusalIn
+one-number b room = go (eqb (caseRefusal b) 0) (ltb room (length (file b)))
+  where
+    go : (x y : Bool) → (cond x (cond y 13 0) (caseRefusal b) ≤ 10) ⊎ (cond x (cond y 13 0) (caseRefusal b) ≡ 13)
+    go true true = inr refl
+    go true false = inl (omega arith)
+    go false y = inl (refusal-low b)
 
 -- ---- transitions
 

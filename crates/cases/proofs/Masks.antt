@@ -13,7 +13,7 @@ use lib.ListN.{length, getD, set, drop, length-set, length-drop, length-map, dro
 use lib.Seq.{drop-cons, drop-drop, drop-length, getD-drop, getD-set-same, drop-set-lt}
 use Rattle.sets.specs.Lists.{range, all}
 use Rattle.sets.proofs.Lists.{length-range, length-table, table-at, and-left, and-right, all-at}
-use Rattle.sets.proofs.Masks.{number-false, number-true, number-one, number-not, number-and, number-or}
+use Rattle.sets.proofs.Masks.{bitwise-and, bitwise-or, number-false, number-true, number-bitwise, number-not, number-one}
 use Rattle.cases.specs.Limits.{labelLimit, actionLimit}
 use Rattle.cases.specs.Action.{Action, accepts}
 use Rattle.cases.specs.Prefix.{Node, arityIn, actionArities, wholeFormulas, trees, placeAction, actionAt}
@@ -46,15 +46,15 @@ mask-not a = rw (length-range 0 labelLimit) at (number-not (accepts eqb a) label
 
 pub mask-and : (a b : Action) → bitAnd (maskOf a) (maskOf b) ≡ maskOf (Action.And a b)
 unfolding accepts
-mask-and a b = number-and (accepts eqb a) (accepts eqb b) labels
+mask-and a b = number-bitwise bitwise-and (accepts eqb a) (accepts eqb b) labels
 
 pub mask-or : (a b : Action) → bitOr (maskOf a) (maskOf b) ≡ maskOf (Action.Or a b)
 unfolding accepts
-mask-or a b = number-or (accepts eqb a) (accepts eqb b) labels
+mask-or a b = number-bitwise bitwise-or (accepts eqb a) (accepts eqb b) labels
 
 pub mask-implies : (a b : Action) → bitOr ((2 ^ 64 - 1) - maskOf a) (maskOf b) ≡ maskOf (Action.Implies a b)
 unfolding accepts
-mask-implies a b = rw (mask-not a) (number-or (accepts eqb (Action.Not a)) (accepts eqb b) labels)
+mask-implies a b = rw (mask-not a) (number-bitwise bitwise-or (accepts eqb (Action.Not a)) (accepts eqb b) labels)
 
 -- ---- a node on top of the formulas after it
 

@@ -39,7 +39,7 @@ contrary : (a b : Bool) → Implies a b → Implies (not b) (not a)
 contrary a b h t = not-T a (λ s. T-not b t (h s))
 
 -- all have p if none has not
-all-not : {A : Type 0} (p : A → Bool) (xs : List A) → all p xs ≡ not (any (λ x. not (p x)) xs)
+pub all-not : {A : Type 0} (p : A → Bool) (xs : List A) → all p xs ≡ not (any (λ x. not (p x)) xs)
 unfolding all any
 all-not p [] = refl
 all-not p (x ∷ xs) = go (p x) (all-not p xs)

@@ -4,3 +4,4 @@ pub mod Order
 pub mod FixedPoint
 pub mod Words
 pub mod Masks
+pub mod Stores

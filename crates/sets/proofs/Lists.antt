@@ -7,7 +7,7 @@ use native.Mathlib.Nat.{zero-add}
 use native.Mathlib.Numerals.{add-one}
 use native.Mathlib.Omega.{arith}
 use lib.Dec.{T, ltb, ltb→lt}
-use lib.ListN.{length, getD, drop, length-map, drop-of-length-le}
+use lib.ListN.{length, getD, take, drop, length-map, drop-of-length-le}
 use lib.Seq.{drop-cons}
 use Rattle.sets.specs.Lists.{range, all, any}
 
@@ -32,6 +32,17 @@ pub getD-map : {A B : Type 0} (f : A → B) (xs : List A) (i : ℕ) (a : A) (b :
 getD-map f [] i a b h = absurd (omega arith)
 getD-map f (x ∷ xs) zero a b h = refl
 getD-map f (x ∷ xs) (suc i) a b h = getD-map f xs i a b (omega arith)
+
+-- the first i elements of a mapped list, and those after them
+pub take-map : {A B : Type 0} (f : A → B) (xs : List A) (i : ℕ) → take i (map f xs) ≡ map f (take i xs)
+take-map f xs zero = refl
+take-map f [] (suc i) = refl
+take-map f (x ∷ xs) (suc i) = ap (λ (l : List _). f x ∷ l) (take-map f xs i)
+
+pub drop-map : {A B : Type 0} (f : A → B) (xs : List A) (i : ℕ) → drop i (map f xs) ≡ map f (drop i xs)
+drop-map f xs zero = refl
+drop-map f [] (suc i) = refl
+drop-map f (x ∷ xs) (suc i) = drop-map f xs i
 
 -- f of a range of numbers: how many, and each
 pub length-map-range : {B : Type 0} (f : ℕ → B) (i k : ℕ) → length (map f (range i k)) ≡ k

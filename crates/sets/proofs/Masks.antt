@@ -1,20 +1,40 @@
--- Laws of the numbers of sets that a property picks out of a list: bit by bit, the operations on numbers are those on truth values.
-use mathlib.Core.Path.{_≡_, refl, _∙_}
-use mathlib.Core.Bool.{Bool, true, false, not, _&&_, _||_}
-use mathlib.Core.List.{List, [], _∷_, map}
-use Prim.Native.Nat.{ℕ, zero, suc, _+_, _-_, _*_, _^_, _<_, min, max}
+-- Laws of the numbers and words of sets that a property picks out of a list: bit by bit, the operations on numbers are those on truth values.
+use mathlib.Core.Path.{_≡_, refl, sym, ap, _∙_}
+use mathlib.Core.Bool.{Bool, true, false, not, cond, _&&_, _||_}
+use mathlib.Core.List.{List, [], _∷_, map, map-id}
+use Prim.Native.Nat.{ℕ, zero, suc, _+_, _-_, _*_, _/_, _%_, _^_, _<_, min, max}
 use native.Mathlib.Omega.{arith}
 use native.Mathlib.Nat.{pow-suc}
-use lib.ListN.{length, length-map}
-use lib.Bits.{bitAnd, bitOr, and-step, or-step, and-zero-l, or-zero-l}
+use lib.ListN.{length, getD, take, drop, length-map}
+use lib.Seq.{ext-getD}
+use lib.Bits.{bitAnd, bitOr, bitXor, differ, and-step, or-step, xor-step, and-zero-l, or-zero-l, xor-zero-l}
 use lib.Dec.{eqb}
 use lib.Pow.{pow-pos}
 use borrow.Author.Tests.{eq-eqb, ne-eqb}
 use Rattle.sets.specs.Lists.{range}
-use Rattle.sets.specs.Words.{number, bit}
-use Rattle.sets.proofs.Words.{half, odd, number-fits}
+use Rattle.sets.specs.Set.{Set, has, start}
+use Rattle.sets.specs.Words.{words, number, bit}
+use Rattle.sets.proofs.Lists.{length-table, table-at, take-map, drop-map}
+use Rattle.sets.proofs.Words.{half, odd, number-fits, part, word-at}
 
--- one bit of an and, an or and a not
+-- ---- operations bit by bit
+
+-- An operation on numbers does to each bit what f does to truth values.
+pub record Bitwise (op : ℕ → ℕ → ℕ) (f : Bool → Bool → Bool) : Type 0 where
+  pub none : op 0 0 ≡ 0
+  pub more : (a b : Bool) (x y : ℕ) → op (bit a + 2 * x) (bit b + 2 * y) ≡ bit (f a b) + 2 * op x y
+
+-- so it is where the operation goes digit by digit, and f is what it does to a digit
+digitwise : {op : ℕ → ℕ → ℕ} {f : Bool → Bool → Bool} (digit : ℕ → ℕ → ℕ) → op 0 0 ≡ 0
+    → ((x y : ℕ) → op x y ≡ op (x / 2) (y / 2) * 2 + digit (x % 2) (y % 2))
+    → ((a b : Bool) → digit (bit a) (bit b) ≡ bit (f a b)) → Bitwise op f
+digitwise digit z step is = record {
+  none = z;
+  more = λ a b x y.
+      step (bit a + 2 * x) (bit b + 2 * y) ∙ rw (half a x, half b y, odd a x, odd b y, is a b) (omega arith);
+}
+
+-- one bit of an and, an or, a difference and a not
 bit-and : (a b : Bool) → min (bit a) (bit b) ≡ bit (a && b)
 bit-and true true = omega arith
 bit-and true false = omega arith
@@ -26,9 +46,33 @@ bit-or true false = omega arith
 bit-or false true = omega arith
 bit-or false false = omega arith
 
+bit-differ : (a b : Bool) → differ (bit a) (bit b) ≡ bit (cond a (not b) b)
+bit-differ true true = refl
+bit-differ true false = refl
+bit-differ false b = refl
+
 bit-not : (b : Bool) → bit b + bit (not b) ≡ 1
 bit-not true = refl
 bit-not false = refl
+
+-- both
+pub bitwise-and : Bitwise bitAnd _&&_
+bitwise-and = digitwise min (and-zero-l 0) and-step bit-and
+
+-- one or the other
+pub bitwise-or : Bitwise bitOr _||_
+bitwise-or = digitwise max (or-zero-l 0) or-step bit-or
+
+-- exactly one
+bitwise-xor : Bitwise bitXor (λ a b. cond a (not b) b)
+bitwise-xor = digitwise differ (xor-zero-l 0) xor-step bit-differ
+
+-- an or, if `either`, else an and
+pub bitwise-either : (either : Bool) → Bitwise (λ x y. cond either (bitOr x y) (bitAnd x y)) (λ a b. cond either (a || b) (a && b))
+bitwise-either true = bitwise-or
+bitwise-either false = bitwise-and
+
+-- ---- the numbers of sets
 
 module _ {A : Type 0} where
   -- none, and each one
@@ -42,21 +86,13 @@ module _ {A : Type 0} where
   number-true [] = refl
   number-true (x ∷ xs) = omega (arith, number-true xs, pow-suc 2 (length xs), pow-pos (length xs))
 
-  -- both
-  pub number-and : (p q : A → Bool) (xs : List A) → bitAnd (number (map p xs)) (number (map q xs)) ≡ number (map (λ x. p x && q x) xs)
+  -- those that an operation picks
+  pub number-bitwise : {op : ℕ → ℕ → ℕ} {f : Bool → Bool → Bool} → Bitwise op f
+      → (p q : A → Bool) (xs : List A) → op (number (map p xs)) (number (map q xs)) ≡ number (map (λ x. f (p x) (q x)) xs)
   unfolding number
-  number-and p q [] = and-zero-l 0
-  number-and p q (x ∷ xs) =
-      and-step (bit (p x) + 2 * number (map p xs)) (bit (q x) + 2 * number (map q xs))
-      ∙ rw (half (p x) (number (map p xs)), half (q x) (number (map q xs)), odd (p x) (number (map p xs)), odd (q x) (number (map q xs)), number-and p q xs, bit-and (p x) (q x)) (omega arith)
-
-  -- one or the other
-  pub number-or : (p q : A → Bool) (xs : List A) → bitOr (number (map p xs)) (number (map q xs)) ≡ number (map (λ x. p x || q x) xs)
-  unfolding number
-  number-or p q [] = or-zero-l 0
-  number-or p q (x ∷ xs) =
-      or-step (bit (p x) + 2 * number (map p xs)) (bit (q x) + 2 * number (map q xs))
-      ∙ rw (half (p x) (number (map p xs)), half (q x) (number (map q xs)), odd (p x) (number (map p xs)), odd (q x) (number (map q xs)), number-or p q xs, bit-or (p x) (q x)) (omega arith)
+  number-bitwise o p q [] = o .none
+  number-bitwise o p q (x ∷ xs) =
+      o .more (p x) (q x) (number (map p xs)) (number (map q xs)) ∙ rw (number-bitwise o p q xs)
 
   -- the others
   pub number-not : (p : A → Bool) (xs : List A) → (2 ^ length xs - 1) - number (map p xs) ≡ number (map (λ x. not (p x)) xs)
@@ -87,3 +123,33 @@ pub number-one : (j m : ℕ) → j < m → number (map (eqb j) (range 0 m)) ≡ 
 number-one j m h =
     let e : 0 + j ≡ j = omega arith in
     rw e at (one-from j 0 m (omega arith))
+
+-- ---- the words of sets
+
+module _ {op : ℕ → ℕ → ℕ} {f : Bool → Bool → Bool} (o : Bitwise op f) where
+  -- word j of the set that an operation picks
+  word-bitwise : {A : Type 0} (p q : A → Bool) (xs : List A) (j : ℕ)
+      → op (number (part (map p xs) j)) (number (part (map q xs) j)) ≡ number (part (map (λ x. f (p x) (q x)) xs) j)
+  word-bitwise p q xs j = simp (drop-map, take-map) (number-bitwise o p q (take 64 (drop (64 * j) xs)))
+
+  -- from the words of two sets of n states
+  pub word-combined : (k n : ℕ) (v w : Set) → length v ≡ n → length w ≡ n → (j : ℕ) → j < k
+      → op (getD (words k v) j 0) (getD (words k w) j 0) ≡ number (part (map (λ s. f (has v s) (has w s)) (range 0 n)) j)
+  word-combined k n v w d e j h =
+      rw (word-at k v j h, word-at k w j h) (rw (table n v d, table n w e) at (word-bitwise (has v) (has w) (range 0 n) j))
+    where
+      -- a set by its states
+      table : (n : ℕ) (v : Set) → length v ≡ n → map (has v) (range 0 n) ≡ v
+      table n v d = ext-getD false (map (has v) (range 0 n)) v (length-table (has v) n ∙ sym d) λ s b.
+          table-at (has v) n s false (omega (arith, length-table (has v) n))
+
+-- word j of the states that are not in a set of n states
+pub word-complement : (k n : ℕ) (v : Set) → length v ≡ n → (j : ℕ) → j < k
+    → bitXor (number (part (start n true) j)) (getD (words k v) j 0) ≡ number (part (map not v) j)
+word-complement k n v d j h =
+    rw (word-at k v j h, ← d, ← full v) (rw (map-id v) at (word-bitwise bitwise-xor (λ b. true) (λ b. b) v j))
+  where
+    -- each state
+    full : (v : Set) → map (λ b. true) v ≡ start (length v) true
+    full [] = refl
+    full (b ∷ v) = ap (λ (u : Set). true ∷ u) (full v)

@@ -206,9 +206,16 @@ module _ {f : ℕ → ℕ} {k : ℕ} {ws : List ℕ} where
       go j l (yes q) = rw (q, getD-set-same ws i x 0 (omega (arith, w .long))) e
       go j l (no n) = rw (getD-set-other ws i j x 0 n) (w .so-far j (omega arith))
 
--- after the last turn, where f gives the words of a set
-pub words-filled : (k : ℕ) (v : Set) (ws : List ℕ) {i : ℕ} → Filled (λ j. number (part v j)) k ws i → k ≤ i → ws ≡ words k v
-words-filled k v ws w h = words-by k v ws (w .long) λ j b. w .so-far j (omega arith)
+-- after the last turn: a list of k words that are as f says
+pub filled-all : {f : ℕ → ℕ} {k i : ℕ} {ws : List ℕ} → Filled f k ws i → k ≤ i
+    → (us : List ℕ) → length us ≡ k → ((j : ℕ) → j < k → f j ≡ getD us j 0) → ws ≡ us
+filled-all {ws = ws} w h us l is = ext-getD 0 ws us (w .long ∙ sym l) λ j b.
+    w .so-far j (omega (arith, w .long)) ∙ is j (omega (arith, w .long))
+
+-- the words of a set
+pub words-filled : {f : ℕ → ℕ} {k i : ℕ} {ws : List ℕ} → Filled f k ws i → k ≤ i
+    → (v : Set) → ((j : ℕ) → j < k → f j ≡ number (part v j)) → ws ≡ words k v
+words-filled {k = k} w h v is = filled-all w h (words k v) (words-length k v) λ j b. is j b ∙ sym (word-at k v j b)
 
 -- ---- one state more
 

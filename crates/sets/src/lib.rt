@@ -1,10 +1,13 @@
 // Sets of states in words: state s is bit s mod 64 of word s / 64.
 ghost use mathlib.Core.Path.{_≡_};
-ghost use mathlib.Core.Bool.{true, false};
+ghost use mathlib.Core.Bool.{true, false, not, cond, _&&_, _||_};
+ghost use mathlib.Core.List.{map, _++_};
 ghost use Prim.Native.Nat.{ℕ, _<_, _≤_};
+ghost use lib.Bits.{bitAnd, bitOr};
 ghost use lib.ListN.{length, set, take, drop};
 ghost use Rattle.sets.specs.Size.{wordCount, stateLimit};
-ghost use Rattle.sets.specs.Set.{Set, start, size};
+ghost use Rattle.sets.specs.Lists.{range};
+ghost use Rattle.sets.specs.Set.{Set, has, start, size};
 ghost use Rattle.sets.specs.Words.{words, number, marked, states, Decides};
 
 pub const WORDS: usize = 4;
@@ -102,4 +105,60 @@ pub fn count(set: &[u64; WORDS], n: usize) -> usize
         }
     }
     found
+}
+
+// One word of the states in both sets, or (either) in at least one.
+fn combine_word(a: u64, b: u64, either: bool) -> u64
+    ensures { λ r. ⌜ r ≡ cond either (bitOr a b) (bitAnd a b) ⌝ }
+{
+    if either {
+        return a | b;
+    }
+    a & b
+}
+
+// The states in both sets, or (either) in at least one.
+pub fn combine(a: [u64; WORDS], b: [u64; WORDS], either: bool) -> [u64; WORDS]
+    ensures { λ r. ⌜ ((n : ℕ) (v w : Set) → length v ≡ n → length w ≡ n → a ≡ words wordCount v → b ≡ words wordCount w
+        → r ≡ words wordCount (map (λ s. cond either (has v s || has w s) (has v s && has w s)) (range 0 n))) ⌝ }
+{
+    let mut c = [0u64; WORDS];
+    for i in 0..WORDS {
+        c[i] = combine_word(a[i], b[i], either);
+    }
+    c
+}
+
+// The states below n that are not in the set: each bit of a state below n is turned over.
+pub fn complement(held: [u64; WORDS], n: usize) -> [u64; WORDS]
+    requires { ⌜ n ≤ stateLimit ⌝ }
+    ensures { λ r. ⌜ ((v : Set) → length v ≡ n → held ≡ words wordCount v → r ≡ words wordCount (map not v)) ⌝ }
+{
+    let mut rest = [0u64; WORDS];
+    for i in 0..WORDS {
+        rest[i] = word_below(n, 64 * i) ^ held[i];
+    }
+    rest
+}
+
+// Puts a set into the first words.
+pub fn store(marks: &mut [u64], row: [u64; WORDS])
+    requires { ⌜ wordCount ≤ length (now marks) ⌝ }
+    ensures { λ _. ⌜ now (marks .exit) ≡ row ++ drop wordCount (now (marks .entry)) ⌝ }
+{
+    for i in 0..row.len() {
+        marks[i] = row[i];
+    }
+}
+
+// The set in the first words.
+pub fn load(marks: &[u64]) -> [u64; WORDS]
+    requires { ⌜ wordCount ≤ length (now marks) ⌝ }
+    ensures { λ r. ⌜ r ≡ take wordCount (now (marks .entry)) ⌝ }
+{
+    let mut row = [0u64; WORDS];
+    for i in 0..WORDS {
+        row[i] = marks[i];
+    }
+    row
 }

@@ -15,4 +15,3 @@ pub mod Shown
 pub mod Gathered
 pub mod Turns
 pub mod Runs
-pub mod Stores

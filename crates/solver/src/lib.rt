@@ -7,10 +7,7 @@ mod rounds;
 use conditions::open_file;
 use sets::WORDS;
 ghost use mathlib.Core.Path.{_≡_};
-ghost use mathlib.Core.List.{_++_};
-ghost use Prim.Native.Nat.{_≤_, _<_};
-ghost use lib.ListN.{length, drop, replicate};
-ghost use Rattle.sets.specs.Size.{wordCount};
+ghost use lib.ListN.{length, replicate};
 ghost use Rattle.solver.specs.File.{cellCount};
 ghost use Rattle.solver.specs.Outcome.{Answered};
 ghost use Rattle.solver.specs.Working.{Opens, Ran};
@@ -83,16 +80,6 @@ fn clear(work: &mut [u8])
     }
 }
 
-// Puts a set into the first words.
-fn store(marks: &mut [u64], row: [u64; WORDS])
-    requires { ⌜ wordCount ≤ length (now marks) ⌝ }
-    ensures { λ _. ⌜ now (marks .exit) ≡ row ++ drop wordCount (now (marks .entry)) ⌝ }
-{
-    for i in 0..WORDS {
-        marks[i] = row[i];
-    }
-}
-
 // Solves all blocks and works out all cells; answers the set of block 0.
 fn run(
     file: &[u8],
@@ -141,7 +128,7 @@ fn solve_opened(file: &[u8], sizes: Sizes, work: &mut [u8], marks: &mut [u64], l
     if status == rounds::SPENT {
         return Answer::Refused(Cause::Spent);
     }
-    store(marks, row);
+    sets::store(marks, row);
     let verdict = sets::test(&row, sizes.initial);
     let count = sets::count(&row, sizes.states);
     Answer::Solved(Report {

@@ -53,7 +53,7 @@ modal-inside a arg =
     none e t = absurd (false-true e)
 
 -- a node of a table that passes condition 8
-nodes-pass : (a : ℕ) (t : List Node) → badFormula a t ≡ false → (i : ℕ) → i < length t → T (nodeOk a (nodeAt t i))
+pub nodes-pass : (a : ℕ) (t : List Node) → badFormula a t ≡ false → (i : ℕ) → i < length t → T (nodeOk a (nodeAt t i))
 unfolding badFormula
 nodes-pass a t e i h =
     let oks : Bool = all (nodeOk a) t in

@@ -21,12 +21,12 @@ use Rattle.translate.specs.Cells.{targets, cellOf, cellsFrom, blocksFrom
 use Rattle.translate.specs.Bytes.{systemOf, allOperands, blockNumbers, cellNumbers, numbers, bytes, fileOf}
 
 -- numbers of 16 bits as bytes, low byte first
-halves : List ℕ → List ℕ
+unfoldable pub halves : List ℕ → List ℕ
 halves [] = []
 halves (x ∷ xs) = x % 256 ∷ x / 256 % 256 ∷ halves xs
 
 -- a case with the offsets that its counts of transitions, action nodes and formula nodes ask for
-caseFile : (n t l initial a f : ℕ) → List ℕ → List ℕ
+unfoldable pub caseFile : (n t l initial a f : ℕ) → List ℕ → List ℕ
 unfolding halves
 caseFile n t l initial a f tables = halves (1 ∷ n ∷ t ∷ l ∷ initial ∷ a ∷ f ∷ 20 ∷ (20 + 6 * t) ∷ (20 + 6 * t + 4 * a) ∷ tables)
 
@@ -36,7 +36,7 @@ unfolding bytes
 equationFile n d c p initial tables = bytes (1 ∷ n ∷ d ∷ c ∷ p ∷ initial ∷ 36 ∷ (36 + 8 * d) ∷ (36 + 8 * d + 12 * c) ∷ tables)
 
 -- P1, byte by byte: header, three transitions of which the second is a copy, true, mu X box X
-pub p1 : List ℕ
+unfoldable pub p1 : List ℕ
 p1 =
     1 ∷ 0 ∷ 3 ∷ 0 ∷ 3 ∷ 0 ∷ 2 ∷ 0 ∷ 0 ∷ 0 ∷ 1 ∷ 0 ∷ 3 ∷ 0 ∷ 20 ∷ 0 ∷ 38 ∷ 0 ∷ 42 ∷ 0
     ∷ 0 ∷ 0 ∷ 0 ∷ 0 ∷ 1 ∷ 0 ∷ 0 ∷ 0 ∷ 0 ∷ 0 ∷ 1 ∷ 0 ∷ 1 ∷ 0 ∷ 1 ∷ 0 ∷ 2 ∷ 0
@@ -44,7 +44,7 @@ p1 =
     ∷ 7 ∷ 0 ∷ 0 ∷ 0 ∷ 4 ∷ 0 ∷ 0 ∷ 0 ∷ 6 ∷ 0 ∷ 0 ∷ 0 ∷ []
 
 -- and its equation file: header with the offsets, one block, three cells for each of three nodes, two operands
-p1Equations : List ℕ
+unfoldable pub p1Equations : List ℕ
 p1Equations =
     1 ∷ 0 ∷ 0 ∷ 0 ∷ 3 ∷ 0 ∷ 0 ∷ 0 ∷ 1 ∷ 0 ∷ 0 ∷ 0 ∷ 9 ∷ 0 ∷ 0 ∷ 0 ∷ 2 ∷ 0 ∷ 0 ∷ 0 ∷ 0 ∷ 0 ∷ 0 ∷ 0
     ∷ 36 ∷ 0 ∷ 0 ∷ 0 ∷ 44 ∷ 0 ∷ 0 ∷ 0 ∷ 152 ∷ 0 ∷ 0 ∷ 0
@@ -61,7 +61,7 @@ p1Equations =
     ∷ 7 ∷ 0 ∷ 0 ∷ 0 ∷ 8 ∷ 0 ∷ 0 ∷ 0 ∷ []
 
 -- P2 and P3: binders X and Y of the kinds x and y (7 mu, 8 nu) over (diamond 0 X or diamond 1 Y), on the labels 0 and 1
-diamonds : ℕ → ℕ → List ℕ
+unfoldable pub diamonds : ℕ → ℕ → List ℕ
 unfolding caseFile
 diamonds x y = caseFile 2 2 2 0 2 7
     (0 ∷ 0 ∷ 1 ∷ 1 ∷ 1 ∷ 0
@@ -86,7 +86,7 @@ diamondsEquations a b = equationFile 2 2 14 6 0
 -- Copies, and equal ends under different labels: nu X diamond true X in two states, where state 0 has the transitions 0 to 1, 1 to 1, 0 to 1 again,
 -- 2 to 0 and 1 to 1 again. Three are distinct, two of which end in state 1. So the diamond in state 0, cell 2, has the operands 5, 5 and 4, which are
 -- X in the states 1, 1 and 0; in state 1, cell 3, it is an empty or.
-copied : List ℕ
+unfoldable pub copied : List ℕ
 unfolding caseFile
 copied = caseFile 2 5 3 1 1 3
     (0 ∷ 0 ∷ 1 ∷ 0 ∷ 1 ∷ 1 ∷ 0 ∷ 0 ∷ 1 ∷ 0 ∷ 2 ∷ 0 ∷ 0 ∷ 1 ∷ 1
@@ -104,7 +104,7 @@ copiedEquations = equationFile 2 1 6 3 1
 
 -- A box into the middle of an action formula: of the action nodes or, label 0, not, label 1 it takes node 2, not label 1. Mu X box X in two states;
 -- state 0 has the transitions 0 to 1, 1 to 0, 2 to 0, and state 1 has 1 to 0. So the box in state 0 has the operands 5 and 4, and in state 1 none.
-pub middle : List ℕ
+unfoldable pub middle : List ℕ
 unfolding caseFile
 middle = caseFile 2 4 3 0 4 3
     (0 ∷ 0 ∷ 1 ∷ 0 ∷ 1 ∷ 0 ∷ 0 ∷ 2 ∷ 0 ∷ 1 ∷ 1 ∷ 0
@@ -121,7 +121,7 @@ middleEquations = equationFile 2 1 6 2 0
     ∷ 5 ∷ 4 ∷ [])
 
 -- P4, P5 and P6, and the like: one state without transitions, the action formula true, and a formula of f nodes
-still : ℕ → List ℕ → List ℕ
+unfoldable pub still : ℕ → List ℕ → List ℕ
 unfolding caseFile
 still f table = caseFile 1 0 1 0 1 f (1 ∷ 0 ∷ table)
 

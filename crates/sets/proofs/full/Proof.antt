@@ -41,7 +41,7 @@ loop-again : tie.Need-loop-again Inv-loop μ-loop
 loop-again c = filled-more (c .word-below .result) (c .before .before .loop .inv) (omega arith) (c .word-below .ensures)
 
 returns : tie.Need-returns Inv-loop μ-loop
-returns c = words-filled wordCount (start (c .before .before .args .n) true) (c .before .loop .all) (c .before .loop .inv) (omega arith)
+returns c = words-filled (c .before .loop .inv) (omega arith) (start (c .before .before .args .n) true) λ j h. refl
 
 pub full-spec : {M : Type 1} → statement M
 full-spec =

@@ -4,7 +4,7 @@ use mathlib.Core.List.{_++_}
 use native.Mathlib.Omega.{arith}
 use borrow.Author.Fill.{fill-none, fill-more}
 use lib.ListN.{length, set, drop, replicate, length-set}
-use Rattle.solver.proofs.Stores.{cleared}
+use Rattle.sets.proofs.Stores.{cleared}
 use Rattle.solver.proofs.clear.Statement.{statement}
 use Rattle.solver.proofs.clear.Tie as tie
 

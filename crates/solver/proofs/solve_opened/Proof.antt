@@ -18,10 +18,10 @@ slice-relend-prefix-run : tie.Need-slice-relend-prefix-run
 slice-relend-prefix-run c = search needs
 
 slice-aggregate-run : tie.Need-slice-aggregate-run
-slice-aggregate-run c = sym (length-take-le (c .before .before .before .before .before .before .args .sizes .cells) (c .before .before .before .before .before .before .args .work .now) (c .before .before .if1 .left))
+slice-aggregate-run c = sym (length-take-le _ _ (c .before .before .if1 .left))
 
 run-requires : tie.Need-run-requires
-run-requires c κs = (c .before .before .before .before .before .before .before .before .pre, length-take-le (c .before .before .before .before .before .before .before .before .args .sizes .cells) (c .before .before .before .before .before .before .before .before .args .work .now) (c .before .before .before .before .if1 .left) ∙ counted (c .before .before .before .before .before .before .before .before .pre .counts) .cells, refl)
+run-requires c κs = (c .before .before .before .before .before .before .before .before .pre, length-take-le _ _ (c .before .before .before .before .if1 .left) ∙ omega (arith, counted (c .before .before .before .before .before .before .before .before .pre .counts) .cells), refl)
 
 same-length : tie.Need-same-length
 same-length c = length-front (c .before .before .before .before .before .before .before .before .before .before .before .before .args .work .now) (c .before .before .before .run .last .1 .1 .0) (c .before .before .before .before .before .before .before .before .before .before .before .before .args .sizes .cells) (c .before .before .before .run .ensures .room ∙ sym (length-take-le (c .before .before .before .before .before .before .before .before .before .before .before .before .args .sizes .cells) (c .before .before .before .before .before .before .before .before .before .before .before .before .args .work .now) (c .before .before .before .before .before .before .before .before .if1 .left) ∙ counted (c .before .before .before .before .before .before .before .before .before .before .before .before .pre .counts) .cells))

@@ -49,13 +49,13 @@ add-size-3 c = omega (arith, cells-few (c .before .before .before .before .befor
 returns : tie.Need-returns
 returns c =
     let s = c .before .before .before .before .before .before .pre in
-    short _ (sizes-just s _ (c .before .before .block-count .ensures .0 _) (c .before .before .block-count .ensures .1) (c .before .operand-total .ensures)) (c .if1 .taken)
+    short _ (sizes-just s _ (c .before .before .block-count .ensures .0 _) (c .before .before .block-count .ensures .1) (c .before .operand-total .ensures)) (omega arith)
 
 -- src/lib.rt:92:5
 fill-requires : tie.Need-fill-requires
 fill-requires c κs =
     let s = c .before .before .before .before .before .before .before .pre in
-    (s, sizes s _ (c .before .before .before .block-count .ensures .0 _) (c .before .before .before .block-count .ensures .1) (c .before .before .operand-total .ensures) (c .before .if1 .left))
+    (s, sizes s _ (c .before .before .before .block-count .ensures .0 _) (c .before .before .before .block-count .ensures .1) (c .before .before .operand-total .ensures) (omega arith))
 
 -- src/lib.rt:72:1
 same-length : tie.Need-same-length

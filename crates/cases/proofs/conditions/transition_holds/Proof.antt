@@ -1,5 +1,6 @@
 -- `transition_holds` meets its contract.
 use mathlib.Core.Path.{refl}
+use native.Mathlib.Omega.{arith}
 use borrow.Author.Tests.{lt-ltb, le-ltb}
 use Rattle.cases.proofs.conditions.transition_holds.Statement.{statement}
 use Rattle.cases.proofs.conditions.transition_holds.Tie as tie
@@ -8,7 +9,9 @@ returns : tie.Need-returns
 returns c = simp (le-ltb _ _ (c .if1 .taken))
 
 returns-2 : tie.Need-returns-2
-returns-2 c = simp (lt-ltb _ _ (c .before .before .if1 .left), le-ltb _ _ (c .if2 .taken))
+returns-2 c =
+    let a = c .before .before .before .before .args in
+    simp (lt-ltb _ _ (c .before .before .if1 .left), le-ltb (a .t .label) (a .l) (omega arith))
 
 returns-3 : tie.Need-returns-3
 returns-3 c = rw (lt-ltb _ _ (c .before .before .before .if1 .left), lt-ltb _ _ (c .before .if2 .left)) refl

@@ -29,7 +29,8 @@ gather-requires : tie.Need-gather-requires
 gather-requires c κs =
     let n = counted (c .before .before .before .before .before .before .before .before .pre .0 .opens .counts) in
     let b = block-kept _ (c .before .before .before .before .before .before .before .before .pre .0 .opens .formed) (c .before .before .before .before .before .before .before .before .args .k) (omega (arith, c .before .before .before .before .before .before .before .before .pre .1)) in
-    (opens-read (c .before .before .before .before .before .before .before .before .pre .0 .opens) .counts .few-states, omega (arith, c .before .before .before .before .before .number-at .ensures .0, c .before .before .before .evaluate .ensures .room))
+    let r = opens-read (c .before .before .before .before .before .before .before .before .pre .0 .opens) .counts in
+    (omega arith, omega (arith, c .before .before .before .before .before .number-at .ensures .0, c .before .before .before .evaluate .ensures .room))
 
 same-length : tie.Need-same-length
 same-length c = c .before .before .before .before .evaluate .ensures .room ∙ sym (c .before .before .before .before .before .before .before .before .before .pre .0 .room)

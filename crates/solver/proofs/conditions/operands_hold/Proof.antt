@@ -28,7 +28,7 @@ operand-at-requires c κs =
 returns : tie.Need-returns Inv-loop μ-loop
 returns c =
     let pre = c .before .before .before .before .before .pre in
-    operand-low _ _ (pre .0) _ _ _ _ (pre .1) (c .before .before .before .loop .inv .1) (c .before .before .loop-test .taken) _ (c .before .operand-at .ensures) (c .if1 .taken)
+    operand-low _ _ (pre .0) _ _ _ _ (pre .1) (c .before .before .before .loop .inv .1) (c .before .before .loop-test .taken) _ (c .before .operand-at .ensures) (omega arith)
 
 returns-2 : tie.Need-returns-2 Inv-loop μ-loop
 returns-2 c =
@@ -44,7 +44,7 @@ loop-less c = omega arith
 loop-again : tie.Need-loop-again Inv-loop μ-loop
 loop-again c =
     let pre = c .before .before .before .before .before .before .pre in
-    (omega arith, operand-goes-on _ _ (pre .0) _ _ _ _ (pre .1) (c .before .before .before .before .loop .inv .1) (c .before .before .before .loop-test .taken) _ (c .before .before .operand-at .ensures) (c .before .if1 .left) (c .if2 .left))
+    (omega arith, operand-goes-on _ _ (pre .0) _ _ _ _ (pre .1) (c .before .before .before .before .loop .inv .1) (c .before .before .before .loop-test .taken) _ (c .before .before .operand-at .ensures) (omega arith) (c .if2 .left))
 
 returns-3 : tie.Need-returns-3 Inv-loop μ-loop
 returns-3 c = list-ends _ _ (c .before .before .before .pre .0) _ _ _ _ (c .before .before .before .pre .1) (c .before .loop .inv .1) (c .loop-test .left)

@@ -1,15 +1,17 @@
-use Prim.Native.Nat.{_≤_, _-_}
-use mathlib.Core.Path.{_≡_, refl, ap, _∙_}
+-- `sets::store` meets its contract. The loop's invariant: the first i words are copied, and the others stay.
+use mathlib.Core.Path.{_≡_, refl, _∙_}
 use mathlib.Core.List.{_++_}
+use Prim.Native.Nat.{_-_, _≤_}
 use native.Mathlib.Omega.{arith}
-use lib.ListN.{length, set, take, drop, length-set}
+use lib.ListN.{length, take, drop, length-set}
 use Rattle.sets.specs.Size.{wordCount}
-use Rattle.solver.proofs.Stores.{copy-more, copied}
-use Rattle.solver.proofs.store.Statement.{statement}
-use Rattle.solver.proofs.store.Tie as tie
+use Rattle.sets.proofs.Stores.{copy-more, copied}
+use Rattle.sets.proofs.store.Statement.{statement}
+use Rattle.sets.proofs.store.Tie as tie
 
 abbrev Inv-loop : tie.InvT-loop
-Inv-loop marks₀ row i₀ marks i = (i ≤ wordCount) × (length row ≡ wordCount) × (length marks ≡ length marks₀) × (wordCount ≤ length marks₀) × (marks ≡ take i row ++ drop i marks₀)
+Inv-loop marks₀ row i₀ marks i =
+    (i ≤ wordCount) × (length row ≡ wordCount) × (length marks ≡ length marks₀) × (wordCount ≤ length marks₀) × (marks ≡ take i row ++ drop i marks₀)
 
 abbrev μ-loop : tie.MeasureT-loop
 μ-loop marks₀ row i₀ marks i = wordCount - i
@@ -36,13 +38,15 @@ loop-less : tie.Need-loop-less Inv-loop μ-loop
 loop-less c = omega arith
 
 loop-again : tie.Need-loop-again Inv-loop μ-loop
-loop-again c = (
-  omega arith,
-  c .before .loop .inv .1,
-  simp length-set (c .before .loop .inv .2),
-  c .before .loop .inv .3,
-  rw (c .before .loop .inv .4) (copy-more (c .before .before .args .t2) (c .before .before .args .marks .now) (c .before .loop .i) (omega (arith, c .before .loop .inv .1)) (omega (arith, c .before .loop .inv .3))),
-)
+loop-again c =
+    let p = c .before .before .args in
+    let l = c .before .loop in (
+      omega arith,
+      l .inv .1,
+      simp length-set (l .inv .2),
+      l .inv .3,
+      rw (l .inv .4) (copy-more (p .t2) (p .marks .now) (l .i) (omega (arith, l .inv .1)) (omega (arith, l .inv .3))),
+    )
 
 same-length : tie.Need-same-length Inv-loop μ-loop
 same-length c = c .before .loop .inv .2

@@ -1,0 +1,184 @@
+-- What the evaluator's loop at a mu or a nu holds at its head, and what it answers where it ends.
+use mathlib.Core.Path.{_≡_, refl, sym, ap, subst, _∙_}
+use mathlib.Core.Bool.{true, false, _||_}
+use mathlib.Core.List.{List, [], map}
+use Prim.Native.Nat.{ℕ, _+_, _-_, _<_, _≤_}
+use native.Mathlib.Omega.{arith}
+use native.Mathlib.Decide.{ℕ-discrete}
+use borrow.Author.Tests.{eq-eqb, ne-eqb}
+use lib.Dec.{eqb}
+use lib.ListN.{length, getD, set, take, length-replicate}
+use lib.Seq.{getD-set-same, getD-set-other}
+use Rattle.sets.specs.Size.{wordCount}
+use Rattle.sets.specs.Set.{Set, start}
+use Rattle.sets.specs.Loop.{Step, Run}
+use Rattle.sets.specs.Words.{words}
+use Rattle.sets.proofs.Lists.{false-true}
+use Rattle.sets.proofs.Words.{words-inj}
+use Rattle.solver.specs.Limits.{blockLimit}
+use Rattle.solver.specs.Cells.{Valuation, bind}
+use Rattle.solver.proofs.Solving.{bind-sized}
+use Rattle.solver.proofs.Turns.{Left}
+use Rattle.cases.specs.Action.{Action}
+use Rattle.cases.specs.declared.Header.{Header}
+use Rattle.cases.specs.declared.Node.{Node}
+use Rattle.cases.specs.declared.Transition.{Transition}
+use Rattle.cases.specs.Prefix.{arityIn, formulaArities, formulaAt}
+use Rattle.cases.specs.Conditions.{nodeAt, isBinder, binderCount}
+use Rattle.cases.specs.Checks.{transitionsIn, nodesIn}
+use Rattle.cases.proofs.Spans.{end-one}
+use Rattle.routes.specs.Direct.{Direct}
+use Rattle.routes.specs.Evaluating.{Masks, Shown, Asks, KindAt, Evaluated}
+use Rattle.routes.specs.declared.Value.{Value}
+use Rattle.routes.proofs.DirectLaws.{direct-sized}
+use Rattle.routes.proofs.Turns.{turn, stops-here, goes-on}
+use Rattle.routes.proofs.NodeLaws.{Binder, apart, by-kind, inside, in-arities, operand, block-of, block-fits, arity, ruled-by}
+use Rattle.routes.proofs.EvaluateLaws.{value, all-spent}
+
+-- the rows show the valuation with v for binder i if the words of v are put into i's row
+shown-bind : {n : ℕ} {t : List Node} {rows : List (List ℕ)} {ρ : Valuation} → Shown n t rows ρ → (i : ℕ) → Binder t i
+    → {k : ℕ} → k ≡ binderCount (take i t) → k < length rows → (v : Set) {held : List ℕ} → length v ≡ n → held ≡ words wordCount v
+    → Shown n t (set rows k held) (bind ρ i v)
+unfolding bind
+shown-bind {n} {t} {rows} {ρ} s i b {k} e l v {held} z w =
+    record { sized = bind-sized ρ i v (s .sized) z; row = λ j h is. go j h is (ℕ-discrete j i) }
+  where
+    go : (j : ℕ) → j < length t → isBinder (nodeAt t j) ≡ true → Dec (j ≡ i)
+        → getD (set rows k held) (binderCount (take j t)) [] ≡ words wordCount (bind ρ i v j)
+    go j h is (yes p) = rw (eq-eqb j i p, p, ← e, getD-set-same rows k held [] l) w
+    go j h is (no p) =
+        rw (ne-eqb j i p, getD-set-other rows k (binderCount (take j t)) held [] (λ x. p (apart t j i (record { inside = h; is = is }) b (x ∙ e))))
+        (s .row j h is)
+
+-- one turn of the loop of binder `at`: its body is worked out
+abbrev body : Header → List ℕ → List ℕ → ℕ → (ℕ → Action) → Valuation → Step
+body h records formula at action ρ u =
+    Direct (h .states) (transitionsIn records (h .transitions)) (formulaAt action (nodesIn formula (h .nodes)) (at + 1)) (bind ρ at u)
+
+-- At the loop's head, with the words `held` after `before` rounds: what is left of the binder's run.
+pub record Going (h : Header) (records formula labels : List ℕ) (rows : List (List ℕ)) (at kind used limit : ℕ)
+    (held : List ℕ) (before : ℕ) : Type 0 where
+  pub room : length rows ≡ blockLimit
+  pub low : used ≤ before
+  pub high : before ≤ limit
+  pub left : (action : ℕ → Action) (ρ : Valuation) (v : Set) (r : ℕ)
+      → Masks action (nodesIn formula (h .nodes)) labels → Shown (h .states) (nodesIn formula (h .nodes)) rows ρ
+      → Run (body h records formula at action ρ) (start (h .states) (eqb kind 8)) v r
+      → Left (body h records formula at action ρ) (h .states) held v before (used + r)
+
+-- it begins
+pub begins : {h : Header} {records formula labels : List ℕ} {rows : List (List ℕ)} {at kind used limit : ℕ} → length rows ≡ blockLimit → used ≤ limit
+    → {held : List ℕ} → held ≡ words wordCount (start (h .states) (eqb kind 8)) → Going h records formula labels rows at kind used limit held used
+begins {h} {kind = kind} room l e = record {
+  room = room;
+  low = omega arith;
+  high = l;
+  left = λ action ρ v r m s run.
+      record { now = start (h .states) (eqb kind 8); sized = length-replicate (h .states) (eqb kind 8); are = e; rest = r; run = run; sum = refl };
+}
+
+module _ {h : Header} {records formula labels blocks : List ℕ} {at used limit : ℕ} (q : Asks h records formula labels blocks at used limit)
+    {kind : ℕ} (k : KindAt formula (h .nodes) at kind 7 8) where
+  abbrev n : ℕ
+  n = h .states
+
+  abbrev ts : List Transition
+  ts = transitionsIn records (h .transitions)
+
+  abbrev t : List Node
+  t = nodesIn formula (h .nodes)
+
+  abbrev ks : List ℕ
+  ks = map (arityIn formulaArities) t
+
+  -- it has one operand
+  one-operand : getD ks at 0 ≡ 1
+  one-operand = arity q k ∙ by-kind (λ m. getD formulaArities m 0 ≡ 1) k refl refl refl
+
+  -- the node is a binder
+  pub own-binder : Binder t at
+  own-binder = record {
+    inside = inside q;
+    is = subst (λ (m : ℕ). (eqb m 7 || eqb m 8) ≡ true) (k .are) (by-kind (λ m. (eqb m 7 || eqb m 8) ≡ true) k refl refl refl);
+  }
+
+  -- its body is evaluated next
+  pub binder-body : {before : ℕ} → before ≤ limit → Asks h records formula labels blocks (at + 1) before limit
+  binder-body l = operand q (omega (arith, one-operand)) l
+
+  -- its set is that where the loop over its body stops
+  binder-rule : (action : ℕ → Action) (ρ : Valuation) (v : Set) (r : ℕ) → Direct n ts (formulaAt action t at) ρ v r
+      → Run (body h records formula at action ρ) (start n (eqb kind 8)) v r
+  unfolding Direct
+  binder-rule action ρ v r =
+      ruled-by q k action ρ v r (λ m. Run (body h records formula at action ρ) (start n (eqb m 8)) v r) refl (λ d. d) (λ d. d)
+
+  module _ {block : ℕ} (b : block ≡ getD blocks at 0) {rows : List (List ℕ)} {held : List ℕ} {before : ℕ}
+      (g : Going h records formula labels rows at kind used limit held before) {one : Value}
+      (turned : Evaluated h records formula labels (set rows block held) (at + 1) before limit one) where
+    -- the rows of the turn show the set held
+    shows : (action : ℕ → Action) (ρ : Valuation) {u : Set} {total : ℕ} → Shown n t rows ρ
+        → (l : Left (body h records formula at action ρ) n held u before total) → Shown n t (set rows block held) (bind ρ at (l .now))
+    shows action ρ s l =
+        shown-bind s at own-binder (block-of q own-binder b) (omega (arith, g .room, block-fits q own-binder b)) (l .now) (l .sized) (l .are)
+
+    -- the rounds are spent in the body,
+    pub body-spent : one .spent ≡ true → Evaluated h records formula labels rows at used limit one
+    body-spent e = all-spent e (λ action ρ v r d.
+        let l = g .left action ρ v r (d .0) (d .1) (binder-rule action ρ v r (d .2)) in
+        let x = turn (l .run) in
+        omega (arith, turned .over e action (bind ρ at (l .now)) (x .next) (x .took) (d .0, shows action ρ (d .1) l, x .step), x .less, l .sum))
+
+    module _ (e : one .spent ≡ false) where
+      -- or none is left for this one,
+      pub round-spent : limit ≤ one .rounds → {next : ℕ}
+          → Evaluated h records formula labels rows at used limit (value (one .set) next (one .rounds) true)
+      round-spent m = all-spent refl (λ action ρ v r d.
+          let l = g .left action ρ v r (d .0) (d .1) (binder-rule action ρ v r (d .2)) in
+          let x = turn (l .run) in
+          omega (arith, turned .right e action (bind ρ at (l .now)) (x .next) (x .took) (d .0, shows action ρ (d .1) l, x .step) .0, x .less, l .sum))
+
+      -- or the body's set is there.
+      found : (action : ℕ → Action) (ρ : Valuation) {u : Set} {total : ℕ} → Masks action t labels → Shown n t rows ρ
+          → (l : Left (body h records formula at action ρ) n held u before total) (w : Set) (r : ℕ) → body h records formula at action ρ (l .now) w r
+          → (length w ≡ n) × (one .set ≡ words wordCount w) × (r ≡ one .rounds - before)
+      found action ρ m s l w r d =
+          let y = turned .right e action (bind ρ at (l .now)) w r (m, shows action ρ s l, d) in
+          (direct-sized n ts _ (bind ρ at (l .now)) (shows action ρ s l .sized) w r d, y .1, omega (arith, y .0))
+
+      -- sets with equal words are equal
+      same : (v w : Set) → length v ≡ n → length w ≡ n → words wordCount v ≡ words wordCount w → v ≡ w
+      same v w y z = words-inj wordCount v w (y ∙ sym z) (omega (arith, q .parts .model .few-states))
+
+      -- It is the set held: the loop stops.
+      pub stopped : one .rounds < limit → one .set ≡ held
+          → Evaluated h records formula labels rows at used limit (value (one .set) (one .next) (one .rounds + 1) false)
+      stopped m is = record {
+        over = λ o. absurd (false-true o);
+        low = λ o. omega (arith, g .low, turned .low e);
+        high = λ o. omega arith;
+        ends = λ o. turned .ends e ∙ sym (end-one ks at (in-arities q) one-operand);
+        right = λ o action ρ v r d.
+            let l = g .left action ρ v r (d .0) (d .1) (binder-rule action ρ v r (d .2)) in
+            let x = stops-here (λ w c f.
+            let y = found action ρ (d .0) (d .1) l w c f in
+            (same w (l .now) (y .0) (l .sized) (sym (y .1) ∙ is ∙ l .are), y .2)) (l .run) in
+            (omega (arith, x .1, l .sum, turned .low e), is ∙ l .are ∙ ap (words wordCount) (sym (x .0)));
+      }
+
+      -- It is another: the loop goes on from there.
+      pub replaced : one .rounds < limit → ¬ (one .set ≡ held)
+          → Going h records formula labels rows at kind used limit (one .set) (one .rounds + 1)
+      replaced m other = record {
+        room = g .room;
+        low = omega (arith, g .low, turned .low e);
+        high = omega arith;
+        left = λ action ρ v r masks s run.
+            let l = g .left action ρ v r masks s run in
+            let x = turn (l .run) in
+            let y = found action ρ masks s l (x .next) (x .took) (x .step) in
+            let z = goes-on (λ p. other (y .1 ∙ ap (words wordCount) p ∙ sym (l .are))) (λ w c f.
+            let f = found action ρ masks s l w c f in
+            (same w (x .next) (f .0) (y .0) (sym (f .1) ∙ y .1), f .2)) (l .run) in
+            record { now = x .next; sized = y .0; are = y .1; rest = z .0; run = z .1; sum = omega (arith, z .2, l .sum, turned .low e) };
+      }

@@ -1,0 +1,21 @@
+-- Laws of the crate's definitions. `Promises` says what the whole promises.
+pub mod Promises
+pub mod RouteLaws
+pub mod EquationAnswers
+pub mod Outcomes
+pub mod EquationMeaning
+pub mod WholeMeaning
+pub mod Bridge
+pub mod SolvedBlocks
+pub mod Shallow
+pub mod BlockCounts
+pub mod DirectLaws
+pub mod IterateLaws
+pub mod Turns
+pub mod TableLaws
+pub mod RootLaws
+pub mod DirectAnswers
+pub mod ModalLaws
+pub mod NodeLaws
+pub mod EvaluateLaws
+pub mod BinderLaws

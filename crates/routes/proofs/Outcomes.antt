@@ -1,0 +1,84 @@
+-- What the routes work out for an accepted case: one set, the formula's meaning, and a number of rounds within a bound.
+use mathlib.Core.Path.{_≡_, refl, sym, ap, _∙_}
+use mathlib.Core.Bool.{false}
+use mathlib.Core.List.{List, _++_}
+use Prim.Native.Nat.{ℕ, suc, _≤_, _<_}
+use native.Mathlib.Nat.{le-trans}
+use native.Mathlib.Omega.{arith}
+use lib.ListN.{length, drop, length-replicate}
+use Rattle.sets.specs.Set.{Set}
+use Rattle.solver.specs.Cells.{Valuation, none}
+use Rattle.solver.specs.File.{blockCount, stateCount}
+use Rattle.solver.specs.Rounds.{powers}
+use Rattle.solver.specs.Outcome.{run}
+use Rattle.solver.specs.Outcome as Solver
+use Rattle.solver.proofs.Solving.{Sized}
+use Rattle.solver.proofs.Starts.{own-solves, own-rounds, own-bound}
+use Rattle.cases.specs.Case.{Case, caseOf}
+use Rattle.cases.specs.Conditions.{Accepted}
+use Rattle.cases.specs.Meaning.{Means}
+use Rattle.cases.proofs.TableTrees.{formula-table}
+use Rattle.cases.proofs.Accepting.{passed}
+use Rattle.cases.proofs.ClosedMeaning as closed
+use Rattle.cases.proofs.MeaningLaws.{meaning, means-exists, means-unique}
+use Rattle.translate.specs.Translating.{file}
+use Rattle.translate.proofs.Promises.{well-formed, read-back}
+use Rattle.routes.specs.Direct.{worked}
+use Rattle.routes.specs.Route.{Route, direct, equation, OwnRounds, runOf}
+use Rattle.routes.proofs.DirectLaws.{direct-exists, direct-one, worked-meaning, worked-bound, powers-mono}
+use Rattle.routes.proofs.EquationMeaning.{equations-mean}
+use Rattle.routes.proofs.BlockCounts.{blocks-formula}
+
+-- sets of n states that are all empty
+none-sized : (n : ℕ) → Sized n (none n)
+none-sized n k = length-replicate n false
+
+module _ (b : List ℕ) where
+  abbrev c : Case
+  c = caseOf b
+
+  -- the formula has a meaning
+  pub meaning-of : (ρ : Valuation) → Sized (c .states) ρ
+      → Means (c .states) (c .transitions) (c .formula) ρ (meaning (c .states) (c .transitions) (c .formula) ρ)
+  meaning-of ρ s = means-exists (c .states) (c .transitions) (c .formula) ρ s
+
+  module _ (accepted : Accepted b) where
+    -- of an accepted case it is one
+    pub one-meaning : (ρ σ : Valuation) → Sized (c .states) ρ → Sized (c .states) σ → (v w : Set)
+        → Means (c .states) (c .transitions) (c .formula) ρ v → Means (c .states) (c .transitions) (c .formula) σ w → v ≡ w
+    unfolding caseOf
+    one-meaning =
+        closed.one-meaning _ _ (formula-table _ _ (passed b accepted .formula)) (passed b accepted .variables) (c .states) (c .transitions)
+
+    -- a route has the rounds that its function works out, and no others
+    pub own-exists : (R : Route) → OwnRounds R c (runOf R c .1)
+    unfolding OwnRounds runOf Solver.OwnRounds
+    own-exists direct = (_, direct-exists (c .states) (c .transitions) (c .formula) (none (c .states)) (none-sized (c .states)))
+    own-exists equation = (run (file b) .0, own-solves (well-formed b accepted))
+
+    pub own-one : (R : Route) (r : ℕ) → OwnRounds R c r → r ≡ runOf R c .1
+    unfolding OwnRounds runOf
+    own-one direct r o =
+        direct-one (c .states) (c .transitions) (c .formula) (none (c .states)) (o .0) _ r _ (o .1) (own-exists direct .1) .1
+    own-one equation r o = own-rounds (well-formed b accepted) r o
+
+    -- Its set is the formula's meaning.
+    run-meaning : (R : Route) (ρ : Valuation) → Sized (c .states) ρ → runOf R c .0 ≡ meaning (c .states) (c .transitions) (c .formula) ρ
+    unfolding runOf
+    run-meaning direct ρ s =
+        worked-meaning (c .states) (c .transitions) (c .formula) (none (c .states))
+        ∙ one-meaning (none (c .states)) ρ (none-sized (c .states)) s _ _ (meaning-of (none (c .states)) (none-sized (c .states))) (meaning-of ρ s)
+    run-meaning equation ρ s = equations-mean b accepted ρ s
+
+    -- so both routes have the same set
+    pub runs-alike : (R R′ : Route) → runOf R c .0 ≡ runOf R′ c .0
+    runs-alike R R′ = run-meaning R (none (c .states)) (none-sized (c .states)) ∙ sym (run-meaning R′ (none (c .states)) (none-sized (c .states)))
+
+    pub run-means : (R : Route) (ρ : Valuation) → Sized (c .states) ρ → (v : Set) → Means (c .states) (c .transitions) (c .formula) ρ v → v ≡ runOf R c .0
+    run-means R ρ s v m = means-unique (c .states) (c .transitions) (c .formula) ρ s v m ∙ sym (run-meaning R ρ s)
+
+    -- Its rounds are at most m + m ^ 2 + .. + m ^ d, for m = n + 1 and the d blocks of the file.
+    pub run-bound : (R : Route) → runOf R c .1 ≤ powers (suc (c .states)) (blockCount (file b))
+    unfolding runOf
+    run-bound direct = le-trans (worked-bound (c .states) (c .transitions) (c .formula) (none (c .states))) (powers-mono _ _ _ (blocks-formula b accepted))
+    run-bound equation = rw (read-back b accepted .0) at (own-bound (file b))

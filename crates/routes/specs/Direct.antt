@@ -1,0 +1,60 @@
+-- Direct: a formula's set worked out on sets of states, and how many rounds that takes.
+use mathlib.Core.Path.{_≡_}
+use mathlib.Core.Bool.{Bool, true, false, _&&_, _||_}
+use Prim.Native.Nat.{ℕ, suc, _+_}
+use mathlib.Core.List.{List}
+use lib.ListN.{replicate}
+use Rattle.sets.specs.Set.{Set, has, start}
+use Rattle.sets.specs.Loop.{Run, Worked, iterate}
+use Rattle.solver.specs.Cells.{Valuation, bind}
+use Rattle.cases.specs.Formula.{Formula, False, True, And, Or, Box, Diamond, Variable, Fix}
+use Rattle.cases.specs.declared.Transition.{Transition}
+use Rattle.cases.specs.Meaning.{setOf, boxIn, diamondIn}
+
+-- a set that is worked out from those of two operands, left first; the rounds add up
+pub record FromTwo (one two : Set → ℕ → Type 0) (op : Set → Set → Set) (v : Set) (r : ℕ) : Type 0 where
+  pub left : Set
+  pub right : Set
+  pub before : ℕ
+  pub after : ℕ
+  pub first : one left before
+  pub second : two right after
+  pub set : v ≡ op left right
+  pub sum : r ≡ before + after
+
+-- a set that is worked out from that of one operand, with no further round
+pub record FromOne (one : Set → ℕ → Type 0) (op : Set → Set) (v : Set) (r : ℕ) : Type 0 where
+  pub operand : Set
+  pub first : one operand r
+  pub set : v ≡ op operand
+
+module _ (n : ℕ) (ts : List Transition) where
+  -- the sets of a node from those of its operands
+  abbrev pub meet : Set → Set → Set
+  meet x y = setOf n (λ s. has x s && has y s)
+
+  abbrev pub join : Set → Set → Set
+  join x y = setOf n (λ s. has x s || has y s)
+
+  -- Direct a ρ v r: where ρ gives each binder its set, the rules work out v for the formula a, in r rounds, as if there were no limit.
+  -- A binder starts empty (mu) or full (nu) and runs the loop over its body.
+  unfoldable pub Direct : Formula → Valuation → Set → ℕ → Type 0
+  Direct False ρ v r = (v ≡ replicate n false) × (r ≡ 0)
+  Direct True ρ v r = (v ≡ replicate n true) × (r ≡ 0)
+  Direct (And a b) ρ v r = FromTwo (Direct a ρ) (Direct b ρ) meet v r
+  Direct (Or a b) ρ v r = FromTwo (Direct a ρ) (Direct b ρ) join v r
+  Direct (Box α a) ρ v r = FromOne (Direct a ρ) (λ x. setOf n (boxIn n ts α x)) v r
+  Direct (Diamond α a) ρ v r = FromOne (Direct a ρ) (λ x. setOf n (diamondIn n ts α x)) v r
+  Direct (Variable i) ρ v r = (v ≡ ρ i) × (r ≡ 0)
+  Direct (Fix sign i a) ρ v r = Run (λ u. Direct a (bind ρ i u)) (start n sign) v r
+
+  -- The same by a function that computes: each loop has n + 1 turns at most.
+  unfoldable pub worked : Formula → Valuation → Worked
+  worked False ρ = (replicate n false, 0)
+  worked True ρ = (replicate n true, 0)
+  worked (And a b) ρ = let x : Worked = worked a ρ in let y : Worked = worked b ρ in (meet (x .0) (y .0), x .1 + y .1)
+  worked (Or a b) ρ = let x : Worked = worked a ρ in let y : Worked = worked b ρ in (join (x .0) (y .0), x .1 + y .1)
+  worked (Box α a) ρ = let x : Worked = worked a ρ in (setOf n (boxIn n ts α (x .0)), x .1)
+  worked (Diamond α a) ρ = let x : Worked = worked a ρ in (setOf n (diamondIn n ts α (x .0)), x .1)
+  worked (Variable i) ρ = (ρ i, 0)
+  worked (Fix sign i a) ρ = iterate (suc n) (λ v. worked a (bind ρ i v)) (start n sign)

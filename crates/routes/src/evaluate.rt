@@ -1,0 +1,308 @@
+// Evaluating a formula on sets of states: each node after its operands, a binder by rounds.
+use crate::Value;
+use crate::modal::modal_set;
+use crate::tables::blocks_of;
+use crate::tables::masks_of;
+use cases::Header;
+use cases::header_of;
+use cases::node_at;
+use sets::WORDS;
+use solver::BLOCKS;
+ghost use mathlib.Core.Path.{_≡_};
+ghost use Prim.Native.Nat.{ℕ, _<_, _≤_};
+ghost use Rattle.solver.specs.Cells.{none};
+ghost use Rattle.cases.specs.Prefix.{actionAt, formulaAt};
+ghost use Rattle.cases.specs.Case.{caseOf};
+ghost use Rattle.cases.specs.Conditions.{Accepted};
+ghost use Rattle.cases.specs.Checks.{transitionsIn, nodesIn};
+ghost use Rattle.routes.specs.Direct.{worked};
+ghost use Rattle.routes.specs.Route.{direct, runOf};
+ghost use Rattle.routes.specs.Answering.{Rooted};
+ghost use Rattle.routes.specs.Evaluating.{Records, ActionPart, FormulaPart, Asks, KindAt, Evaluated};
+
+fn wide(x: u8) -> usize
+    ensures { λ r. ⌜ r ≡ x ⌝ }
+{
+    x as usize
+}
+
+// The set of node `at`, after `used` rounds.
+fn evaluate(
+    h: Header,
+    records: &[u8],
+    formula: &[u8],
+    labels: &[u64],
+    blocks: &[u8],
+    sets: [[u64; WORDS]; BLOCKS],
+    at: usize,
+    used: u64,
+    limit: u64,
+) -> Value
+    requires { ⌜ Asks h (now records) (now formula) (now labels) (now blocks) at used limit ⌝ }
+    ensures { λ r. ⌜ Evaluated h (now (records .entry)) (now (formula .entry)) (now (labels .entry)) sets at used limit r ⌝ }
+{
+    let x = node_at(formula, at);
+    let kind = x.kind;
+    if kind <= 1 {
+        let all = sets::initial(h.states, kind == 1);
+        return Value {
+            set: all,
+            next: at + 1,
+            rounds: used,
+            spent: false,
+        };
+    }
+    if kind <= 3 {
+        return pair(
+            h,
+            records,
+            formula,
+            labels,
+            blocks,
+            sets,
+            at,
+            kind,
+            used,
+            limit,
+        );
+    }
+    if kind <= 5 {
+        return modal(
+            h,
+            records,
+            formula,
+            labels,
+            blocks,
+            sets,
+            at,
+            kind,
+            used,
+            limit,
+        );
+    }
+    if kind == 6 {
+        let j = x.arg;
+        let k = wide(blocks[j]);
+        let held = sets[k];
+        return Value {
+            set: held,
+            next: at + 1,
+            rounds: used,
+            spent: false,
+        };
+    }
+    binder(
+        h,
+        records,
+        formula,
+        labels,
+        blocks,
+        sets,
+        at,
+        kind,
+        used,
+        limit,
+    )
+}
+
+// An and or an or: both operands, left first.
+fn pair(
+    h: Header,
+    records: &[u8],
+    formula: &[u8],
+    labels: &[u64],
+    blocks: &[u8],
+    sets: [[u64; WORDS]; BLOCKS],
+    at: usize,
+    kind: usize,
+    used: u64,
+    limit: u64,
+) -> Value
+    requires { ⌜ Asks h (now records) (now formula) (now labels) (now blocks) at used limit × KindAt (now formula) (h .nodes) at kind 2 3 ⌝ }
+    ensures { λ r. ⌜ Evaluated h (now (records .entry)) (now (formula .entry)) (now (labels .entry)) sets at used limit r ⌝ }
+{
+    let one = evaluate(
+        h,
+        records,
+        formula,
+        labels,
+        blocks,
+        sets,
+        at + 1,
+        used,
+        limit,
+    );
+    if one.spent {
+        return one;
+    }
+    let two = evaluate(
+        h,
+        records,
+        formula,
+        labels,
+        blocks,
+        sets,
+        one.next,
+        one.rounds,
+        limit,
+    );
+    if two.spent {
+        return two;
+    }
+    let left = one.set;
+    let right = two.set;
+    let set = sets::combine(left, right, kind == 3);
+    Value {
+        set: set,
+        next: two.next,
+        rounds: two.rounds,
+        spent: false,
+    }
+}
+
+// A box or a diamond.
+fn modal(
+    h: Header,
+    records: &[u8],
+    formula: &[u8],
+    labels: &[u64],
+    blocks: &[u8],
+    sets: [[u64; WORDS]; BLOCKS],
+    at: usize,
+    kind: usize,
+    used: u64,
+    limit: u64,
+) -> Value
+    requires { ⌜ Asks h (now records) (now formula) (now labels) (now blocks) at used limit × KindAt (now formula) (h .nodes) at kind 4 5 ⌝ }
+    ensures { λ r. ⌜ Evaluated h (now (records .entry)) (now (formula .entry)) (now (labels .entry)) sets at used limit r ⌝ }
+{
+    let one = evaluate(
+        h,
+        records,
+        formula,
+        labels,
+        blocks,
+        sets,
+        at + 1,
+        used,
+        limit,
+    );
+    if one.spent {
+        return one;
+    }
+    let operand = one.set;
+    let set = modal_set(
+        records,
+        h.transitions,
+        h.states,
+        h.labels,
+        labels[at],
+        operand,
+        kind == 5,
+    );
+    Value {
+        set: set,
+        next: one.next,
+        rounds: one.rounds,
+        spent: false,
+    }
+}
+
+// A mu or a nu: the rounds of its loop. The sets of outer binders are held.
+fn binder(
+    h: Header,
+    records: &[u8],
+    formula: &[u8],
+    labels: &[u64],
+    blocks: &[u8],
+    sets: [[u64; WORDS]; BLOCKS],
+    at: usize,
+    kind: usize,
+    used: u64,
+    limit: u64,
+) -> Value
+    requires { ⌜ Asks h (now records) (now formula) (now labels) (now blocks) at used limit × KindAt (now formula) (h .nodes) at kind 7 8 ⌝ }
+    ensures { λ r. ⌜ Evaluated h (now (records .entry)) (now (formula .entry)) (now (labels .entry)) sets at used limit r ⌝ }
+{
+    let k = wide(blocks[at]);
+    let mut held = sets::initial(h.states, kind == 8);
+    let mut before = used;
+    loop {
+        let mut s = sets;
+        s[k] = held;
+        let one = evaluate(
+            h,
+            records,
+            formula,
+            labels,
+            blocks,
+            s,
+            at + 1,
+            before,
+            limit,
+        );
+        if one.spent {
+            return one;
+        }
+        let next = one.set;
+        let rounds = one.rounds;
+        if limit <= rounds {
+            return Value {
+                set: next,
+                next: one.next,
+                rounds: rounds,
+                spent: true,
+            };
+        }
+        if sets::equal(&next, &held) {
+            return Value {
+                set: next,
+                next: one.next,
+                rounds: rounds + 1,
+                spent: false,
+            };
+        }
+        held = next;
+        before = rounds + 1;
+    }
+}
+
+// The set of a formula's root. It is handed the counts, and the parts of the case that start at its tables.
+fn evaluate_root(h: Header, records: &[u8], actions: &[u8], formula: &[u8], limit: u64) -> Value
+    requires { ⌜ Records (now records) (h .transitions) (h .states) (h .labels)
+        × ActionPart (now actions) (h .actions) × FormulaPart (now formula) (h .nodes) (h .actions) ⌝ }
+    ensures { λ r. ⌜ Rooted (worked (h .states) (transitionsIn (now (records .entry)) (h .transitions))
+        (formulaAt (actionAt (nodesIn (now (actions .entry)) (h .actions))) (nodesIn (now (formula .entry)) (h .nodes)) 0) (none (h .states))) limit r ⌝ }
+{
+    let labels = masks_of(actions, h.actions, formula, h.nodes);
+    let blocks = blocks_of(formula, h.nodes);
+    evaluate(
+        h,
+        records,
+        formula,
+        &labels,
+        &blocks,
+        [[0u64; WORDS]; BLOCKS],
+        0,
+        0,
+        limit,
+    )
+}
+
+// The set of the formula of an accepted case.
+pub fn evaluate_case(case: &[u8], limit: u64) -> Value
+    requires { ⌜ Accepted (now case) ⌝ }
+    ensures { λ r. ⌜ Rooted (runOf direct (caseOf (now (case .entry)))) limit r ⌝ }
+{
+    let h = header_of(case);
+    let records = h.first;
+    let actions = h.second;
+    let formula = h.third;
+    evaluate_root(
+        h,
+        &case[records..],
+        &case[actions..],
+        &case[formula..],
+        limit,
+    )
+}

@@ -26,7 +26,8 @@ use Rattle.translate.proofs.AllLaws.{all-second, or-left, or-right}
 use Rattle.translate.proofs.Counts.{length-blocks}
 use Rattle.translate.proofs.Unfold.{Stands, and-operands, or-operands, box-operand, diamond-operand, fix-operand, cells-ordered}
 use Rattle.routes.proofs.Shallow.{shallow, node-set}
-use Rattle.routes.proofs.SolvedBlocks.{iterate-same, first-set, Later, later}
+use Rattle.routes.proofs.SolvedBlocks.{first-set, Later, later}
+use Rattle.routes.proofs.IterateLaws.{iterate-same}
 
 -- the blocks of binders are k, k + 1, ..
 abbrev pub Numbered : (ℕ → ℕ) → ℕ → List ℕ → Type 0
@@ -124,7 +125,7 @@ module _ (n : ℕ) (states : 0 < n) (ts : List Transition) (low : T (all (λ t. 
   one sign v x p i k bs w ρ o =
       ap (solved n cs (b ∷ ds) k ρ .0) own
       ∙ first-set n cs b ds k ρ
-      ∙ iterate-same n (turn n cs b ds k ρ) (bodyOf n ts v x (ofBlocks ρ))
+      ∙ iterate-same (λ u. length u ≡ n) (turn n cs b ds k ρ) (bodyOf n ts v x (ofBlocks ρ))
       (λ u l. meaning-sized n ts x (bind (ofBlocks ρ) v u) (bind-sized (ofBlocks ρ) v u (λ j. o (block j)) l))
       turned (suc n) (start n sign) (length-replicate n sign)
     where

@@ -1,14 +1,14 @@
 -- What direct answers: the report of a case, the number it refuses with, condition by condition, and what it promises with each.
-use mathlib.Core.Path.{_≡_, refl, sym, ap, _∙_}
+use mathlib.Core.Path.{_≡_, sym, ap, _∙_}
 use mathlib.Core.Bool.{Bool, true, false}
 use mathlib.Core.List.{List, [], _++_}
-use Prim.Native.Nat.{ℕ, zero, suc, _+_, _<_, _≤_}
+use Prim.Native.Nat.{ℕ, _<_, _≤_}
 use native.Mathlib.Omega.{arith}
 use borrow.Author.Tests.{lt-ltb, le-ltb}
 use lib.ListN.{length, drop, length-replicate}
 use Rattle.sets.specs.Size.{wordCount, stateLimit}
 use Rattle.sets.specs.Set.{size}
-use Rattle.sets.specs.Words.{words, marked, states}
+use Rattle.sets.specs.Words.{marked, states}
 use Rattle.sets.proofs.Words.{marked-words, states-words}
 use Rattle.solver.specs.Cells.{none}
 use Rattle.solver.specs.Outcome.{firstOf, refused}
@@ -23,9 +23,10 @@ use Rattle.routes.specs.declared.Cause.the-variants.{Memory, Spent}
 use Rattle.routes.specs.declared.Report.{Report}
 use Rattle.routes.specs.declared.Value.{Value}
 use Rattle.routes.specs.declared.Answer.the-variants.{Solved, Refused}
-use Rattle.routes.specs.Route.{number, outcome, routeReport, Route, direct, runOf, Lent, lent, refusalOf, outcomeOf, marksAfter, Directed}
+use Rattle.routes.specs.Route.{number, outcome, routeReport, direct, runOf, Lent, lent, refusalOf, Directed}
 use Rattle.routes.specs.Answering.{Reported, Rooted}
 use Rattle.routes.proofs.DirectLaws.{worked-sized}
+use Rattle.routes.proofs.RouteLaws.{case-number, reported as reported-by, written, refuses, kept}
 
 -- ---- the report
 
@@ -50,39 +51,9 @@ module _ (b : List ℕ) (accepted : Accepted b) {h : Header} (is : h ≡ headerO
         rw (first, many);
   }
 
--- ---- outcomes by the number of the refusal, for both routes
-
-module _ (R : Route) (b : List ℕ) (l : Lent) (limit : ℕ) where
-  -- with 0 there is a report, and the marks are written
-  pub reports : refusalOf R b l limit ≡ 0 → outcomeOf R b l limit ≡ routeReport (caseOf b) (runOf R (caseOf b) .0) (runOf R (caseOf b) .1)
-  unfolding outcomeOf
-  reports z = rw z
-
-  pub marks-written : (marks : List ℕ) → refusalOf R b l limit ≡ 0
-      → marksAfter R b l marks limit ≡ words wordCount (runOf R (caseOf b) .0) ++ drop wordCount marks
-  unfolding marksAfter
-  marks-written marks z = rw z
-
-  -- with another number there is none, and they are kept
-  pub refuses : (k : ℕ) → ¬ (k ≡ 0) → refusalOf R b l limit ≡ k → outcomeOf R b l limit ≡ refused k
-  unfolding outcomeOf
-  refuses zero n e = absurd (n refl)
-  refuses (suc k) n e = rw e
-
-  pub marks-kept : (marks : List ℕ) (k : ℕ) → ¬ (k ≡ 0) → refusalOf R b l limit ≡ k → marksAfter R b l marks limit ≡ marks
-  unfolding marksAfter
-  marks-kept marks zero n e = absurd (n refl)
-  marks-kept marks (suc k) n e = rw e
-
 -- ---- direct's refusals
 
 module _ (b : List ℕ) (l : Lent) (limit : ℕ) where
-  -- a condition of the case
-  refusal-case : (k : ℕ) → caseRefusal b ≡ k → ¬ (k ≡ 0) → refusalOf direct b l limit ≡ k
-  unfolding refusalOf
-  refusal-case zero e n = absurd (n refl)
-  refusal-case (suc k) e n = rw e
-
   module _ (accepted : Accepted b) where
     -- too few words
     refusal-13 : l .marks < wordCount → refusalOf direct b l limit ≡ 13
@@ -115,14 +86,13 @@ module _ (b marks : List ℕ) (limit : ℕ) where
   refused-by : (cause : Cause) → ¬ (number cause ≡ 0) → refusalOf direct b given limit ≡ number cause → Directed b marks limit (Refused cause) marks
   unfolding outcome
   refused-by cause n e = record {
-    answers = sym (refuses direct b given limit (number cause) n e);
-    marks-are = sym (marks-kept direct b given limit marks (number cause) n e);
+    answers = sym (refuses direct b given limit (λ z. n (sym e ∙ z)) ∙ ap refused e);
+    marks-are = sym (kept direct b given limit marks (λ z. n (sym e ∙ z)));
   }
 
   pub case-refused : {cause : Cause} {k : ℕ} → k ≡ caseRefusal b → ¬ (k ≡ 0) → number cause ≡ k → Directed b marks limit (Refused cause) marks
   case-refused {cause} k n is =
-      let other : ¬ (number cause ≡ 0) = λ z. n (sym is ∙ z) in
-      refused-by cause other (refusal-case b given limit (number cause) (sym k ∙ sym is) other)
+      refused-by cause (λ z. n (sym is ∙ z)) (case-number direct b given limit (λ z. n (k ∙ z)) ∙ sym (is ∙ k))
 
   module _ (accepted : Accepted b) where
     pub too-short : length marks < wordCount → Directed b marks limit (Refused Memory) marks
@@ -142,6 +112,6 @@ module _ (b marks : List ℕ) (limit : ℕ) where
           let none-holds = refusal-0 b given limit accepted room (r .within z) in
           record {
             answers = f .are (runOf direct c .0) (run-sized c) (r .set z)
-                ∙ ap (routeReport c (runOf direct c .0)) (r .rounds z) ∙ sym (reports direct b given limit none-holds);
-            marks-are = is ∙ ap (λ (w : List ℕ). w ++ drop wordCount marks) (r .set z) ∙ sym (marks-written direct b given limit marks none-holds);
+                ∙ ap (routeReport c (runOf direct c .0)) (r .rounds z) ∙ sym (reported-by direct b given limit none-holds);
+            marks-are = is ∙ ap (λ (w : List ℕ). w ++ drop wordCount marks) (r .set z) ∙ sym (written direct b given limit marks none-holds);
           }

@@ -88,7 +88,7 @@ module _ (n : ℕ) (ts : List Transition) where
   worked-meaning (Diamond α a) ρ = ap (λ (x : Set). setOf n (diamondIn n ts α x)) (worked-meaning a ρ)
   worked-meaning (Variable i) ρ = refl
   worked-meaning (Fix sign i a) ρ =
-      iterate-same (suc n) (λ v. worked n ts a (bind ρ i v)) (bodyOf n ts i a ρ) (λ v. worked-meaning a (bind ρ i v)) (start n sign)
+      iterate-same (λ v. Unit {0}) (λ v. worked n ts a (bind ρ i v)) (bodyOf n ts i a ρ) (λ v u. u) (λ v u. worked-meaning a (bind ρ i v)) (suc n) (start n sign) tt
 
   -- So it has n states,
   pub worked-sized : (a : Formula) (ρ : Valuation) → Sized n ρ → length (worked n ts a ρ .0) ≡ n

@@ -1,21 +1,18 @@
 -- What the parts of the equation route answer.
-use mathlib.Core.Path.{_≡_, refl, sym, ap, subst, _∙_}
+use mathlib.Core.Path.{_≡_, refl, sym, ap, _∙_}
 use mathlib.Core.Logic.{_⊎_, inl, inr}
 use mathlib.Core.Bool.{Bool, true, false, cond}
 use mathlib.Core.List.{List, _++_}
-use Prim.Native.Nat.{ℕ, zero, suc, _≤_, _<_}
+use Prim.Native.Nat.{ℕ, _≤_, _<_}
 use native.Mathlib.Omega.{arith}
 use borrow.Author.Tests.{eqb-true}
 use lib.Dec.{eqb, ltb}
 use lib.ListN.{length, take, drop, length-append}
 use lib.Seq.{take-append-seam}
 use Rattle.sets.specs.Size.{wordCount}
-use Rattle.sets.specs.Set.{Set}
 use Rattle.sets.specs.Words.{words}
 use Rattle.sets.proofs.Words.{words-length}
-use Rattle.solver.specs.Cells.{Valuation}
-use Rattle.solver.specs.File.{stateCount}
-use Rattle.solver.specs.Outcome.{Outcome, refused, byRefusal, run, report, solveRefusal, solveOutcome, solveMarks, Answered}
+use Rattle.solver.specs.Outcome.{Outcome, refused, run, report, solveRefusal, solveMarks, Answered}
 use Rattle.solver.specs.Outcome as Solver
 use Rattle.solver.specs.declared.Answer as Solver·Answer
 use Rattle.solver.specs.declared.Report as Solver·Report
@@ -30,7 +27,7 @@ use Rattle.translate.specs.Translating.{file, refusalIn, number, Translated}
 use Rattle.translate.specs.declared.Written.{Written}
 use Rattle.translate.specs.declared.Written.the-variants.{File, Refused}
 use Rattle.translate.proofs.Promises.{answers, writes, one-number, well-formed, read-back}
-use Rattle.routes.specs.Route.{number as number′, outcome, routeReport, equation, lent, runOf, refusalOf, outcomeOf, marksAfter, fileAfter, workAfter, Routed}
+use Rattle.routes.specs.Route.{number as number′, outcome, equation, lent, runOf, refusalOf, outcomeOf, marksAfter, fileAfter, workAfter, Routed}
 use Rattle.routes.specs.Answering.{Reported, Finished}
 use Rattle.routes.specs.declared.Answer.{Answer}
 use Rattle.routes.specs.declared.Answer.the-variants.{Solved as Solved′, Refused as Refused″}

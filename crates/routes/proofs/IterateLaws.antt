@@ -1,16 +1,17 @@
 -- The loop with fuel: what its outcome depends on.
-use mathlib.Core.Path.{_≡_, refl, ap, _∙_}
+use mathlib.Core.Path.{_≡_, refl}
 use mathlib.Core.Bool.{Bool, true, false}
 use Prim.Native.Nat.{ℕ, zero, suc}
 use Rattle.sets.specs.Set.{Set, same}
 use Rattle.sets.specs.Loop.{Worked, iterate}
 
--- The set at which the loop ends depends only on the sets that its step gives, not on the rounds.
-pub iterate-same : (m : ℕ) (f g : Set → Worked) → ((v : Set) → f v .0 ≡ g v .0) → (v : Set) → iterate m f v .0 ≡ iterate m g v .0
+-- Loops whose turns give the same sets, whatever the rounds, stop at the same set. It is enough that they do on the sets that a loop comes by.
+pub iterate-same : (P : Set → Type 0) (f g : Set → Worked) → ((v : Set) → P v → P (g v .0)) → ((v : Set) → P v → f v .0 ≡ g v .0)
+    → (m : ℕ) (v : Set) → P v → iterate m f v .0 ≡ iterate m g v .0
 unfolding iterate
-iterate-same zero f g h v = refl
-iterate-same (suc m) f g h v = go (same (f v .0) v) refl (iterate-same m f g h (f v .0) ∙ ap (λ (w : Set). iterate m g w .0) (h v))
+iterate-same P f g keeps h zero v p = refl
+iterate-same P f g keeps h (suc m) v p = go (same (g v .0) v) refl (iterate-same P f g keeps h m (g v .0) (keeps v p))
   where
-    go : (b : Bool) → same (f v .0) v ≡ b → iterate m f (f v .0) .0 ≡ iterate m g (g v .0) .0 → iterate (suc m) f v .0 ≡ iterate (suc m) g v .0
-    go true e ih = rw (← h v, e, iterate)
-    go false e ih = rw (← h v, e, iterate) ih
+    go : (b : Bool) → same (g v .0) v ≡ b → iterate m f (g v .0) .0 ≡ iterate m g (g v .0) .0 → iterate (suc m) f v .0 ≡ iterate (suc m) g v .0
+    go true e q = rw (h v p, e, iterate)
+    go false e q = rw (h v p, e, iterate, h v p) q

@@ -1,16 +1,14 @@
 -- The node that is to be evaluated: its kind, its operands, its formula's rule, and the block of a binder.
 use mathlib.Core.Path.{_≡_, refl, sym, ap, subst, _∙_}
 use mathlib.Core.Bool.{Bool, true, false}
-use mathlib.Core.List.{List, [], _∷_, map}
-use Prim.Native.Nat.{ℕ, zero, suc, _+_, _<_, _≤_}
+use mathlib.Core.List.{List, map}
+use Prim.Native.Nat.{ℕ, _+_, _<_, _≤_}
 use native.Mathlib.Omega.{arith}
 use native.Mathlib.Decide.{ℕ-discrete}
 use borrow.Author.Tests.{ltb-true, ltb-false}
 use lib.Dec.{ltb}
 use lib.ListN.{length, getD, take, length-map}
-use lib.Seq.{take-all}
 use Rattle.sets.specs.Set.{Set}
-use Rattle.sets.proofs.Lists.{length-table}
 use Rattle.solver.specs.Limits.{blockLimit}
 use Rattle.solver.specs.Cells.{Valuation}
 use Rattle.cases.specs.Action.{Action}
@@ -26,13 +24,10 @@ use Rattle.cases.proofs.Spans.{exactly-whole, first-node}
 use Rattle.cases.proofs.Trees.{made, arity-at}
 use Rattle.cases.proofs.TableTrees.{formulaOperator, FormulaTable, formula-table, formula-at}
 use Rattle.cases.proofs.Scopes.{variable-bound}
+use Rattle.translate.proofs.ShapeFields.{length-nodes}
 use Rattle.routes.specs.Direct.{Direct}
 use Rattle.routes.specs.Evaluating.{Asks, KindAt}
-
--- how many nodes a table has
-length-nodes : (part : List ℕ) (f : ℕ) → length (nodesIn part f) ≡ f
-unfolding nodesIn
-length-nodes part f = length-table (nodeIn part) f
+use Rattle.routes.proofs.TableLaws.{more-binders, binders-before}
 
 -- what holds of two kinds holds of a kind that is one of them
 pub by-kind : (P : ℕ → Type 0) {formula : List ℕ} {f at kind low high : ℕ} → KindAt formula f at kind low high → high ≡ low + 1
@@ -50,16 +45,7 @@ pub record Binder (t : List Node) (i : ℕ) : Type 0 where
   pub inside : i < length t
   pub is : isBinder (nodeAt t i) ≡ true
 
--- Before a later node there are more binders than before a binder,
-more-binders : (t : List Node) (i j : ℕ) → i < j → j ≤ length t → isBinder (nodeAt t i) ≡ true
-    → binderCount (take i t) < binderCount (take j t)
-unfolding binderCount
-more-binders [] i j l h e = absurd (omega arith)
-more-binders (x ∷ t) i zero l h e = absurd (omega arith)
-more-binders (x ∷ t) zero (suc j) l h e = rw e (omega arith)
-more-binders (x ∷ t) (suc i) (suc j) l h e = omega (arith, more-binders t i j (omega arith) (omega arith) e)
-
--- so different binders have different numbers of binders before them.
+-- Different binders have different numbers of binders before them.
 pub apart : (t : List Node) (i j : ℕ) → Binder t i → Binder t j → binderCount (take i t) ≡ binderCount (take j t) → i ≡ j
 apart t i j b c e = go (ltb i j) refl (ltb j i) refl
   where
@@ -137,9 +123,7 @@ module _ {h : Header} {records formula labels blocks : List ℕ} {at used limit 
   -- and is below six
   pub block-fits : {i k : ℕ} → Binder t i → k ≡ getD blocks i 0 → k < blockLimit
   block-fits {i} b e =
-      let all : take (length t) t ≡ t = take-all (length t) t (omega arith) in
-      let less : binderCount (take i t) < binderCount t = rw all at (more-binders t i (length t) (b .inside) (omega arith) (b .is)) in
-      omega (arith, block-of b e, q .parts .nodes .shallow)
+      omega (arith, block-of b e, binders-before t i (b .inside) (b .is), q .parts .nodes .shallow)
 
   module _ {kind low high : ℕ} (k : KindAt formula (h .nodes) at kind low high) where
     -- how many operands it has

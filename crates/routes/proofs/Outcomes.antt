@@ -1,14 +1,13 @@
 -- What the routes work out for an accepted case: one set, the formula's meaning, and a number of rounds within a bound.
-use mathlib.Core.Path.{_≡_, refl, sym, ap, _∙_}
+use mathlib.Core.Path.{_≡_, sym, _∙_}
 use mathlib.Core.Bool.{false}
-use mathlib.Core.List.{List, _++_}
-use Prim.Native.Nat.{ℕ, suc, _≤_, _<_}
+use mathlib.Core.List.{List}
+use Prim.Native.Nat.{ℕ, suc, _≤_}
 use native.Mathlib.Nat.{le-trans}
-use native.Mathlib.Omega.{arith}
-use lib.ListN.{length, drop, length-replicate}
+use lib.ListN.{length-replicate}
 use Rattle.sets.specs.Set.{Set}
 use Rattle.solver.specs.Cells.{Valuation, none}
-use Rattle.solver.specs.File.{blockCount, stateCount}
+use Rattle.solver.specs.File.{blockCount}
 use Rattle.solver.specs.Rounds.{powers}
 use Rattle.solver.specs.Outcome.{run}
 use Rattle.solver.specs.Outcome as Solver
@@ -23,7 +22,6 @@ use Rattle.cases.proofs.ClosedMeaning as closed
 use Rattle.cases.proofs.MeaningLaws.{meaning, means-exists, means-unique}
 use Rattle.translate.specs.Translating.{file}
 use Rattle.translate.proofs.Promises.{well-formed, read-back}
-use Rattle.routes.specs.Direct.{worked}
 use Rattle.routes.specs.Route.{Route, direct, equation, OwnRounds, runOf}
 use Rattle.routes.proofs.DirectLaws.{direct-exists, direct-one, worked-meaning, worked-bound, powers-mono}
 use Rattle.routes.proofs.EquationMeaning.{equations-mean}

@@ -1,8 +1,7 @@
 -- The promises of both routes, as theorems about their definitions: b is the case file, any list of bytes, and numbers have no bound.
 -- By their contracts, Directed and Routed of specs/Route.antt, the calls answer outcomeOf and leave marksAfter, fileAfter and workAfter.
-use mathlib.Core.Path.{_≡_, refl, sym, ap, _∙_}
+use mathlib.Core.Path.{_≡_, refl, sym, _∙_}
 use mathlib.Core.Logic.{_↔_, _⊎_, inl, inr, by-cases}
-use mathlib.Core.Bool.{Bool, true, false}
 use mathlib.Core.List.{List, _++_}
 use Prim.Native.Nat.{ℕ, suc, _≤_, _<_}
 use native.Mathlib.Omega.{arith}
@@ -11,22 +10,20 @@ use borrow.Author.Tests.{ne-eqb}
 use lib.ListN.{length, take, drop}
 use Rattle.sets.specs.Size.{wordCount}
 use Rattle.sets.specs.Set.{Set}
-use Rattle.sets.specs.Words.{words}
-use Rattle.solver.specs.Cells.{Valuation, none}
+use Rattle.solver.specs.Cells.{Valuation}
 use Rattle.solver.specs.File.{blockCount}
 use Rattle.solver.specs.Rounds.{powers}
 use Rattle.solver.specs.Outcome.{refused, firstOf, solveWork}
-use Rattle.solver.proofs.Promises.{Marks}
+use Rattle.solver.proofs.Promises.{Marks, shows}
 use Rattle.solver.proofs.Solving.{Sized}
 use Rattle.cases.specs.Case.{Case, caseOf}
-use Rattle.cases.specs.Conditions.{caseRefusal, Accepted}
+use Rattle.cases.specs.Conditions.{Accepted}
 use Rattle.cases.specs.Meaning.{Means}
-use Rattle.cases.proofs.Accepting.{conditions}
 use Rattle.cases.proofs.MeaningLaws.{means-sized}
 use Rattle.translate.specs.Translating.{file, refusalIn}
 use Rattle.translate.proofs.Promises.{written-when}
-use Rattle.routes.specs.Route.{Route, direct, equation, Lent, OwnRounds, runOf, refusalOf, routeReport, outcomeOf, marksAfter, fileAfter, workAfter, Enough, GivesMarks, Spent}
-use Rattle.routes.proofs.RouteLaws.{number-is, number-enough, given, reported, written, refuses, kept, spent-number, gives-number, spent-over, take-words, shows, lastTwo, first-number, in-table, unwritten-when}
+use Rattle.routes.specs.Route.{Route, Lent, OwnRounds, runOf, refusalOf, routeReport, outcomeOf, marksAfter, fileAfter, workAfter, conditionsOf, Enough, GivesMarks, Spent}
+use Rattle.routes.proofs.RouteLaws.{number-is, given, reported, written, refuses, kept, spent-number, gives-number, spent-over, take-words, first-number, in-table, unwritten-when}
 use Rattle.routes.proofs.Outcomes.{meaning-of, one-meaning, own-exists, own-one, runs-alike, run-means, run-bound}
 
 -- v is what the case's formula means, where ρ gives sets of n states to variables. None of them is free in an accepted case.
@@ -80,7 +77,7 @@ pub marks-mean : (R : Route) (b : List ℕ) (l : Lent) (marks : List ℕ) (limit
 marks-mean R b l marks limit g ρ v m =
     let z = sym (number-is R b l limit) ∙ g in
     let ok = given R b l limit z .0 in
-    rw (written R b l limit marks z, ← run-means b ok R ρ (m .0) v (m .1)) (shows v marks (means-sized _ _ _ ρ (m .0) v (m .1)))
+    rw (written R b l limit marks z, ← run-means b ok R ρ (m .0) v (m .1)) (shows v marks _ refl (means-sized _ _ _ ρ (m .0) v (m .1)))
 
 -- (d) Any two runs that give marks, by either route and at whatever limits and lent memory, are alike in marks, verdict and count.
 pub alike : (R R′ : Route) (b : List ℕ) (l l′ : Lent) (marks marks′ : List ℕ) (limit limit′ : ℕ) → GivesMarks R b l limit → GivesMarks R′ b l′ limit′
@@ -119,7 +116,7 @@ pub never-11-12 : (R : Route) (b : List ℕ) (l : Lent) (limit : ℕ) → ¬ (ou
 never-11-12 R b l limit = let x = in-table R b l limit in (λ e. x .1 (sym (number-is R b l limit) ∙ e), λ e. x .2 (sym (number-is R b l limit) ∙ e))
 
 -- The number is that of the first condition that holds, of 1 to 10, then 13, then 14; 0 says that none does.
-pub first-condition : (R : Route) (b : List ℕ) (l : Lent) (limit : ℕ) → outcomeOf R b l limit .refusal ≡ firstOf (conditions b ++ lastTwo R b l limit)
+pub first-condition : (R : Route) (b : List ℕ) (l : Lent) (limit : ℕ) → outcomeOf R b l limit .refusal ≡ firstOf (conditionsOf R b l limit)
 first-condition R b l limit = number-is R b l limit ∙ first-number R b l limit
 
 -- A refusal leaves the marks as they were.

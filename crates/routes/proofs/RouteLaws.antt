@@ -1,43 +1,39 @@
 -- The number that a route refuses with, and what follows from it being 0 or not.
-use mathlib.Core.Path.{_≡_, refl, sym, ap, subst, _∙_}
+use mathlib.Core.Path.{_≡_, refl, sym, ap, _∙_}
 use mathlib.Core.Logic.{_↔_, by-cases}
 use mathlib.Core.Bool.{Bool, true, false, cond, _||_, true≢false}
 use mathlib.Core.List.{List, [], _∷_, _++_}
 use Prim.Native.Nat.{ℕ, zero, suc, _≤_, _<_}
 use native.Mathlib.Omega.{arith}
 use native.Mathlib.Decide.{ℕ-discrete}
-use borrow.Author.Tests.{eq-eqb, ne-eqb, eqb-true, lt-ltb, le-ltb, ltb-true, ltb-false}
-use lib.Dec.{T, eqb, ltb}
-use lib.ListN.{length, take, drop, List·getD-eq-default}
+use borrow.Author.Tests.{le-ltb, ltb-true, ltb-false}
+use lib.Dec.{T, ltb}
+use lib.ListN.{length, take, drop}
 use Rattle.sets.specs.Lists.{all}
 use Rattle.sets.specs.Size.{wordCount}
 use Rattle.sets.specs.Set.{Set}
 use Rattle.sets.specs.Words.{words, number}
 use Rattle.sets.proofs.Lists.{and-right}
 use Rattle.solver.specs.File.{cellCount}
-use Rattle.solver.specs.Outcome.{Outcome, refused, byRefusal, firstOf, tooShort, exceeds, badLayout, badTable, solveRefusal, run}
-use Rattle.solver.proofs.Promises.{formed-accepted, Marks}
-use Rattle.solver.proofs.Refusals.{enough, marked-front}
+use Rattle.solver.specs.Outcome as Solver
+use Rattle.solver.specs.Outcome.{refused, byRefusal, firstOf, exceeds, solveRefusal}
+use Rattle.solver.proofs.Promises.{formed-accepted}
+use Rattle.solver.proofs.Refusals.{enough}
 use Rattle.cases.specs.Case.{caseOf}
 use Rattle.cases.specs.Conditions.{modelConditions, formulaConditions, caseRefusal, Accepted}
 use Rattle.cases.proofs.Accepting.{conditions, refusal-low}
 use Rattle.translate.specs.Translating.{file, refusalIn}
 use Rattle.translate.proofs.Promises.{well-formed, written-when, too-short-when, refused-when}
-use Rattle.routes.specs.Route.{Route, direct, equation, Lent, runOf, refusalOf, routeReport, outcomeOf, marksAfter, Enough}
+use Rattle.routes.specs.Route.{Route, direct, equation, Lent, runOf, refusalOf, routeReport, outcomeOf, marksAfter, tooShort, conditionsOf, Enough}
 
 -- with a refusal other than 0, what holds after a refusal
 pub refusing : {A : Type 0} (k : ℕ) (success refusal : A) → ¬ (k ≡ 0) → byRefusal k success refusal ≡ refusal
 refusing zero a b n = absurd (n refl)
 refusing (suc k) a b n = refl
 
--- 13: the lent memory is too short
-unfoldable pub short : Route → List ℕ → Lent → Bool
-short direct b l = ltb (l .marks) wordCount
-short equation b l = ltb (l .file) (length (file b)) || tooShort (file b) (l .work) (l .marks)
-
 -- 13 and then 14 are asked of an accepted case
-abbrev pub lastTwo : Route → List ℕ → Lent → ℕ → List (ℕ × Bool)
-lastTwo R b l limit = (13, short R b l) ∷ (14, ltb limit (runOf R (caseOf b) .1)) ∷ []
+abbrev lastTwo : Route → List ℕ → Lent → ℕ → List (ℕ × Bool)
+lastTwo R b l limit = (13, tooShort R b l) ∷ (14, ltb limit (runOf R (caseOf b) .1)) ∷ []
 
 -- the number of a case that is refused
 pub case-number : (R : Route) (b : List ℕ) (l : Lent) (limit : ℕ) → ¬ Accepted b → refusalOf R b l limit ≡ caseRefusal b
@@ -48,28 +44,28 @@ case-number equation b l limit h =
 
 -- the number of a case that is accepted
 pub last-number : (R : Route) (b : List ℕ) (l : Lent) (limit : ℕ) → Accepted b → refusalOf R b l limit ≡ firstOf (lastTwo R b l limit)
-unfolding refusalOf short firstOf solveRefusal exceeds runOf
+unfolding refusalOf tooShort firstOf Solver.tooShort solveRefusal exceeds runOf
 last-number direct b l limit h = rw h
 last-number equation b l limit h = go (ltb (l .file) (length (file b))) refl
   where
     go : (x : Bool) → ltb (l .file) (length (file b)) ≡ x
         → byRefusal (refusalIn b (l .file)) (solveRefusal (file b) (l .work) (l .marks) limit) (refusalIn b (l .file))
-        ≡ firstOf ((13, x || tooShort (file b) (l .work) (l .marks)) ∷ (14, ltb limit (runOf equation (caseOf b) .1)) ∷ [])
+        ≡ firstOf ((13, x || Solver.tooShort (file b) (l .work) (l .marks)) ∷ (14, ltb limit (runOf equation (caseOf b) .1)) ∷ [])
     go true e = rw (too-short-when b (l .file) h (ltb-true (l .file) (length (file b)) e))
     go false e =
         let formed = formed-accepted (file b) .0 (well-formed b h) in
         rw (written-when b (l .file) h (ltb-false (l .file) (length (file b)) e), formed .0, formed .1)
 
 -- 13 does not hold if the memory is enough
-pub enough-short : (R : Route) (b : List ℕ) (l : Lent) → Enough R b l ↔ short R b l ≡ false
-unfolding Enough short
-enough-short direct b l = (le-ltb (l .marks) wordCount, ltb-false (l .marks) wordCount)
-enough-short equation b l = (
+pub enough-room : (R : Route) (b : List ℕ) (l : Lent) → Enough R b l ↔ tooShort R b l ≡ false
+unfolding Enough tooShort
+enough-room direct b l = (le-ltb (l .marks) wordCount, ltb-false (l .marks) wordCount)
+enough-room equation b l = (
   λ h. rw (le-ltb (l .file) (length (file b)) (h .0), enough (file b) (l .work) (l .marks) .0 (h .1, h .2)),
   λ h. go (ltb (l .file) (length (file b))) refl h,
 )
   where
-    go : (x : Bool) → ltb (l .file) (length (file b)) ≡ x → (x || tooShort (file b) (l .work) (l .marks)) ≡ false
+    go : (x : Bool) → ltb (l .file) (length (file b)) ≡ x → (x || Solver.tooShort (file b) (l .work) (l .marks)) ≡ false
         → (length (file b) ≤ l .file) × (cellCount (file b) ≤ l .work) × (wordCount ≤ l .marks)
     go true e h = absurd (true≢false h)
     go false e h = let m = enough (file b) (l .work) (l .marks) .1 h in (ltb-false (l .file) (length (file b)) e, m .0, m .1)
@@ -78,7 +74,7 @@ module _ (R : Route) (b : List ℕ) (l : Lent) (limit : ℕ) where
   -- with enough memory only 14 is left to ask
   pub number-enough : Accepted b → Enough R b l → refusalOf R b l limit ≡ cond (ltb limit (runOf R (caseOf b) .1)) 14 0
   unfolding firstOf
-  number-enough h m = last-number R b l limit h ∙ go (ltb limit (runOf R (caseOf b) .1)) (short R b l) (enough-short R b l .0 m)
+  number-enough h m = last-number R b l limit h ∙ go (ltb limit (runOf R (caseOf b) .1)) (tooShort R b l) (enough-room R b l .0 m)
     where
       go : (x y : Bool) → y ≡ false → firstOf ((13, y) ∷ (14, x) ∷ []) ≡ cond x 14 0
       go x true e = absurd (true≢false e)
@@ -97,7 +93,7 @@ module _ (R : Route) (b : List ℕ) (l : Lent) (limit : ℕ) where
   -- Where the number is 0 the case is accepted, the memory is enough, and the rounds are within the limit.
   pub given : refusalOf R b l limit ≡ 0 → Accepted b × Enough R b l × (runOf R (caseOf b) .1 ≤ limit)
   unfolding firstOf
-  given z = (accepted, enough-short R b l .1 (two .0), ltb-false limit (runOf R (caseOf b) .1) (two .1))
+  given z = (accepted, enough-room R b l .1 (two .0), ltb-false limit (runOf R (caseOf b) .1) (two .1))
     where
       accepted : Accepted b
       accepted = by-cases (ℕ-discrete (caseRefusal b) 0) (λ e. e) (λ d. sym (case-number R b l limit d) ∙ z)
@@ -107,7 +103,7 @@ module _ (R : Route) (b : List ℕ) (l : Lent) (limit : ℕ) where
       fails false true e = absurd (omega arith)
       fails false false e = (refl, refl)
 
-      two : (short R b l ≡ false) × (ltb limit (runOf R (caseOf b) .1) ≡ false)
+      two : (tooShort R b l ≡ false) × (ltb limit (runOf R (caseOf b) .1) ≡ false)
       two = fails _ _ (sym (last-number R b l limit accepted) ∙ z)
 
   -- then the report is answered and the marks are written
@@ -146,7 +142,7 @@ module _ (R : Route) (b : List ℕ) (l : Lent) (limit : ℕ) where
   -- where an accepted case is spent, its rounds exceed the limit
   pub spent-over : Accepted b → refusalOf R b l limit ≡ 14 → limit < runOf R (caseOf b) .1
   unfolding firstOf
-  spent-over h e = go (short R b l) (ltb limit (runOf R (caseOf b) .1)) refl (sym (last-number R b l limit h) ∙ e)
+  spent-over h e = go (tooShort R b l) (ltb limit (runOf R (caseOf b) .1)) refl (sym (last-number R b l limit h) ∙ e)
     where
       go : (x y : Bool) → ltb limit (runOf R (caseOf b) .1) ≡ y → firstOf ((13, x) ∷ (14, y) ∷ []) ≡ 14 → limit < runOf R (caseOf b) .1
       go true y e z = absurd (omega arith)
@@ -159,14 +155,6 @@ unfolding words
 take-words zero v rest = refl
 take-words (suc k) v rest = ap (λ (ws : List ℕ). number (take 64 v) ∷ ws) (take-words k (drop 64 v) rest)
 
--- Words that start with those of a set show it.
-pub shows : {n : ℕ} (v : Set) (lent : List ℕ) → length v ≡ n → Marks n v lent (words wordCount v ++ drop wordCount lent)
-shows v lent sized = record {
-  sized = sized;
-  shown = marked-front wordCount v (drop wordCount lent);
-  beyond = λ s h b. marked-front wordCount v (drop wordCount lent) s b ∙ List·getD-eq-default v false {n = s} (omega (arith, sized));
-  are = refl;
-}
 
 -- ---- the numbers in order
 
@@ -180,8 +168,8 @@ first-both ((n, false) ∷ xs) ys t = first-both xs ys (and-right (ltb 0 n) _ t)
 
 module _ (R : Route) (b : List ℕ) (l : Lent) (limit : ℕ) where
   -- 1 to 10 are asked first, then 13 and 14
-  pub first-number : refusalOf R b l limit ≡ firstOf (conditions b ++ lastTwo R b l limit)
-  unfolding caseRefusal modelConditions formulaConditions all
+  pub first-number : refusalOf R b l limit ≡ firstOf (conditionsOf R b l limit)
+  unfolding caseRefusal modelConditions formulaConditions all conditionsOf
   first-number = by-cases (ℕ-discrete (caseRefusal b) 0)
       (λ z. last-number R b l limit z ∙ sym (together ∙ ap (λ (k : ℕ). byRefusal k (firstOf (lastTwo R b l limit)) k) z))
       (λ d. case-number R b l limit d ∙ sym (together ∙ refusing (caseRefusal b) _ (caseRefusal b) d))
@@ -193,7 +181,7 @@ module _ (R : Route) (b : List ℕ) (l : Lent) (limit : ℕ) where
   pub in-table : (refusalOf R b l limit ≤ 14) × ¬ (refusalOf R b l limit ≡ 11) × ¬ (refusalOf R b l limit ≡ 12)
   unfolding firstOf
   in-table = by-cases (ℕ-discrete (caseRefusal b) 0)
-      (λ z. rw (last-number R b l limit z) (go (short R b l) (ltb limit (runOf R (caseOf b) .1))))
+      (λ z. rw (last-number R b l limit z) (go (tooShort R b l) (ltb limit (runOf R (caseOf b) .1))))
       (λ d. rw (case-number R b l limit d) (let h = refusal-low b in (omega arith, λ e. omega arith, λ e. omega arith)))
     where
       go : (x y : Bool) → let k : ℕ = firstOf ((13, x) ∷ (14, y) ∷ []) in (k ≤ 14) × ¬ (k ≡ 11) × ¬ (k ≡ 12)

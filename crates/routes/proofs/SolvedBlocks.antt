@@ -1,27 +1,14 @@
--- Solving blocks: the set of the first block, and how the later ones are solved at last. Loops whose turns give the same sets stop at the same set.
+-- Solving blocks: the set of the first block, and how the later ones are solved at last.
 use mathlib.Core.Path.{_≡_, refl, sym, ap, _∙_}
-use mathlib.Core.Bool.{Bool, true, false}
 use mathlib.Core.List.{List, [], _∷_, _++_}
-use Prim.Native.Nat.{ℕ, zero, suc, _+_, _<_}
+use Prim.Native.Nat.{ℕ, suc, _+_, _<_}
 use native.Mathlib.Omega.{arith}
 use lib.ListN.{length}
-use Rattle.sets.specs.Set.{Set, same}
-use Rattle.sets.specs.Loop.{Worked, iterate}
+use Rattle.sets.specs.Set.{Set}
 use Rattle.solver.specs.Cells.{Cell, Ordered, Valuation, bind}
 use Rattle.solver.specs.File.{Block, Inside}
 use Rattle.solver.specs.Rounds.{Reached, solved}
 use Rattle.solver.proofs.Solving.{Sized, bind-same, bind-other, bind-sized, inside-rest, looped, solved-cons, solved-sized, solved-below}
-
--- Loops whose turns give the same sets, whatever the rounds, stop at the same set.
-pub iterate-same : (n : ℕ) (f g : Set → Worked) → ((v : Set) → length v ≡ n → length (g v .0) ≡ n) → ((v : Set) → length v ≡ n → f v .0 ≡ g v .0)
-    → (m : ℕ) (v : Set) → length v ≡ n → iterate m f v .0 ≡ iterate m g v .0
-unfolding iterate
-iterate-same n f g keeps h zero v o = refl
-iterate-same n f g keeps h (suc m) v o = go (same (g v .0) v) refl (iterate-same n f g keeps h m (g v .0) (keeps v o))
-  where
-    go : (b : Bool) → same (g v .0) v ≡ b → iterate m f (g v .0) .0 ≡ iterate m g (g v .0) .0 → iterate (suc m) f v .0 ≡ iterate (suc m) g v .0
-    go true e q = rw (h v o, e, iterate)
-    go false e q = rw (h v o, e, iterate, h v o) q
 
 -- The first block's set is the one at which its loop stops.
 pub first-set : (n : ℕ) (cs : List Cell) (b : Block) (bs : List Block) (k : ℕ) (ρ : Valuation)

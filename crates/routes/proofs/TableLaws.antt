@@ -9,7 +9,7 @@ use native.Mathlib.Numerals.{add-one}
 use native.Mathlib.Omega.{arith}
 use lib.Dec.{T, ltb→lt}
 use lib.ListN.{length, getD, set, take, length-set}
-use lib.Seq.{getD-set-same, getD-set-other}
+use lib.Seq.{getD-set-same, getD-set-other, take-length}
 use Rattle.cases.specs.Limits.{nodeLimit}
 use Rattle.cases.specs.Action.{Action}
 use Rattle.cases.specs.declared.Node.{Node}
@@ -89,12 +89,18 @@ binders-next [] i h = absurd (omega arith)
 binders-next (x ∷ t) zero h = omega arith
 binders-next (x ∷ t) (suc i) h = omega (arith, binders-next t i (omega arith))
 
--- A binder's block is below the number of all binders.
-pub binders-before : (t : List Node) (i : ℕ) → i < length t → isBinder (nodeAt t i) ≡ true → binderCount (take i t) < binderCount t
+-- Before a later node there are more binders than before a binder,
+pub more-binders : (t : List Node) (i j : ℕ) → i < j → j ≤ length t → isBinder (nodeAt t i) ≡ true
+    → binderCount (take i t) < binderCount (take j t)
 unfolding binderCount
-binders-before [] i h e = absurd (omega arith)
-binders-before (x ∷ t) zero h e = rw e (omega arith)
-binders-before (x ∷ t) (suc i) h e = omega (arith, binders-before t i (omega arith) e)
+more-binders [] i j l h e = absurd (omega arith)
+more-binders (x ∷ t) i zero l h e = absurd (omega arith)
+more-binders (x ∷ t) zero (suc j) l h e = rw e (omega arith)
+more-binders (x ∷ t) (suc i) (suc j) l h e = omega (arith, more-binders t i j (omega arith) (omega arith) e)
+
+-- so a binder's block is below the number of all binders.
+pub binders-before : (t : List Node) (i : ℕ) → i < length t → isBinder (nodeAt t i) ≡ true → binderCount (take i t) < binderCount t
+binders-before t i h e = rw (take-length t) at (more-binders t i (length t) h (omega arith) e)
 
 -- What the loop keeps: the binders before i are counted, and those before each earlier node are stored.
 pub record Counted (t : List Node) (xs : List ℕ) (count i : ℕ) : Type 0 where

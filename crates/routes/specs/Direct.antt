@@ -1,6 +1,6 @@
 -- Direct: a formula's set worked out on sets of states, and how many rounds that takes.
 use mathlib.Core.Path.{_≡_}
-use mathlib.Core.Bool.{Bool, true, false, _&&_, _||_}
+use mathlib.Core.Bool.{true, false, _&&_, _||_}
 use Prim.Native.Nat.{ℕ, suc, _+_}
 use mathlib.Core.List.{List}
 use lib.ListN.{replicate}

@@ -1,6 +1,6 @@
 -- Worked values: what both routes answer for cases. P1 to P8 are those of the scope.
 use mathlib.Core.Path.{_≡_, refl}
-use mathlib.Core.List.{List, [], _∷_, _++_, map, flatMap}
+use mathlib.Core.List.{List, [], _∷_, _++_, map}
 use Prim.Native.Nat.{ℕ, zero, suc}
 use Rattle.sets.specs.Size.{wordCount}
 use Rattle.sets.specs.Lists.{range, all, any}

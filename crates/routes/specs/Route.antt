@@ -1,8 +1,8 @@
 -- The two routes: what each works out, its own rounds, what it answers, and what it leaves in lent memory.
 use mathlib.Core.Path.{_≡_}
-use mathlib.Core.Bool.{Bool, true, false, cond}
+use mathlib.Core.Bool.{Bool, cond, _||_}
 use mathlib.Core.List.{List, [], _∷_, _++_}
-use Prim.Native.Nat.{ℕ, zero, suc, _≤_}
+use Prim.Native.Nat.{ℕ, _≤_}
 use lib.Dec.{eqb, ltb}
 use lib.ListN.{length, drop}
 use Rattle.sets.specs.Size.{wordCount}
@@ -13,8 +13,9 @@ use Rattle.solver.specs.Cells.{none}
 use Rattle.solver.specs.File.{cellCount}
 use Rattle.solver.specs.Outcome.{Outcome, refused, byRefusal, firstOf, run, solveRefusal, solveWork, Scratch}
 use Rattle.solver.specs.Outcome as Solver
+use Rattle.cases.specs.File.{actionCount, formulaTable}
 use Rattle.cases.specs.Case.{Case, caseOf}
-use Rattle.cases.specs.Conditions.{caseRefusal}
+use Rattle.cases.specs.Conditions.{modelConditions, formulaConditions, caseRefusal}
 use Rattle.translate.specs.Bytes.{fileOf}
 use Rattle.translate.specs.Translating.{file, refusalIn}
 use Rattle.routes.specs.declared.Cause.{Cause}
@@ -97,10 +98,22 @@ fileAfter b buffer = cond (eqb (refusalIn b (length buffer)) 0) (file b ++ drop 
 unfoldable pub workAfter : List ℕ → ℕ → List ℕ → ℕ → ℕ → List ℕ
 workAfter b room work marks limit = byRefusal (refusalIn b room) (solveWork (file b) work marks limit) work
 
+-- ---- the conditions in order
+
+-- 13: the lent memory is too short. It looks at the marks in both routes, and in the equation route also at the file buffer, which needs
+-- the file's length, and at the working bytes.
+unfoldable pub tooShort : Route → List ℕ → Lent → Bool
+tooShort direct b l = ltb (l .marks) wordCount
+tooShort equation b l = ltb (l .file) (length (file b)) || Solver.tooShort (file b) (l .work) (l .marks)
+
+-- 1 to 10 are of the case, 14 says that the rounds exceed the limit; a route asks neither 11 nor 12
+unfoldable pub conditionsOf : Route → List ℕ → Lent → ℕ → List (ℕ × Bool)
+conditionsOf R b l limit =
+    (modelConditions b ++ formulaConditions (actionCount b) (formulaTable b)) ++ ((13, tooShort R b l) ∷ (14, ltb limit (runOf R (caseOf b) .1)) ∷ [])
+
 -- ---- the paper's own terms
 
--- Lent memory is enough for a route if 13 does not hold: it looks at the marks in both routes, and in the equation route also at the file
--- buffer, which needs the file's length, and at the working bytes.
+-- Lent memory is enough for a route if 13 does not hold.
 unfoldable pub Enough : Route → List ℕ → Lent → Type 0
 Enough direct b l = wordCount ≤ l .marks
 Enough equation b l = (length (file b) ≤ l .file) × (cellCount (file b) ≤ l .work) × (wordCount ≤ l .marks)

@@ -9,7 +9,7 @@ use cases::node_at;
 use sets::WORDS;
 use solver::BLOCKS;
 ghost use mathlib.Core.Path.{_≡_};
-ghost use Prim.Native.Nat.{ℕ, _<_, _≤_};
+ghost use Prim.Native.Nat.{_<_};
 ghost use Rattle.solver.specs.Cells.{none};
 ghost use Rattle.cases.specs.Prefix.{actionAt, formulaAt};
 ghost use Rattle.cases.specs.Case.{caseOf};

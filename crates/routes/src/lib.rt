@@ -11,7 +11,6 @@ use translate::Written;
 ghost use mathlib.Core.Path.{_≡_};
 ghost use Prim.Native.Nat.{_<_, _≤_};
 ghost use Rattle.solver.specs.Outcome.{refused as Outcome·refused, number as Solver·number};
-ghost use Rattle.cases.specs.File.{headerOf};
 ghost use Rattle.cases.specs.Case.{caseOf};
 ghost use Rattle.cases.specs.Conditions.{Accepted};
 ghost use Rattle.translate.specs.Translating.{file as Translating·file, number as Translating·number};

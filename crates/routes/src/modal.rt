@@ -4,7 +4,7 @@ use cases::transition_at;
 use sets::WORDS;
 ghost use mathlib.Core.Path.{_≡_};
 ghost use mathlib.Core.Bool.{true, cond, _&&_, Bool·beq};
-ghost use Prim.Native.Nat.{ℕ, _<_, _≤_};
+ghost use Prim.Native.Nat.{_<_, _≤_};
 ghost use lib.Dec.{eqb};
 ghost use lib.ListN.{length, set as ListN·set};
 ghost use Rattle.sets.specs.Size.{wordCount, stateLimit};

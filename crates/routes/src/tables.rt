@@ -5,7 +5,7 @@ use cases::is_binder;
 use cases::node_at;
 ghost use mathlib.Core.Path.{_≡_};
 ghost use mathlib.Core.Bool.{cond};
-ghost use Prim.Native.Nat.{ℕ, _+_, _<_, _≤_};
+ghost use Prim.Native.Nat.{_+_, _<_, _≤_};
 ghost use lib.ListN.{length};
 ghost use Rattle.cases.specs.Limits.{nodeLimit};
 ghost use Rattle.cases.specs.Prefix.{actionAt};

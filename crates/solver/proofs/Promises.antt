@@ -102,30 +102,25 @@ pub record Marks (n : ℕ) (v : Set) (lent after : List ℕ) : Type 0 where
   pub beyond : (s : ℕ) → n ≤ s → s < stateLimit → marked after s ≡ false
   pub are : after ≡ words wordCount v ++ drop wordCount lent
 
--- The marks are the standard solution: those of the first block's set, whatever the start.
-pub standard : (e : List ℕ) (work : ℕ) (marks : List ℕ) (limit : ℕ) → GivesMarks e work (length marks) limit
-    → (ρ σ : Valuation) → Start e ρ → Solutions e ρ σ → Marks (stateCount e) (σ 0) marks (solveMarks e work marks limit)
-standard e work marks limit g ρ σ start s = record {
+-- Words that start with those of a set show it.
+pub shows : {n : ℕ} (v : Set) (lent after : List ℕ) → after ≡ words wordCount v ++ drop wordCount lent → length v ≡ n → Marks n v lent after
+shows v lent after are sized = record {
   sized = sized;
   shown = shown;
-  beyond = λ t h b. shown t b ∙ List·getD-eq-default (σ 0) false {n = t} (omega (arith, sized));
+  beyond = λ s h b. shown s b ∙ List·getD-eq-default v false {n = s} (omega (arith, sized));
   are = are;
 }
   where
-    w : WellFormed e
-    w = gives-formed e work (length marks) limit g
+    shown : (s : ℕ) → s < stateLimit → marked after s ≡ has v s
+    shown s h = rw are (marked-front wordCount v (drop wordCount lent) s h)
 
-    first : σ 0 ≡ run e .0 0
-    first = own-first w ρ σ start s
-
-    sized : length (σ 0) ≡ stateCount e
-    sized = ap length first ∙ own-sized w 0
-
-    are : solveMarks e work marks limit ≡ words wordCount (σ 0) ++ drop wordCount marks
-    are = rw first (marks-written e work marks limit g)
-
-    shown : (t : ℕ) → t < stateLimit → marked (solveMarks e work marks limit) t ≡ has (σ 0) t
-    shown t h = rw are (marked-front wordCount (σ 0) (drop wordCount marks) t h)
+-- The marks are the standard solution: those of the first block's set, whatever the start.
+pub standard : (e : List ℕ) (work : ℕ) (marks : List ℕ) (limit : ℕ) → GivesMarks e work (length marks) limit
+    → (ρ σ : Valuation) → Start e ρ → Solutions e ρ σ → Marks (stateCount e) (σ 0) marks (solveMarks e work marks limit)
+standard e work marks limit g ρ σ start s =
+    let w = gives-formed e work (length marks) limit g in
+    let first : σ 0 ≡ run e .0 0 = own-first w ρ σ start s in
+    shows (σ 0) marks (solveMarks e work marks limit) (rw first (marks-written e work marks limit g)) (ap length first ∙ own-sized w 0)
 
 -- The working bytes are the values of the cells under that solution.
 pub working-bytes : (e work : List ℕ) (marks limit : ℕ) → GivesMarks e (length work) marks limit

@@ -155,7 +155,6 @@ unfolding words
 take-words zero v rest = refl
 take-words (suc k) v rest = ap (λ (ws : List ℕ). number (take 64 v) ∷ ws) (take-words k (drop 64 v) rest)
 
-
 -- ---- the numbers in order
 
 -- the first condition of two lists together is the first list's, if one of that holds

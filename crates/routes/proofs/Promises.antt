@@ -23,7 +23,7 @@ use Rattle.cases.proofs.MeaningLaws.{means-sized}
 use Rattle.translate.specs.Translating.{file, refusalIn}
 use Rattle.translate.proofs.Promises.{written-when}
 use Rattle.routes.specs.Route.{Route, Lent, OwnRounds, runOf, refusalOf, routeReport, outcomeOf, marksAfter, fileAfter, workAfter, conditionsOf, Enough, GivesMarks, Spent}
-use Rattle.routes.proofs.RouteLaws.{number-is, given, reported, written, refuses, kept, spent-number, gives-number, spent-over, take-words, first-number, in-table, unwritten-when}
+use Rattle.routes.proofs.RouteLaws.{number-is, given, reported, written, refuses, kept, spent-number, gives-number, spent-over, take-words, first-number, in-table, unwritten-when, refusing}
 use Rattle.routes.proofs.Outcomes.{meaning-of, one-meaning, own-exists, own-one, runs-alike, run-means, run-bound}
 
 -- v is what the case's formula means, where ρ gives sets of n states to variables. None of them is free in an accepted case.
@@ -137,3 +137,8 @@ pub work-solved : (b : List ℕ) (room : ℕ) (work : List ℕ) (marks limit : �
     → workAfter b room work marks limit ≡ solveWork (file b) work marks limit
 unfolding workAfter
 work-solved b room work marks limit ok h = rw (written-when b room ok h)
+
+pub work-kept : (b : List ℕ) (room : ℕ) (work : List ℕ) (marks limit : ℕ) → ¬ (Accepted b × (length (file b) ≤ room))
+    → workAfter b room work marks limit ≡ work
+unfolding workAfter
+work-kept b room work marks limit h = refusing (refusalIn b room) _ work (unwritten-when b room h)

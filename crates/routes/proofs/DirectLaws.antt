@@ -68,8 +68,8 @@ module _ (n : ℕ) (ts : List Transition) where
   unfolding Direct
   direct-one False ρ = one-equal _
   direct-one True ρ = one-equal _
-  direct-one (And a b) ρ = one-join (meet n ts) (direct-one a ρ) (direct-one b ρ)
-  direct-one (Or a b) ρ = one-join (join n ts) (direct-one a ρ) (direct-one b ρ)
+  direct-one (And a b) ρ = one-join (meet n) (direct-one a ρ) (direct-one b ρ)
+  direct-one (Or a b) ρ = one-join (join n) (direct-one a ρ) (direct-one b ρ)
   direct-one (Box α a) ρ = one-from (λ x. setOf n (boxIn n ts α x)) (direct-one a ρ)
   direct-one (Diamond α a) ρ = one-from (λ x. setOf n (diamondIn n ts α x)) (direct-one a ρ)
   direct-one (Variable i) ρ = one-equal (ρ i)
@@ -82,8 +82,8 @@ module _ (n : ℕ) (ts : List Transition) where
   unfolding worked meaning
   worked-meaning False ρ = refl
   worked-meaning True ρ = refl
-  worked-meaning (And a b) ρ = ap₂ (meet n ts) (worked-meaning a ρ) (worked-meaning b ρ)
-  worked-meaning (Or a b) ρ = ap₂ (join n ts) (worked-meaning a ρ) (worked-meaning b ρ)
+  worked-meaning (And a b) ρ = ap₂ (meet n) (worked-meaning a ρ) (worked-meaning b ρ)
+  worked-meaning (Or a b) ρ = ap₂ (join n) (worked-meaning a ρ) (worked-meaning b ρ)
   worked-meaning (Box α a) ρ = ap (λ (x : Set). setOf n (boxIn n ts α x)) (worked-meaning a ρ)
   worked-meaning (Diamond α a) ρ = ap (λ (x : Set). setOf n (diamondIn n ts α x)) (worked-meaning a ρ)
   worked-meaning (Variable i) ρ = refl
@@ -134,8 +134,8 @@ module _ (n : ℕ) (ts : List Transition) where
   unfolding Direct worked
   direct-exists False ρ z = (refl, refl)
   direct-exists True ρ z = (refl, refl)
-  direct-exists (And a b) ρ z = both (meet n ts) (worked n ts a ρ) (worked n ts b ρ) (direct-exists a ρ z) (direct-exists b ρ z)
-  direct-exists (Or a b) ρ z = both (join n ts) (worked n ts a ρ) (worked n ts b ρ) (direct-exists a ρ z) (direct-exists b ρ z)
+  direct-exists (And a b) ρ z = both (meet n) (worked n ts a ρ) (worked n ts b ρ) (direct-exists a ρ z) (direct-exists b ρ z)
+  direct-exists (Or a b) ρ z = both (join n) (worked n ts a ρ) (worked n ts b ρ) (direct-exists a ρ z) (direct-exists b ρ z)
   direct-exists (Box α a) ρ z = record { operand = _; first = direct-exists a ρ z; set = refl }
   direct-exists (Diamond α a) ρ z = record { operand = _; first = direct-exists a ρ z; set = refl }
   direct-exists (Variable i) ρ z = (refl, refl)

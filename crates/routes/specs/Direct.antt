@@ -28,21 +28,21 @@ pub record FromOne (one : Set → ℕ → Type 0) (op : Set → Set) (v : Set) (
   pub first : one operand r
   pub set : v ≡ op operand
 
+-- intersection and union of sets of n states
+abbrev pub meet : ℕ → Set → Set → Set
+meet n x y = setOf n (λ s. has x s && has y s)
+
+abbrev pub join : ℕ → Set → Set → Set
+join n x y = setOf n (λ s. has x s || has y s)
+
 module _ (n : ℕ) (ts : List Transition) where
-  -- the sets of a node from those of its operands
-  abbrev pub meet : Set → Set → Set
-  meet x y = setOf n (λ s. has x s && has y s)
-
-  abbrev pub join : Set → Set → Set
-  join x y = setOf n (λ s. has x s || has y s)
-
   -- Direct a ρ v r: where ρ gives each binder its set, the rules work out v for the formula a, in r rounds, as if there were no limit.
   -- A binder starts empty (mu) or full (nu) and runs the loop over its body.
   unfoldable pub Direct : Formula → Valuation → Set → ℕ → Type 0
   Direct False ρ v r = (v ≡ replicate n false) × (r ≡ 0)
   Direct True ρ v r = (v ≡ replicate n true) × (r ≡ 0)
-  Direct (And a b) ρ v r = FromTwo (Direct a ρ) (Direct b ρ) meet v r
-  Direct (Or a b) ρ v r = FromTwo (Direct a ρ) (Direct b ρ) join v r
+  Direct (And a b) ρ v r = FromTwo (Direct a ρ) (Direct b ρ) (meet n) v r
+  Direct (Or a b) ρ v r = FromTwo (Direct a ρ) (Direct b ρ) (join n) v r
   Direct (Box α a) ρ v r = FromOne (Direct a ρ) (λ x. setOf n (boxIn n ts α x)) v r
   Direct (Diamond α a) ρ v r = FromOne (Direct a ρ) (λ x. setOf n (diamondIn n ts α x)) v r
   Direct (Variable i) ρ v r = (v ≡ ρ i) × (r ≡ 0)
@@ -52,8 +52,8 @@ module _ (n : ℕ) (ts : List Transition) where
   unfoldable pub worked : Formula → Valuation → Worked
   worked False ρ = (replicate n false, 0)
   worked True ρ = (replicate n true, 0)
-  worked (And a b) ρ = let x : Worked = worked a ρ in let y : Worked = worked b ρ in (meet (x .0) (y .0), x .1 + y .1)
-  worked (Or a b) ρ = let x : Worked = worked a ρ in let y : Worked = worked b ρ in (join (x .0) (y .0), x .1 + y .1)
+  worked (And a b) ρ = let x : Worked = worked a ρ in let y : Worked = worked b ρ in (meet n (x .0) (y .0), x .1 + y .1)
+  worked (Or a b) ρ = let x : Worked = worked a ρ in let y : Worked = worked b ρ in (join n (x .0) (y .0), x .1 + y .1)
   worked (Box α a) ρ = let x : Worked = worked a ρ in (setOf n (boxIn n ts α (x .0)), x .1)
   worked (Diamond α a) ρ = let x : Worked = worked a ρ in (setOf n (diamondIn n ts α (x .0)), x .1)
   worked (Variable i) ρ = (ρ i, 0)

@@ -125,9 +125,3 @@ pub all-map : {A B : Type 0} (p : B → Bool) (f : A → B) (xs : List A) → al
 unfolding all
 all-map p f [] = refl
 all-map p f (x ∷ xs) = ap (λ (b : Bool). p (f x) && b) (all-map p f xs)
-
--- what a mapped list has left
-pub drop-map : {A B : Type 0} (f : A → B) (i : ℕ) (xs : List A) → drop i (map f xs) ≡ map f (drop i xs)
-drop-map f zero xs = refl
-drop-map f (suc i) [] = refl
-drop-map f (suc i) (x ∷ xs) = drop-map f i xs

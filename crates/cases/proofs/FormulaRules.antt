@@ -57,7 +57,7 @@ module _ (table : List Node) (i : ℕ) (x : Node) (is : nodeAt table i ≡ x) wh
     end-decides t h end e = rw is (simp (eq-eqb (x .kind) 6 variable, t, lt-ltb (x .arg) i h, e))
 
 -- how many nodes there are
-length-nodes : (part : List ℕ) (f : ℕ) → length (nodesIn part f) ≡ f
+pub length-nodes : (part : List ℕ) (f : ℕ) → length (nodesIn part f) ≡ f
 unfolding nodesIn
 length-nodes part f = length-map-range (nodeIn part) 0 f
 

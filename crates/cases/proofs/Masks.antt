@@ -3,7 +3,7 @@ use mathlib.Core.Path.{_≡_, refl, sym, ap, _∙_}
 use mathlib.Core.Bool.{Bool, false, cond, _&&_}
 use mathlib.Core.List.{List, [], _∷_, map}
 use mathlib.Core.Option.{some}
-use Prim.Native.Nat.{ℕ, zero, suc, _+_, _-_, _^_, _<_, _≤_}
+use Prim.Native.Nat.{ℕ, suc, _+_, _-_, _^_, _<_, _≤_}
 use native.Mathlib.Numerals.{add-one}
 use native.Mathlib.Omega.{arith}
 use borrow.Author.Tests.{eq-eqb, not-false}
@@ -12,7 +12,7 @@ use lib.Dec.{T, eqb, ltb, leb, ltb→lt}
 use lib.ListN.{length, getD, set, drop, length-set, length-drop, length-map, drop-of-length-le, List·getD-map}
 use lib.Seq.{drop-cons, drop-drop, drop-length, getD-drop, getD-set-same, drop-set-lt}
 use Rattle.sets.specs.Lists.{range, all}
-use Rattle.sets.proofs.Lists.{length-range, length-table, table-at, and-left, and-right, all-at}
+use Rattle.sets.proofs.Lists.{drop-map, length-range, length-table, table-at, and-left, and-right, all-at}
 use Rattle.sets.proofs.Masks.{bitwise-and, bitwise-or, number-false, number-true, number-bitwise, number-not, number-one}
 use Rattle.cases.specs.Limits.{labelLimit, actionLimit}
 use Rattle.cases.specs.Action.{Action, accepts}
@@ -20,7 +20,7 @@ use Rattle.cases.specs.Prefix.{Node, arityIn, actionArities, wholeFormul
 use Rattle.cases.specs.File.{nodeIn, labelCount, actionTable}
 use Rattle.cases.specs.Conditions.{nodeAt, actionOk, badActions}
 use Rattle.cases.specs.Masks.{maskOf, actionOf, WholeActions}
-use Rattle.cases.proofs.Trees.{drop-map, first, made, placed, row-after}
+use Rattle.cases.proofs.Trees.{first, made, placed, row-after}
 use Rattle.cases.proofs.TableTrees.{held, action-table, each-action-kind, actionOperator, placing-actions}
 
 -- ---- the mask of a formula by those of its operands

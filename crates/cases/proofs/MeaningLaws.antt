@@ -12,7 +12,7 @@ use lib.ListN.{length, getD, take, replicate, length-replicate}
 use Rattle.sets.specs.Lists.{range, all, any}
 use Rattle.sets.specs.Set.{Set, has, Subset, same, start, Extremal}
 use Rattle.sets.specs.Loop.{Worked, iterate}
-use Rattle.sets.proofs.Lists.{length-map-range, getD-map-range, and-left, and-right, and-both, Implies, kept-implies}
+use Rattle.sets.proofs.Lists.{length-map-range, getD-map-range, and-left, and-right, and-both, or-left, or-right, Implies, kept-implies}
 use Rattle.sets.proofs.Order.{before-eq, subset-antisym, extremal-map, extremal-one}
 use Rattle.sets.proofs.FixedPoint.{extremal, fixed-mono}
 use Rattle.solver.specs.Cells.{Valuation, bind}
@@ -24,15 +24,6 @@ use Rattle.cases.specs.Case.{sameTransition, copies, transitionAt, copie
 use Rattle.cases.specs.Meaning.{setOf, from, boxIn, diamondIn, Means}
 
 -- ---- any and all
-
--- an or is true if one is
-or-left : (a b : Bool) → T a → T (a || b)
-or-left true b t = tt
-or-left false b t = absurd t
-
-or-right : (a b : Bool) → T b → T (a || b)
-or-right true b t = tt
-or-right false b t = t
 
 -- the contrary of an implication
 contrary : (a b : Bool) → Implies a b → Implies (not b) (not a)

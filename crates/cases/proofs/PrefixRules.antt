@@ -8,11 +8,11 @@ use native.Mathlib.Omega.{arith}
 use lib.Dec.{eqb}
 use lib.ListN.{getD, drop}
 use Rattle.sets.specs.Lists.{range, all}
-use Rattle.sets.proofs.Lists.{getD-map-range}
+use Rattle.sets.proofs.Lists.{getD-map-range, drop-map}
 use Rattle.cases.specs.Prefix.{Node, arityIn, actionArities, formulaArities, wholeFormulas, exactly, span}
 use Rattle.cases.specs.File.{nodeIn}
 use Rattle.cases.specs.Checks.{nodesIn}
-use Rattle.cases.proofs.Checking.{range-done, range-next, all-map, drop-map}
+use Rattle.cases.proofs.Checking.{range-done, range-next, all-map}
 
 -- ---- arities
 
@@ -98,7 +98,7 @@ aritiesFrom kinds part k i = map (arityIn kinds) (nodesFrom part k i)
 -- those from a node on
 pub from-node : (kinds part : List ℕ) (k i : ℕ) → drop i (map (arityIn kinds) (nodesIn part k)) ≡ aritiesFrom kinds part k i
 unfolding nodesIn
-from-node kinds part k i = drop-map (arityIn kinds) i (map (nodeIn part) (range 0 k)) ∙ ap (map (arityIn kinds)) (drop-map (nodeIn part) i (range 0 k))
+from-node kinds part k i = drop-map (arityIn kinds) (map (nodeIn part) (range 0 k)) i ∙ ap (map (arityIn kinds)) (drop-map (nodeIn part) (range 0 k) i)
 
 module _ (kinds part : List ℕ) (k i : ℕ) where
   -- no node is left

@@ -10,7 +10,7 @@ use borrow.Author.Tests.{not-false, eq-eqb}
 use lib.Dec.{T, eqb, ltb, ltb→lt, eqb-refl}
 use lib.ListN.{length, getD, length-map}
 use Rattle.sets.specs.Lists.{range, all, any}
-use Rattle.sets.proofs.Lists.{and-left, and-right, and-both, all-at, length-range}
+use Rattle.sets.proofs.Lists.{and-left, and-right, and-both, or-left, or-right, all-at, length-range}
 use Rattle.cases.specs.Action.{Action}
 use Rattle.cases.specs.Formula.{Formula}
 use Rattle.cases.specs.Prefix.{Node, arityIn, formulaArities, endOf, formulaAt}
@@ -93,15 +93,6 @@ scoped-made action i arg around f g =
 binder-arity : (k : ℕ) → k ≤ 8 → (eqb k 7 || eqb k 8) ≡ true → getD formulaArities k 0 ≡ 1
 binder-arity = each-kind (λ k. (eqb k 7 || eqb k 8) ≡ true → getD formulaArities k 0 ≡ 1)
     (λ e. cc) (λ e. cc) (λ e. cc) (λ e. cc) (λ e. refl) (λ e. refl) (λ e. cc) (λ e. refl) (λ e. refl)
-
--- the first of two truth values, or the second
-or-left : (a b : Bool) → T a → T (a || b)
-or-left true b h = tt
-or-left false b h = absurd h
-
-or-right : (a b : Bool) → T b → T (a || b)
-or-right true b h = tt
-or-right false b h = h
 
 -- a binder around stays around
 inner-keeps : (b : Bool) (i j : ℕ) (around : List ℕ) → T (any (eqb j) around) → T (any (eqb j) (cond b (i ∷ around) around))

@@ -10,21 +10,10 @@ use native.Mathlib.Omega.{arith}
 use borrow.Author.Tests.{eqb-true}
 use lib.ListN.{length, getD, drop, length-drop, length-map}
 use lib.Seq.{drop-cons, drop-drop, drop-nil, getD-drop}
+use Rattle.sets.proofs.Lists.{getD-map, drop-map}
 use Rattle.cases.specs.Prefix.{Node, arityIn, wholeFormulas, exactly, span, endOf, leaf, one, two, onto, top, trees}
 use Rattle.cases.specs.Conditions.{nodeAt}
 use Rattle.cases.proofs.Spans.{operands-due}
-
--- what is left of a mapped list
-pub drop-map : {A B : Type 0} (f : A → B) (xs : List A) (i : ℕ) → drop i (map f xs) ≡ map f (drop i xs)
-drop-map f xs zero = refl
-drop-map f [] (suc i) = refl
-drop-map f (x ∷ xs) (suc i) = drop-map f xs i
-
--- an element of a mapped list
-getD-map : {A B : Type 0} (f : A → B) (xs : List A) (i : ℕ) (a : A) (b : B) → i < length xs → getD (map f xs) i b ≡ f (getD xs i a)
-getD-map f [] i a b h = absurd (omega arith)
-getD-map f (x ∷ xs) zero a b h = refl
-getD-map f (x ∷ xs) (suc i) a b h = getD-map f xs i a b (omega arith)
 
 -- the arity of node i
 pub arity-at : (arities : List ℕ) (t : List Node) (i : ℕ) → i < length t → getD (map (arityIn arities) t) i 0 ≡ arityIn arities (nodeAt t i)

@@ -11,7 +11,7 @@ use lib.ListN.{length, getD, length-append, length-replicate, List·getD-append}
 use lib.Seq.{getD-append-add}
 use Rattle.sets.specs.Lists.{all}
 use Rattle.sets.specs.Set.{Set, has, start}
-use Rattle.sets.proofs.Lists.{and-both}
+use Rattle.sets.proofs.Lists.{and-both, or-left, or-right}
 use Rattle.solver.specs.Cells.{Cell, Ordered, Valuation, bind}
 use Rattle.solver.specs.File.{Block, Inside}
 use Rattle.solver.specs.Rounds.{solved}
@@ -22,7 +22,7 @@ use Rattle.cases.specs.Meaning.{setOf, boxIn, diamondIn}
 use Rattle.cases.proofs.MeaningLaws.{meaning, bodyOf, free, meaning-sized, means-scope}
 use Rattle.translate.specs.Whole.{binderNodes}
 use Rattle.translate.specs.Cells.{cellsFrom, blocksFrom}
-use Rattle.translate.proofs.AllLaws.{all-second, or-left, or-right}
+use Rattle.translate.proofs.AllLaws.{all-second}
 use Rattle.translate.proofs.Counts.{length-blocks}
 use Rattle.translate.proofs.Unfold.{Stands, and-operands, or-operands, box-operand, diamond-operand, fix-operand, cells-ordered}
 use Rattle.routes.proofs.Shallow.{shallow, node-set}

@@ -19,7 +19,7 @@ use Rattle.solver.specs.declared.Report as Solver·Report
 use Rattle.solver.specs.declared.Cause as Solver·Cause
 use Rattle.solver.specs.declared.Cause.the-variants.{Layout, Table, Memory, Spent}
 use Rattle.solver.specs.declared.Answer.the-variants.{Solved, Refused as Refused′}
-use Rattle.solver.proofs.Refusals.{number-is, reported}
+use Rattle.solver.proofs.Refusals.{refusing, number-is, reported}
 use Rattle.solver.proofs.Starts.{own-sized}
 use Rattle.cases.specs.Case.{caseOf}
 use Rattle.cases.specs.Conditions.{caseRefusal, Accepted}
@@ -33,7 +33,7 @@ use Rattle.routes.specs.declared.Answer.{Answer}
 use Rattle.routes.specs.declared.Answer.the-variants.{Solved as Solved′, Refused as Refused″}
 use Rattle.routes.specs.declared.Cause.{Cause}
 use Rattle.routes.specs.declared.Report.{Report}
-use Rattle.routes.proofs.RouteLaws.{refusing, refuses, kept, take-words}
+use Rattle.routes.proofs.RouteLaws.{refuses, kept, take-words}
 
 -- ---- translate's answer
 

@@ -24,7 +24,7 @@ use Rattle.cases.proofs.Spans.{exactly-whole, first-node}
 use Rattle.cases.proofs.Trees.{made, arity-at}
 use Rattle.cases.proofs.TableTrees.{formulaOperator, FormulaTable, formula-table, formula-at}
 use Rattle.cases.proofs.Scopes.{variable-bound}
-use Rattle.translate.proofs.ShapeFields.{length-nodes}
+use Rattle.cases.proofs.FormulaRules.{length-nodes}
 use Rattle.routes.specs.Direct.{Direct}
 use Rattle.routes.specs.Evaluating.{Asks, KindAt}
 use Rattle.routes.proofs.TableLaws.{more-binders, binders-before}

@@ -15,6 +15,7 @@ use Rattle.solver.specs.File.{blockCount}
 use Rattle.solver.specs.Rounds.{powers}
 use Rattle.solver.specs.Outcome.{refused, firstOf, solveWork}
 use Rattle.solver.proofs.Promises.{Marks, shows}
+use Rattle.solver.proofs.Refusals.{refusing}
 use Rattle.solver.proofs.Solving.{Sized}
 use Rattle.cases.specs.Case.{Case, caseOf}
 use Rattle.cases.specs.Conditions.{Accepted}
@@ -23,7 +24,7 @@ use Rattle.cases.proofs.MeaningLaws.{means-sized}
 use Rattle.translate.specs.Translating.{file, refusalIn}
 use Rattle.translate.proofs.Promises.{written-when}
 use Rattle.routes.specs.Route.{Route, Lent, OwnRounds, runOf, refusalOf, routeReport, outcomeOf, marksAfter, fileAfter, workAfter, conditionsOf, Enough, GivesMarks, Spent}
-use Rattle.routes.proofs.RouteLaws.{number-is, given, reported, written, refuses, kept, spent-number, gives-number, spent-over, take-words, first-number, in-table, unwritten-when, refusing}
+use Rattle.routes.proofs.RouteLaws.{number-is, given, reported, written, refuses, kept, spent-number, gives-number, spent-over, take-words, first-number, in-table, unwritten-when}
 use Rattle.routes.proofs.Outcomes.{meaning-of, one-meaning, own-exists, own-one, runs-alike, run-means, run-bound}
 
 -- v is what the case's formula means, where ρ gives sets of n states to variables. None of them is free in an accepted case.

@@ -27,7 +27,7 @@ use Rattle.cases.proofs.TableTrees.{formula-table, root}
 use Rattle.cases.proofs.Masks.{whole-actions}
 use Rattle.cases.proofs.ModelRules.{transitions-inside, actions-inside, nodes-inside}
 use Rattle.translate.proofs.AcceptedCases.{model-holds}
-use Rattle.translate.proofs.ShapeFields.{length-nodes}
+use Rattle.cases.proofs.FormulaRules.{length-nodes}
 use Rattle.translate.proofs.CaseParts.{from}
 use Rattle.routes.specs.declared.Value.{Value}
 use Rattle.routes.specs.Direct.{worked}

@@ -18,18 +18,13 @@ use Rattle.solver.specs.File.{cellCount}
 use Rattle.solver.specs.Outcome as Solver
 use Rattle.solver.specs.Outcome.{refused, byRefusal, firstOf, exceeds, solveRefusal}
 use Rattle.solver.proofs.Promises.{formed-accepted}
-use Rattle.solver.proofs.Refusals.{enough}
+use Rattle.solver.proofs.Refusals.{refusing, enough}
 use Rattle.cases.specs.Case.{caseOf}
 use Rattle.cases.specs.Conditions.{modelConditions, formulaConditions, caseRefusal, Accepted}
 use Rattle.cases.proofs.Accepting.{conditions, refusal-low}
 use Rattle.translate.specs.Translating.{file, refusalIn}
 use Rattle.translate.proofs.Promises.{well-formed, written-when, too-short-when, refused-when}
 use Rattle.routes.specs.Route.{Route, direct, equation, Lent, runOf, refusalOf, routeReport, outcomeOf, marksAfter, tooShort, conditionsOf, Enough}
-
--- with a refusal other than 0, what holds after a refusal
-pub refusing : {A : Type 0} (k : ℕ) (success refusal : A) → ¬ (k ≡ 0) → byRefusal k success refusal ≡ refusal
-refusing zero a b n = absurd (n refl)
-refusing (suc k) a b n = refl
 
 -- 13 and then 14 are asked of an accepted case
 abbrev lastTwo : Route → List ℕ → Lent → ℕ → List (ℕ × Bool)

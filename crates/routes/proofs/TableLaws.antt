@@ -17,7 +17,8 @@ use Rattle.cases.specs.File.{nodeIn}
 use Rattle.cases.specs.Masks.{maskOf}
 use Rattle.cases.specs.Conditions.{nodeAt, nodeOk, isBinder, binderCount}
 use Rattle.cases.specs.Checks.{nodesIn}
-use Rattle.translate.proofs.ShapeFields.{length-nodes, node-read}
+use Rattle.cases.proofs.FormulaRules.{length-nodes}
+use Rattle.translate.proofs.ShapeFields.{node-read}
 use Rattle.translate.proofs.CaseSources.{nodes-pass}
 use Rattle.routes.specs.Evaluating.{isModal, FormulaPart, Masks, Blocks}
 

@@ -62,6 +62,15 @@ table-at f k i b h = getD-map-range f 0 k i b h ∙ ap f (zero-add i)
 pub false-true : ¬ (false ≡ true)
 false-true t = let z : _≡_ {A = ℕ} 0 1 = cc in omega arith
 
+-- an or is true if one is
+pub or-left : (a b : Bool) → T a → T (a || b)
+or-left true b t = tt
+or-left false b t = absurd t
+
+pub or-right : (a b : Bool) → T b → T (a || b)
+or-right true b t = tt
+or-right false b t = t
+
 -- an and is true if and only if both are
 pub and-left : (a b : Bool) → T (a && b) → T a
 and-left true b t = tt

@@ -72,7 +72,7 @@ ranged false false false false h = absurd (h refl)
 
 -- ---- what solve answers, by its refusal number
 
-refusing : {A : Type 0} (k : ℕ) (success refusal : A) → ¬ (k ≡ 0) → byRefusal k success refusal ≡ refusal
+pub refusing : {A : Type 0} (k : ℕ) (success refusal : A) → ¬ (k ≡ 0) → byRefusal k success refusal ≡ refusal
 refusing zero a b n = absurd (n refl)
 refusing (suc k) a b n = refl
 

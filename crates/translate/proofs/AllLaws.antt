@@ -1,12 +1,12 @@
 -- More laws of all and any: lists that are appended, mapped, kept.
-use mathlib.Core.Bool.{Bool, true, false, cond, _||_}
+use mathlib.Core.Bool.{Bool, true, false, cond}
 use mathlib.Core.List.{List, [], _∷_, _++_, map}
 use Prim.Native.Nat.{ℕ, zero, suc, _+_, _≤_, _<_}
 use native.Mathlib.Omega.{arith}
 use lib.Dec.{T, eqb, ltb, lt→ltb, ltb→lt, eqb-refl}
 use lib.ListN.{length, getD}
 use Rattle.sets.specs.Lists.{range, all, any}
-use Rattle.sets.proofs.Lists.{and-left, and-right, and-both, all-at, all-from}
+use Rattle.sets.proofs.Lists.{and-left, and-right, and-both, or-left, or-right, all-at, all-from}
 use Rattle.cases.specs.declared.Transition.{Transition}
 use Rattle.cases.specs.Case.{keep, distinct, transitionAt, copiesBefore}
 
@@ -53,15 +53,6 @@ all-distinct p ts t =
     all-kept-map (λ j. ltb j (length ts)) (λ i. eqb (copiesBefore ts i) 0) (transitionAt ts) p
     (λ j h. all-at p ts j (record { source = 0; label = 0; target = 0 }) (ltb→lt j (length ts) h) t)
     (range 0 (length ts)) (range-below 0 (length ts) (length ts) (omega arith))
-
--- an or is true if one side is
-pub or-left : (a b : Bool) → T a → T (a || b)
-or-left true b t = tt
-or-left false b t = absurd t
-
-pub or-right : (a b : Bool) → T b → T (a || b)
-or-right true b t = tt
-or-right false b t = t
 
 -- each number of a list is among them
 pub among-at : (js : List ℕ) (k : ℕ) → k < length js → T (any (eqb (getD js k 0)) js)

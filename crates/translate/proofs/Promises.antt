@@ -3,17 +3,16 @@
 use mathlib.Core.Path.{_≡_, refl, sym, ap, _∙_}
 use mathlib.Core.Logic.{_⊎_, inl, inr}
 use mathlib.Core.Bool.{Bool, true, false, cond}
-use mathlib.Core.List.{List, [], _∷_, _++_, map, map-append}
+use mathlib.Core.List.{List, [], _∷_, _++_, map-append}
 use Prim.Native.Nat.{ℕ, _+_, _*_, _≤_, _<_}
 use native.Mathlib.Omega.{arith}
-use lib.Dec.{T, eqb, ltb}
+use lib.Dec.{eqb, ltb}
 use lib.ListN.{length, getD, drop}
 use borrow.Author.Tests.{eqb-true, eq-eqb, ne-eqb, lt-ltb, le-ltb}
-use Rattle.sets.specs.Lists.{all}
 use Rattle.solver.specs.Limits.{cellLimit, operandLimit}
 use Rattle.solver.specs.File.{Block, stateCount, blockCount, cellCount, operandCount, initialState, blocks, cells, operands}
 use Rattle.solver.specs.Conditions.{WellFormed}
-use Rattle.cases.specs.Action.{Action, accepts}
+use Rattle.cases.specs.Action.{Action}
 use Rattle.cases.specs.Formula.{Formula}
 use Rattle.cases.specs.declared.Transition.{Transition}
 use Rattle.cases.specs.Case.{Case, caseOf, copies, keep, distinct}

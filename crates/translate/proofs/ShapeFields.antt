@@ -31,10 +31,6 @@ take-nodes : (part : List ℕ) (j f : ℕ) → j ≤ f → take j (nodesIn part 
 unfolding nodesIn
 take-nodes part j f h = take-map-range (nodeIn part) 0 j f h
 
-pub length-nodes : (part : List ℕ) (f : ℕ) → length (nodesIn part f) ≡ f
-unfolding nodesIn
-length-nodes part f = length-table (nodeIn part) f
-
 -- a subtree that starts within the table ends within it
 pub end-small : (part : List ℕ) (f i : ℕ) → i ≤ f → endOf (map (arityIn formulaArities) (nodesIn part f)) i ≤ f
 end-small part f i h =

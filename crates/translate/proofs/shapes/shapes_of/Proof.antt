@@ -3,7 +3,8 @@ use Prim.Native.Nat.{_-_}
 use native.Mathlib.Omega.{arith}
 use Rattle.cases.specs.Prefix.{actionAt}
 use Rattle.cases.specs.Checks.{nodesIn}
-use Rattle.translate.proofs.ShapeFields.{ShapesBefore, length-nodes, shapes-none, shapes-next, shapes-done}
+use Rattle.cases.proofs.FormulaRules.{length-nodes}
+use Rattle.translate.proofs.ShapeFields.{ShapesBefore, shapes-none, shapes-next, shapes-done}
 use Rattle.translate.proofs.shapes.shapes_of.Statement.{statement}
 use Rattle.translate.proofs.shapes.shapes_of.Tie as tie
 

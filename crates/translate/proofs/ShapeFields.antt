@@ -18,6 +18,7 @@ use Rattle.cases.specs.File.{nodeIn}
 use Rattle.cases.specs.Masks.{maskOf}
 use Rattle.cases.specs.Conditions.{nodeAt, isBinder, binderCount}
 use Rattle.cases.specs.Checks.{nodesIn}
+use Rattle.cases.proofs.FormulaRules.{length-nodes}
 use Rattle.cases.proofs.Copies.{take-map-range}
 use Rattle.cases.proofs.Spans.{span-length}
 use Rattle.cases.proofs.PrefixRules.{node-in}

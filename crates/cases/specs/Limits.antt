@@ -1,5 +1,5 @@
--- How large a case may be. The code's LABELS, TRANSITIONS, ACTIONS and NODES; states and blocks have the limits of the layers below.
-use Prim.Native.Nat.{ℕ}
+-- How large a case may be. The code's LABELS, TRANSITIONS, ACTIONS, NODES and LARGEST; states and blocks have the limits of the layers below.
+use Prim.Native.Nat.{ℕ, _+_, _*_}
 
 abbrev pub labelLimit : ℕ
 labelLimit = 64
@@ -12,3 +12,7 @@ actionLimit = 128
 
 abbrev pub nodeLimit : ℕ
 nodeLimit = 64
+
+-- the length of the largest case
+abbrev pub largest : ℕ
+largest = 20 + 6 * transitionLimit + 4 * actionLimit + 4 * nodeLimit

@@ -23,6 +23,9 @@ pub const ACTIONS: usize = 128;
 
 pub const NODES: usize = 64;
 
+// The length of the largest case.
+pub const LARGEST: usize = file::HEADER + 6 * TRANSITIONS + 4 * ACTIONS + 4 * NODES;
+
 // The counts of a case, its initial state, and the offsets of its tables.
 pub struct Header {
     pub states: usize,

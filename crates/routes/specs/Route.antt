@@ -22,6 +22,7 @@ use Rattle.routes.specs.declared.Cause.{Cause}
 use Rattle.routes.specs.declared.Cause.the-variants.{Small, Version, Count, Offset, Length, Model, Actions, Formula, Variable, Depth, Layout, Table, Memory, Spent as Exceeded}
 use Rattle.routes.specs.declared.Answer.{Answer}
 use Rattle.routes.specs.declared.Answer.the-variants.{Solved, Refused}
+use Rattle.routes.specs.declared.Numbers.{Numbers}
 use Rattle.routes.specs.Direct.{Direct, worked}
 
 -- the paper's number of each cause
@@ -45,6 +46,10 @@ number Exceeded = 14
 unfoldable pub outcome : Answer → Outcome
 outcome (Solved r) = record { refusal = 0; verdict = bit (r .verdict); count = r .count; rounds = r .rounds }
 outcome (Refused cause) = refused (number cause)
+
+-- the outcome that numbers stand for
+unfoldable pub shown : Numbers → Outcome
+shown n = record { refusal = n .refusal; verdict = n .verdict; count = n .count; rounds = n .rounds }
 
 -- The report of either route: is the initial state marked, how many states are, and the rounds.
 unfoldable pub routeReport : Case → Set → ℕ → Outcome

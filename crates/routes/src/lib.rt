@@ -1,16 +1,20 @@
 // The two routes from a case to its marks: directly on sets of states, and by way of its equation file.
 mod evaluate;
 mod modal;
+mod outcome;
 mod tables;
 
 use cases::Header;
 use cases::header_of;
 use evaluate::evaluate_case;
+pub use outcome::numbers_of;
+pub use outcome::solving_answer;
+use outcome::solving_cause;
 use sets::WORDS;
 use translate::Written;
 ghost use mathlib.Core.Path.{_≡_};
 ghost use Prim.Native.Nat.{_<_, _≤_};
-ghost use Rattle.solver.specs.Outcome.{refused as Outcome·refused, number as Solver·number};
+ghost use Rattle.solver.specs.Outcome.{refused as Outcome·refused};
 ghost use Rattle.cases.specs.Case.{caseOf};
 ghost use Rattle.cases.specs.Conditions.{Accepted};
 ghost use Rattle.translate.specs.Translating.{file as Translating·file, number as Translating·number};
@@ -45,6 +49,15 @@ pub struct Report {
 pub enum Answer {
     Solved(Report),
     Refused(Cause),
+}
+
+// The numbers of an answer: the refusal number (0 if none), the verdict as 1 or 0, the count and the rounds; the last three are 0 after a
+// refusal.
+pub struct Numbers {
+    pub refusal: u64,
+    pub verdict: u64,
+    pub count: u64,
+    pub rounds: u64,
 }
 
 // The set of a node, the node after its subtree, and the rounds so far; or the rounds are spent.
@@ -108,18 +121,6 @@ fn cause_of(k: u8) -> Cause
         return Cause::Model;
     }
     Cause::Actions
-}
-
-// A cause of solve's.
-fn solving_cause(cause: solver::Cause) -> Cause
-    ensures { λ r. ⌜ number r ≡ Solver·number cause ⌝ }
-{
-    match cause {
-        solver::Cause::Layout => Cause::Layout,
-        solver::Cause::Table => Cause::Table,
-        solver::Cause::Memory => Cause::Memory,
-        solver::Cause::Spent => Cause::Spent,
-    }
 }
 
 // What is reported of a set of states, after so many rounds.

@@ -1,43 +1,33 @@
 use Rattle.solver.specs.Outcome as Solver
 use Rattle.routes.specs.Route.{number}
 use borrow.Author.Needs.{needs}
-use Rattle.routes.proofs.solving_cause.Statement.{statement}
-use Rattle.routes.proofs.solving_cause.Tie as tie
-use Rattle.routes.proofs.solving_cause.Reads as reads
-use Rattle.routes.proofs.solving_cause.Lts as lts
+use Rattle.routes.proofs.outcome.solving_cause.Statement.{statement}
+use Rattle.routes.proofs.outcome.solving_cause.Tie as tie
 
--- src/lib.rt:120:34
 enum-told : tie.Need-enum-told
 enum-told c = search needs
 
--- src/lib.rt:121:33
 enum-told-2 : tie.Need-enum-told-2
 enum-told-2 c = search needs
 
--- src/lib.rt:122:34
 enum-told-3 : tie.Need-enum-told-3
 enum-told-3 c = search needs
 
--- src/lib.rt:123:33
 enum-told-4 : tie.Need-enum-told-4
 enum-told-4 c = search needs
 
--- src/lib.rt:116:1
 returns : tie.Need-returns
 unfolding number Solver.number
 returns c = cc
 
--- src/lib.rt:116:1
 returns-2 : tie.Need-returns-2
 unfolding number Solver.number
 returns-2 c = cc
 
--- src/lib.rt:116:1
 returns-3 : tie.Need-returns-3
 unfolding number Solver.number
 returns-3 c = cc
 
--- src/lib.rt:116:1
 returns-4 : tie.Need-returns-4
 unfolding number Solver.number
 returns-4 c = cc

@@ -1,0 +1,98 @@
+// The calls for programs in C or Rust. A slice is a pointer and a length; the answer is five numbers.
+use routes::Answer;
+use routes::numbers_of;
+use routes::solving_answer;
+use translate::Written;
+ghost use mathlib.Core.Path.{_≡_};
+ghost use Rattle.solver.specs.Outcome.{Answered, outcome as Solver·outcome};
+ghost use Rattle.translate.specs.Translating.{Translated, size};
+ghost use Rattle.routes.specs.Route.{Directed, Routed, outcome};
+ghost use Rattle.exports.specs.Exported.{exported, translated, no-file, Exports};
+
+// The refusal number (0 if none), the verdict as 1 or 0, the count of marked states, the rounds, and the length of the file that was
+// written. What a call does not answer is 0, and so are all but the first after a refusal.
+#[repr(C)]
+pub struct Numbers {
+    pub refusal: u64,
+    pub verdict: u64,
+    pub count: u64,
+    pub rounds: u64,
+    pub length: u64,
+}
+
+// The numbers of a route's answer.
+fn answered(answer: Answer) -> Numbers
+    ensures { λ r. ⌜ (exported r ≡ outcome answer) × (r .length ≡ 0) ⌝ }
+{
+    let numbers = numbers_of(answer);
+    Numbers {
+        refusal: numbers.refusal,
+        verdict: numbers.verdict,
+        count: numbers.count,
+        rounds: numbers.rounds,
+        length: 0,
+    }
+}
+
+// The numbers of a translation.
+fn written(answer: Written) -> Numbers
+    ensures { λ r. ⌜ (exported r ≡ translated answer) × (r .length ≡ size answer) ⌝ }
+{
+    match answer {
+        Written::File(length) => Numbers {
+            refusal: 0,
+            verdict: 0,
+            count: 0,
+            rounds: 0,
+            length: length as u64,
+        },
+        Written::Refused(k) => Numbers {
+            refusal: k as u64,
+            verdict: 0,
+            count: 0,
+            rounds: 0,
+            length: 0,
+        },
+    }
+}
+
+#[no_mangle]
+pub extern "C" fn bithrowy_translate(case: &[u8], file: &mut [u8]) -> Numbers
+    ensures { λ r. ⌜ Exports translated size (λ a. Translated (now (case .entry)) (now (file .entry)) a (now (file .exit))) r ⌝ }
+{
+    written(translate::translate(case, file))
+}
+
+#[no_mangle]
+pub extern "C" fn bithrowy_solve(
+    file: &[u8],
+    work: &mut [u8],
+    marks: &mut [u64],
+    limit: u64,
+) -> Numbers
+    ensures { λ r. ⌜ Exports Solver·outcome no-file
+        (λ a. Answered (now (file .entry)) (now (work .entry)) (now (marks .entry)) limit a (now (work .exit)) (now (marks .exit))) r ⌝ }
+{
+    answered(solving_answer(solver::solve(file, work, marks, limit)))
+}
+
+#[no_mangle]
+pub extern "C" fn bithrowy_direct(case: &[u8], marks: &mut [u64], limit: u64) -> Numbers
+    ensures { λ r. ⌜ Exports outcome no-file (λ a. Directed (now (case .entry)) (now (marks .entry)) limit a (now (marks .exit))) r ⌝ }
+{
+    answered(routes::direct(case, marks, limit))
+}
+
+#[no_mangle]
+pub extern "C" fn bithrowy_equation(
+    case: &[u8],
+    file: &mut [u8],
+    work: &mut [u8],
+    marks: &mut [u64],
+    limit: u64,
+) -> Numbers
+    ensures { λ r. ⌜ Exports outcome no-file (λ a. Routed (now (case .entry)) (now (file .entry)) (now (work .entry)) (now (marks .entry)) limit a
+        (now (file .exit)) (now (work .exit)) (now (marks .exit))) r ⌝ }
+{
+    answered(routes::equation(case, file, work, marks, limit))
+}

@@ -1,0 +1,22 @@
+use mathlib.Core.Path.{_∙_}
+use Rattle.routes.specs.Route.{outcomeOf, refusalOf}
+use borrow.Author.Needs.{needs}
+use Rattle.lines.proofs.by_direct.Statement.{statement}
+use Rattle.lines.proofs.by_direct.Tie as tie
+
+slice-aggregate-direct : tie.Need-slice-aggregate-direct
+slice-aggregate-direct c = search needs
+
+direct-requires : tie.Need-direct-requires
+direct-requires c κs = search needs
+
+numbers-of-requires : tie.Need-numbers-of-requires
+numbers-of-requires c κs = search needs
+
+returns : tie.Need-returns
+unfolding outcomeOf refusalOf
+returns c = c .numbers-of .ensures ∙ c .before .before .direct .ensures .answers
+
+pub by-direct-spec : {M : Type 1} → statement M
+by-direct-spec =
+    tie.close (tie.spec slice-aggregate-direct direct-requires numbers-of-requires returns)

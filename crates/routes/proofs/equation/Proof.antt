@@ -1,4 +1,5 @@
 use mathlib.Core.Path.{sym}
+use native.Mathlib.Omega.{arith}
 use lib.Seq.{length-take-le}
 use Rattle.routes.proofs.EquationAnswers.{refused-number, translate-refused, written-accepted, written-file, written-fits, route-solved}
 use borrow.Author.Needs.{needs}
@@ -36,11 +37,14 @@ returns c = translate-refused (c .before .before .before .before .before .transl
 
 -- src/lib.rt:203:25
 slice-reshare-prefix-solve-written : tie.Need-slice-reshare-prefix-solve-written
-slice-reshare-prefix-solve-written c = written-fits (c .before .before .before .before .before .translate .ensures) (c .before .written .given .1)
+slice-reshare-prefix-solve-written c =
+    omega (arith, written-fits (c .before .before .before .before .before .translate .ensures) (c .before .written .given .1))
 
 -- src/lib.rt:203:25
 slice-aggregate-solve-written : tie.Need-slice-aggregate-solve-written
-slice-aggregate-solve-written c = sym (length-take-le _ _ (written-fits (c .before .before .before .before .before .before .translate .ensures) (c .before .before .written .given .1)))
+slice-aggregate-solve-written c =
+    let fits = written-fits (c .before .before .before .before .before .before .translate .ensures) (c .before .before .written .given .1) in
+    sym (length-take-le _ _ (omega (arith, fits)))
 
 -- src/lib.rt:203:5
 solve-written-requires : tie.Need-solve-written-requires

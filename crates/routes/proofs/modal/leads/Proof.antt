@@ -1,6 +1,7 @@
 -- `leads` meets its contract: the label's bit, then the target's.
 use mathlib.Core.Path.{ap, _∙_}
 use mathlib.Core.Bool.{Bool, Bool·beq}
+use native.Mathlib.Omega.{arith}
 use borrow.Author.Needs.{needs}
 use Rattle.routes.proofs.ModalLaws.{leads-not, leads-by}
 use Rattle.routes.proofs.modal.leads.Statement.{statement}
@@ -12,7 +13,7 @@ shr-if1 c = search needs
 returns : tie.Need-returns
 returns c α v e l q =
     let p = c .before .args in
-    leads-not (p .t) (p .labels) (p .inside) α v (c .before .pre .0) e (c .if1 .taken)
+    leads-not (p .t) (p .labels) (p .inside) α v (c .before .pre .0) e (omega arith)
 
 test-requires : tie.Need-test-requires
 test-requires c κs = search needs
@@ -22,7 +23,7 @@ returns-2 c α v e l q =
     let d = c .before .before .before in
     let p = d .args in
     ap (λ (b : Bool). Bool·beq b (p .inside)) (c .test .ensures)
-    ∙ leads-by (p .t) (p .labels) (p .inside) α v (d .pre .0) e (c .before .before .if1 .left) (d .pre .1) (p .t3) q
+    ∙ leads-by (p .t) (p .labels) (p .inside) α v (d .pre .0) e (omega arith) (d .pre .1) (p .t3) q
 
 pub leads-spec : {M : Type 1} → statement M
 leads-spec = tie.close (tie.spec shr-if1 returns test-requires returns-2)

@@ -1,3 +1,4 @@
+use mathlib.Core.Path.{sym, ap}
 use Rattle.solver.specs.Outcome as Solver
 use Rattle.routes.specs.Route.{number}
 use borrow.Author.Needs.{needs}
@@ -18,19 +19,19 @@ enum-told-4 c = search needs
 
 returns : tie.Need-returns
 unfolding number Solver.number
-returns c = cc
+returns c = sym (ap Solver.number (c .enum-told .given .1))
 
 returns-2 : tie.Need-returns-2
 unfolding number Solver.number
-returns-2 c = cc
+returns-2 c = sym (ap Solver.number (c .enum-told2 .given .1))
 
 returns-3 : tie.Need-returns-3
 unfolding number Solver.number
-returns-3 c = cc
+returns-3 c = sym (ap Solver.number (c .enum-told3 .given .1))
 
 returns-4 : tie.Need-returns-4
 unfolding number Solver.number
-returns-4 c = cc
+returns-4 c = sym (ap Solver.number (c .enum-told4 .given .1))
 
 pub solving-cause-spec : {M : Type 1} → statement M
 solving-cause-spec =

@@ -1,0 +1,49 @@
+//! The four calls under test, as a caller sees them.
+
+/// The five numbers that a call answers; verdict, count and rounds are 0 after a refusal.
+#[repr(C)]
+#[derive(Clone, Copy, Debug, Default, PartialEq, Eq)]
+pub struct Numbers {
+    pub refusal: u64,
+    pub verdict: u64,
+    pub count: u64,
+    pub rounds: u64,
+    pub length: u64,
+}
+
+impl Numbers {
+    /// The answer of a refusal.
+    pub fn refused(refusal: u64) -> Numbers {
+        Numbers { refusal, ..Numbers::default() }
+    }
+
+    /// The answer of translate: the file's length.
+    pub fn written(length: usize) -> Numbers {
+        Numbers { length: length as u64, ..Numbers::default() }
+    }
+
+    /// The report on a set of states.
+    pub fn report(set: &[bool], initial: usize, rounds: u64) -> Numbers {
+        let count = set.iter().filter(|&&marked| marked).count() as u64;
+        Numbers { refusal: 0, verdict: set[initial] as u64, count, rounds, length: 0 }
+    }
+}
+
+/// How many mark words a call needs.
+pub const MARK_WORDS: usize = 4;
+
+/// A set of states as mark words: state s is bit s mod 64 of word s / 64.
+pub fn mark_words(set: &[bool]) -> [u64; MARK_WORDS] {
+    let mut words = [0; MARK_WORDS];
+    for s in (0..set.len()).filter(|&s| set[s]) {
+        words[s / 64] |= 1 << (s % 64);
+    }
+    words
+}
+
+pub trait Calls {
+    fn translate(&self, case: &[u8], file: &mut [u8]) -> Numbers;
+    fn solve(&self, file: &[u8], work: &mut [u8], marks: &mut [u64], limit: u64) -> Numbers;
+    fn direct(&self, case: &[u8], marks: &mut [u64], limit: u64) -> Numbers;
+    fn equation(&self, case: &[u8], file: &mut [u8], work: &mut [u8], marks: &mut [u64], limit: u64) -> Numbers;
+}

@@ -1,0 +1,23 @@
+//! An independent checker for cases and equation files, written from the paper alone, and the tests that hold the built
+//! library against it.
+
+pub mod calls;
+pub mod compare;
+pub mod damage;
+pub mod formats;
+pub mod game;
+pub mod generate;
+pub mod lent;
+pub mod listing;
+pub mod meaning;
+pub mod paper;
+pub mod program;
+pub mod random;
+pub mod reader;
+pub mod rounds;
+pub mod rules;
+pub mod shrink;
+pub mod slips;
+pub mod stream;
+pub mod tables;
+pub mod text;

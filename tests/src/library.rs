@@ -1,0 +1,52 @@
+//! The built library, through its C entry points.
+
+use bithrowy_tests::calls::{Calls, Numbers};
+
+extern "C" {
+    fn bithrowy_translate(case: *const u8, n: usize, file: *mut u8, m: usize) -> Numbers;
+    fn bithrowy_solve(
+        file: *const u8,
+        n: usize,
+        work: *mut u8,
+        m: usize,
+        marks: *mut u64,
+        k: usize,
+        limit: u64,
+    ) -> Numbers;
+    fn bithrowy_direct(case: *const u8, n: usize, marks: *mut u64, k: usize, limit: u64) -> Numbers;
+    fn bithrowy_equation(
+        case: *const u8,
+        n: usize,
+        file: *mut u8,
+        m: usize,
+        work: *mut u8,
+        k: usize,
+        marks: *mut u64,
+        j: usize,
+        limit: u64,
+    ) -> Numbers;
+}
+
+pub struct Library;
+
+// Each slice is handed over as its own pointer and length, which is all the entry points ask for.
+impl Calls for Library {
+    fn translate(&self, case: &[u8], file: &mut [u8]) -> Numbers {
+        unsafe { bithrowy_translate(case.as_ptr(), case.len(), file.as_mut_ptr(), file.len()) }
+    }
+
+    fn solve(&self, file: &[u8], work: &mut [u8], marks: &mut [u64], limit: u64) -> Numbers {
+        let (w, m) = (work.len(), marks.len());
+        unsafe { bithrowy_solve(file.as_ptr(), file.len(), work.as_mut_ptr(), w, marks.as_mut_ptr(), m, limit) }
+    }
+
+    fn direct(&self, case: &[u8], marks: &mut [u64], limit: u64) -> Numbers {
+        unsafe { bithrowy_direct(case.as_ptr(), case.len(), marks.as_mut_ptr(), marks.len(), limit) }
+    }
+
+    fn equation(&self, case: &[u8], file: &mut [u8], work: &mut [u8], marks: &mut [u64], limit: u64) -> Numbers {
+        let (f, w, m) = (file.len(), work.len(), marks.len());
+        let (file, work, marks) = (file.as_mut_ptr(), work.as_mut_ptr(), marks.as_mut_ptr());
+        unsafe { bithrowy_equation(case.as_ptr(), case.len(), file, f, work, w, marks, m, limit) }
+    }
+}

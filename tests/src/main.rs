@@ -1,0 +1,381 @@
+//! Runs all tests of the built library and program: `cargo run --release --manifest-path tests/Cargo.toml`, after
+//! `rt staticlib exports` and with the program `twosides` built. The first failure ends it with a non-zero status.
+//! An argument is another seed to start from.
+
+mod library;
+
+use bithrowy_tests::calls::Calls;
+use bithrowy_tests::compare::{Check, Comparison, Sizes, Tally};
+use bithrowy_tests::formats::*;
+use bithrowy_tests::generate::{self, Size};
+use bithrowy_tests::random::Random;
+use bithrowy_tests::reader::read_case;
+use bithrowy_tests::slips::{Reference, Slip, SLIPS};
+use bithrowy_tests::{damage, listing, paper, program, rules, shrink, stream, tables};
+use library::Library;
+use std::path::Path;
+use std::process::exit;
+use std::time::Instant;
+
+/// Cell values that the reference works out at most for one file, in ordinary groups and for large files.
+const BUDGET: u64 = 250_000;
+const LARGE_BUDGET: u64 = 60_000_000;
+
+/// What kind of file a test is about.
+#[derive(Clone, Copy, PartialEq, Eq)]
+enum Kind {
+    Case,
+    Equations,
+}
+
+impl Kind {
+    /// Bytes of a number.
+    fn width(self) -> usize {
+        match self {
+            Kind::Case => 2,
+            Kind::Equations => 4,
+        }
+    }
+
+    fn compare(self, comparison: &mut Comparison, bytes: &[u8]) -> Check {
+        match self {
+            Kind::Case => comparison.case(bytes),
+            Kind::Equations => comparison.file(bytes),
+        }
+    }
+
+    /// A well-formed file (a case may have too many blocks).
+    fn generated(self, random: &mut Random) -> Vec<u8> {
+        match self {
+            Kind::Case => generate::case(random).bytes(),
+            Kind::Equations => generate::equations(random).bytes(),
+        }
+    }
+
+    fn listing(self, bytes: &[u8]) -> String {
+        match self {
+            Kind::Case => listing::case(bytes),
+            Kind::Equations => listing::file(bytes),
+        }
+    }
+
+    fn smaller(self) -> fn(&[u8]) -> Vec<Vec<u8>> {
+        match self {
+            Kind::Case => shrink::smaller_cases,
+            Kind::Equations => shrink::smaller_files,
+        }
+    }
+}
+
+/// Files made one by one from seeds and compared with the library.
+struct Group {
+    name: &'static str,
+    kind: Kind,
+    sizes: Sizes,
+    budget: u64,
+    tally: Tally,
+    start: Instant,
+}
+
+impl Group {
+    fn new(name: &'static str, kind: Kind) -> Group {
+        Group { name, kind, sizes: Sizes::Some, budget: BUDGET, tally: Tally::default(), start: Instant::now() }
+    }
+
+    fn compare(&mut self, seed: u64, bytes: &[u8]) {
+        let mut comparison = Comparison::new(&Library, self.sizes, self.budget, seed);
+        if let Err(text) = self.kind.compare(&mut comparison, bytes) {
+            self.fail(seed, bytes, &text);
+        }
+        self.tally.add(&comparison.tally);
+    }
+
+    fn fail(&self, seed: u64, bytes: &[u8], text: &str) -> ! {
+        println!("FAILED {}, seed {seed}: {text}\n{}", self.name, self.kind.listing(bytes));
+        let check = |bytes: &[u8]| {
+            let mut comparison = Comparison::new(&Library, self.sizes, self.budget, seed);
+            self.kind.compare(&mut comparison, bytes)
+        };
+        let small = shrink::smallest(bytes, self.kind.smaller(), &mut |bytes| check(bytes).is_err());
+        let text = check(&small).expect_err("still fails");
+        println!("smallest found: {text}\n{}\nbytes {small:?}", self.kind.listing(&small));
+        exit(1)
+    }
+
+    /// Prints the group's line. Each file was compared at least twice.
+    fn end(self) {
+        let tally = self.tally;
+        assert!(tally.files() > 0 && tally.calls >= 2 * tally.files(), "{}: nothing compared", self.name);
+        let refused: Vec<String> =
+            (1..15).filter(|&k| tally.refused[k] > 0).map(|k| format!("{k}: {}", tally.refused[k])).collect();
+        let refused = if refused.is_empty() { "none".to_string() } else { refused.join(", ") };
+        println!(
+            "{}: {} files, {} accepted ({} above the cap, {} searched), refused {refused}; {} calls; {:.1} s",
+            self.name,
+            tally.files(),
+            tally.refused[0],
+            tally.capped,
+            tally.searched,
+            tally.calls,
+            self.start.elapsed().as_secs_f64()
+        );
+    }
+}
+
+/// Ends the run if a check failed, else prints how much was compared.
+fn report(name: &str, start: Instant, result: Result<u64, String>) {
+    match result {
+        Ok(compared) => println!("{name}: {compared} compared; {:.1} s", start.elapsed().as_secs_f64()),
+        Err(text) => {
+            println!("FAILED {name}: {text}");
+            exit(1)
+        }
+    }
+}
+
+fn main() {
+    let seed = std::env::args().nth(1).map_or(1, |text| text.parse().expect("a seed"));
+    let start = Instant::now();
+    report("paper, reference", start, paper::check(&Reference(None)));
+    report("paper, library", start, paper::check(&Library));
+    each_rule(seed, Kind::Case, "cases, each rule of 1 to 10 and pairs");
+    each_rule(seed, Kind::Equations, "equation files, each rule of 11 and 12 and pairs");
+    cases(seed);
+    all_sizes(seed);
+    damaged_cases(seed);
+    every_number(seed, Kind::Case, "cases damaged at every number", 20);
+    every_length(seed, Kind::Case, "cases cut at every length", 8);
+    equation_files(seed);
+    damaged_files(seed);
+    every_number(seed, Kind::Equations, "equation files damaged at every number", 12);
+    every_length(seed, Kind::Equations, "equation files cut at every length", 6);
+    large(seed);
+    runs_cases();
+    slips(seed);
+    let binary = Path::new(env!("CARGO_MANIFEST_DIR")).join("../target/bin/twosides");
+    report("program twosides", Instant::now(), program::check(&binary));
+    println!("all passed; {:.1} s", start.elapsed().as_secs_f64());
+}
+
+/// A file for each rule of each condition, and files that break two rules.
+fn each_rule(seed: u64, kind: Kind, name: &'static str) {
+    let mut group = Group::new(name, kind);
+    let (broken, twice) = match kind {
+        Kind::Case => (rules::broken_cases(), rules::twice_broken_cases()),
+        Kind::Equations => (rules::broken_files(), rules::twice_broken_files()),
+    };
+    for file in broken {
+        let before = group.tally.refused[file.refusal as usize];
+        group.compare(seed, &file.bytes);
+        let counted = group.tally.refused[file.refusal as usize] == before + 1;
+        assert!(counted, "reference: {} is not refused with {}", file.rule, file.refusal);
+    }
+    for bytes in twice {
+        group.compare(seed, &bytes);
+    }
+    group.end();
+}
+
+fn cases(seed: u64) {
+    let mut group = Group::new("cases", Kind::Case);
+    for seed in seed..seed + 25_000 {
+        group.compare(seed, &group.kind.generated(&mut Random::new(seed)));
+    }
+    assert!(group.tally.refused[0] >= 20_000, "20,000 accepted cases");
+    group.end();
+}
+
+/// All combinations of lent sizes around the needed ones.
+fn all_sizes(seed: u64) {
+    let mut group = Group { sizes: Sizes::All, ..Group::new("cases, all lent sizes", Kind::Case) };
+    for run in paper::runs() {
+        group.compare(seed, &run.case.bytes());
+    }
+    for seed in seed..seed + 150 {
+        group.compare(seed, &generate::case_of(&mut Random::new(seed), Size::Tiny).bytes());
+    }
+    group.end();
+}
+
+fn damaged_cases(seed: u64) {
+    let mut group = Group::new("damaged cases", Kind::Case);
+    for seed in seed..seed + 10_000 {
+        let mut random = Random::new(seed);
+        let mut bytes = generate::case(&mut random).bytes();
+        for _ in 0..random.pick(&[1, 1, 1, 2]) {
+            if bytes.len() >= CASE_HEADER {
+                bytes = damage::damaged(&mut random, &bytes, 2);
+            }
+        }
+        group.compare(seed, &bytes);
+    }
+    assert!((1..=10).all(|number| group.tally.refused[number] > 0), "a case for each of 1 to 10");
+    group.end();
+}
+
+/// A file of moderate length: a case, its equation file, or other equations.
+fn base(seed: u64, kind: Kind) -> Vec<u8> {
+    let mut random = Random::new(seed);
+    loop {
+        let case = generate::case_of(&mut random, Size::Tiny);
+        let bytes = match kind {
+            Kind::Case => case.bytes(),
+            Kind::Equations if random.chance(1, 2) && read_case(&case.bytes()).is_ok() => {
+                tables::equations(&case).bytes()
+            }
+            Kind::Equations => generate::equations(&mut random).bytes(),
+        };
+        if (80..600).contains(&bytes.len()) {
+            return bytes;
+        }
+    }
+}
+
+/// Every number of some files in turn changed to each of a list of others.
+fn every_number(seed: u64, kind: Kind, name: &'static str, files: u64) {
+    let mut group = Group::new(name, kind);
+    let width = kind.width();
+    for seed in seed..seed + files {
+        let bytes = base(seed, kind);
+        for at in (0..bytes.len()).step_by(width) {
+            for other in damage::other_numbers(damage::number_at(&bytes, at, width), width) {
+                group.compare(seed, &damage::with_number(&bytes, at, width, other));
+            }
+        }
+    }
+    group.end();
+}
+
+/// Every shorter and some longer version of some files.
+fn every_length(seed: u64, kind: Kind, name: &'static str, files: u64) {
+    let mut group = Group::new(name, kind);
+    for seed in seed..seed + files {
+        let bytes = base(seed, kind);
+        let longer = [&bytes[..], &[0; 16]].concat();
+        for length in 0..=longer.len() {
+            group.compare(seed, &longer[..length]);
+        }
+    }
+    group.end();
+}
+
+fn equation_files(seed: u64) {
+    let mut group = Group::new("equation files", Kind::Equations);
+    for seed in seed..seed + 10_000 {
+        group.compare(seed, &group.kind.generated(&mut Random::new(seed)));
+    }
+    assert_eq!(group.tally.refused[0], group.tally.files(), "all are well-formed");
+    group.end();
+}
+
+fn damaged_files(seed: u64) {
+    let mut group = Group::new("damaged equation files", Kind::Equations);
+    for seed in seed..seed + 10_000 {
+        let mut random = Random::new(seed);
+        let case = generate::case(&mut random);
+        let right = if random.chance(1, 3) && read_case(&case.bytes()).is_ok() {
+            tables::equations(&case).bytes()
+        } else {
+            generate::equations(&mut random).bytes()
+        };
+        group.compare(seed, &damage::damaged(&mut random, &right, 4));
+    }
+    assert!([11, 12].iter().all(|&number: &usize| group.tally.refused[number] > 0), "a file for 11 and 12");
+    group.end();
+}
+
+/// Files with all counts at their limits, and one above them.
+fn large(seed: u64) {
+    let mut group = Group { budget: LARGE_BUDGET, ..Group::new("largest cases", Kind::Case) };
+    for seed in seed..seed + 12 {
+        let bytes = generate::case_of(&mut Random::new(seed), Size::Full).bytes();
+        assert_eq!(bytes.len(), LARGEST_CASE);
+        group.compare(seed, &bytes);
+    }
+    group.end();
+
+    let mut group = Group { budget: LARGE_BUDGET, ..Group::new("largest equation files", Kind::Equations) };
+    let mut random = Random::new(seed);
+    for blocks in [1, 2] {
+        let mut equations = generate::equations_with(&mut random, STATES, blocks, CELLS, CELLS / 2, 30);
+        fill_operands(&mut equations, &mut random, OPERANDS);
+        group.compare(seed, &equations.bytes());
+        assert_eq!(group.tally.refused[11], blocks as u64 - 1);
+        fill_operands(&mut equations, &mut random, OPERANDS + 1);
+        group.compare(seed, &equations.bytes());
+    }
+    let mut wider = generate::equations_with(&mut random, STATES, 1, CELLS, CELLS / 2, 2);
+    group.compare(seed, &wider.bytes());
+    wider.cells.push(Cell::And(Vec::new()));
+    group.compare(seed, &wider.bytes());
+    assert_eq!((group.tally.refused[0], group.tally.refused[11]), (3, 3));
+    group.end();
+}
+
+/// Drops and adds operands until there are exactly so many.
+fn fill_operands(equations: &mut Equations, random: &mut Random, count: usize) {
+    let mut left = count;
+    let cells = equations.cells.len();
+    for cell in &mut equations.cells {
+        if let Cell::And(list) | Cell::Or(list) = cell {
+            list.truncate(left);
+            left -= list.len();
+        }
+    }
+    while left > 0 {
+        let i = random.below(cells - 1);
+        if let Cell::And(list) | Cell::Or(list) = &mut equations.cells[i] {
+            list.push(random.between(i + 1, cells - 1));
+            left -= 1;
+        }
+    }
+}
+
+/// The cases of the program `runs`, through the library with the program's limit and buffer.
+fn runs_cases() {
+    let start = Instant::now();
+    let compare = |(i, bytes): (usize, &Vec<u8>)| {
+        let (got, expected) = (paper::both_routes(&Library, bytes), stream::reference_lines(bytes));
+        if got != expected {
+            return Err(format!("case {}: got {got:?}, expected {expected:?}\n{}", i + 1, listing::case(bytes)));
+        }
+        Ok(())
+    };
+    let cases = stream::cases();
+    let result = cases.iter().enumerate().try_for_each(compare).map(|()| cases.len() as u64);
+    report("cases of the program runs, library", start, result);
+}
+
+/// The comparison passes the reference itself, notices each slip, and a noticed case is made smaller.
+fn slips(seed: u64) {
+    const FILES: u64 = 1_000;
+    let start = Instant::now();
+    let differs = |calls: &dyn Calls, kind: Kind, seed: u64, bytes: &[u8]| {
+        kind.compare(&mut Comparison::new(calls, Sizes::Some, BUDGET, seed), bytes).is_err()
+    };
+    let mut counts = Vec::new();
+    for slip in [None].into_iter().chain(SLIPS.map(Some)) {
+        let calls = Reference(slip);
+        for kind in [Kind::Case, Kind::Equations] {
+            let noticed: Vec<(u64, Vec<u8>)> = (seed..seed + FILES)
+                .map(|seed| (seed, kind.generated(&mut Random::new(seed))))
+                .filter(|(seed, bytes)| differs(&calls, kind, *seed, bytes))
+                .collect();
+            // Only one slip is in the solver; the others are in what comes before it.
+            let expected = slip.is_some() && (kind == Kind::Case || slip == Some(Slip::InnerKept));
+            assert_eq!(!noticed.is_empty(), expected, "{slip:?}");
+            if let Some((seed, bytes)) = noticed.first() {
+                let small = shrink::smallest(bytes, kind.smaller(), &mut |bytes| differs(&calls, kind, *seed, bytes));
+                assert!(differs(&calls, kind, *seed, &small) && small.len() <= bytes.len());
+                let unit = if kind == Kind::Case { "cases" } else { "equation files" };
+                counts.push(format!(
+                    "{:?} in {} {unit} (smallest found {} bytes)",
+                    calls.0.unwrap(),
+                    noticed.len(),
+                    small.len()
+                ));
+            }
+        }
+    }
+    println!("slips, noticed of {FILES}: {}; {:.1} s", counts.join(", "), start.elapsed().as_secs_f64());
+}

@@ -1,0 +1,246 @@
+//! Case files: their tables and conditions 1 to 10.
+
+use super::{sets, solver};
+
+pub const LABELS: usize = 64;
+pub const TRANSITIONS: usize = 2048;
+pub const ACTIONS: usize = 128;
+pub const NODES: usize = 64;
+pub const HEADER: usize = 20;
+
+/// The length of the largest case.
+pub const LARGEST: usize = HEADER + 6 * TRANSITIONS + 4 * ACTIONS + 4 * NODES;
+
+pub struct Header {
+    pub states: usize,
+    pub transitions: usize,
+    pub labels: usize,
+    pub initial: usize,
+    pub actions: usize,
+    pub nodes: usize,
+    pub first: usize,
+    pub second: usize,
+    pub third: usize,
+}
+
+#[derive(PartialEq)]
+pub struct Transition {
+    pub source: usize,
+    pub label: usize,
+    pub target: usize,
+}
+
+pub struct Node {
+    pub kind: usize,
+    pub arg: usize,
+}
+
+/// The 16-bit number at a place, low byte first.
+pub fn number_at(part: &[u8], at: usize) -> usize {
+    let bytes = &part[at..at + 2];
+    u16::from_le_bytes([bytes[0], bytes[1]]).into()
+}
+
+pub fn header(case: &[u8]) -> Header {
+    Header {
+        states: number_at(case, 2),
+        transitions: number_at(case, 4),
+        labels: number_at(case, 6),
+        initial: number_at(case, 8),
+        actions: number_at(case, 10),
+        nodes: number_at(case, 12),
+        first: number_at(case, 14),
+        second: number_at(case, 16),
+        third: number_at(case, 18),
+    }
+}
+
+pub fn transition_at(part: &[u8], i: usize) -> Transition {
+    let record = &part[6 * i..6 * i + 6];
+    Transition { source: number_at(record, 0), label: number_at(record, 2), target: number_at(record, 4) }
+}
+
+pub fn node_at(part: &[u8], i: usize) -> Node {
+    let record = &part[4 * i..4 * i + 4];
+    Node { kind: number_at(record, 0), arg: number_at(record, 2) }
+}
+
+fn bad_count(h: &Header) -> bool {
+    !(1..=sets::STATES).contains(&h.states)
+        || h.transitions > TRANSITIONS
+        || !(1..=LABELS).contains(&h.labels)
+        || h.actions > ACTIONS
+        || !(1..=NODES).contains(&h.nodes)
+}
+
+fn bad_offset(h: &Header) -> bool {
+    h.first != HEADER || h.second != h.first + 6 * h.transitions || h.third != h.second + 4 * h.actions
+}
+
+fn bad_length(case: &[u8], h: &Header) -> bool {
+    case.len() != HEADER + 6 * h.transitions + 4 * h.actions + 4 * h.nodes
+}
+
+fn bad_model(case: &[u8], h: &Header) -> bool {
+    let part = &case[h.first..];
+    let holds = |t: Transition| t.source < h.states && t.label < h.labels && t.target < h.states;
+    h.initial >= h.states || !(0..h.transitions).all(|i| holds(transition_at(part, i)))
+}
+
+fn action_arity(kind: usize) -> usize {
+    match kind {
+        3 => 1,
+        4..=6 => 2,
+        _ => 0,
+    }
+}
+
+fn bad_actions(case: &[u8], h: &Header) -> bool {
+    let part = &case[h.second..];
+    let holds = |x: Node| match x.kind {
+        2 => x.arg < h.labels,
+        0..=6 => x.arg == 0,
+        _ => false,
+    };
+    if !(0..h.actions).all(|i| holds(node_at(part, i))) {
+        return true;
+    }
+    let mut due = 0usize;
+    for i in 0..h.actions {
+        due = due.saturating_sub(1) + action_arity(node_at(part, i).kind);
+    }
+    due != 0
+}
+
+fn formula_arity(kind: usize) -> usize {
+    match kind {
+        2 | 3 => 2,
+        4 | 5 | 7 | 8 => 1,
+        _ => 0,
+    }
+}
+
+fn one_formula(part: &[u8], f: usize) -> bool {
+    let mut due = 1;
+    for i in 0..f {
+        if due == 0 {
+            return false;
+        }
+        due = due - 1 + formula_arity(node_at(part, i).kind);
+    }
+    due == 0
+}
+
+fn bad_formula(actions: usize, part: &[u8], f: usize) -> bool {
+    let holds = |x: Node| match x.kind {
+        4 | 5 => x.arg < actions,
+        6 => true,
+        0..=8 => x.arg == 0,
+        _ => false,
+    };
+    !(0..f).all(|i| holds(node_at(part, i))) || !one_formula(part, f)
+}
+
+/// The node after the subtree of a node.
+pub fn subtree_end(part: &[u8], f: usize, at: usize) -> usize {
+    let mut due = 1;
+    for i in at..f {
+        if due == 0 {
+            return i;
+        }
+        due = due - 1 + formula_arity(node_at(part, i).kind);
+    }
+    f.max(at)
+}
+
+pub fn is_binder(x: &Node) -> bool {
+    x.kind == 7 || x.kind == 8
+}
+
+fn variable_bound(part: &[u8], f: usize, i: usize) -> bool {
+    let x = node_at(part, i);
+    if x.kind != 6 {
+        return true;
+    }
+    let j = x.arg;
+    j < i && is_binder(&node_at(part, j)) && i < subtree_end(part, f, j)
+}
+
+fn bad_variable(part: &[u8], f: usize) -> bool {
+    !(0..f).all(|i| variable_bound(part, f, i))
+}
+
+/// How many of the first f nodes are binders.
+pub fn binders(part: &[u8], f: usize) -> usize {
+    (0..f).filter(|&i| is_binder(&node_at(part, i))).count()
+}
+
+fn too_deep(part: &[u8], f: usize) -> bool {
+    let added = if is_binder(&node_at(part, 0)) { 0 } else { 1 };
+    binders(part, f) + added > solver::BLOCKS
+}
+
+/// The first of conditions 1 to 10 that holds of a case.
+pub fn refusal(case: &[u8]) -> Option<u8> {
+    if case.len() < HEADER {
+        return Some(1);
+    }
+    if number_at(case, 0) != 1 {
+        return Some(2);
+    }
+    let h = header(case);
+    if bad_count(&h) {
+        return Some(3);
+    }
+    if bad_offset(&h) {
+        return Some(4);
+    }
+    if bad_length(case, &h) {
+        return Some(5);
+    }
+    if bad_model(case, &h) {
+        return Some(6);
+    }
+    if bad_actions(case, &h) {
+        return Some(7);
+    }
+    let part = &case[h.third..];
+    if bad_formula(h.actions, part, h.nodes) {
+        return Some(8);
+    }
+    if bad_variable(part, h.nodes) {
+        return Some(9);
+    }
+    if too_deep(part, h.nodes) {
+        return Some(10);
+    }
+    None
+}
+
+/// The labels that the action formula at node j accepts, as a mask. The nodes are read from the last one down, and the masks of the
+/// formulas that start at node i or after it stand from `at` on.
+pub fn accepted_labels(part: &[u8], a: usize, j: usize) -> u64 {
+    let mut masks = [0u64; ACTIONS];
+    let mut at = ACTIONS;
+    for i in (j..a).rev() {
+        let node = node_at(part, i);
+        let x = masks.get(at).copied().unwrap_or(0);
+        let y = masks.get(at + 1).copied().unwrap_or(0);
+        at = at + action_arity(node.kind) - 1;
+        masks[at] = match node.kind {
+            0 => 0,
+            1 => !0,
+            2 => 1 << node.arg,
+            3 => !x,
+            4 => x & y,
+            5 => x | y,
+            _ => !x | y,
+        };
+    }
+    masks[at]
+}
+
+/// Whether no record before record i equals it.
+pub fn is_first(part: &[u8], i: usize) -> bool {
+    (0..i).all(|j| transition_at(part, j) != transition_at(part, i))
+}

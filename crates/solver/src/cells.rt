@@ -53,21 +53,20 @@ fn list_value(file: &[u8], sizes: Sizes, kind: usize, from: usize, count: usize,
 }
 
 // The value of the variable of a block in a state.
-fn variable_value(sets: [[u64; WORDS]; BLOCKS], block: usize, state: usize) -> u8
+fn variable_value(sets: &[[u64; WORDS]; BLOCKS], block: usize, state: usize) -> u8
     requires { ⌜ (block < blockLimit) × (state < stateLimit) ⌝ }
-    ensures { λ r. ⌜ r ≡ bit (marked (getD sets block []) state) ⌝ }
+    ensures { λ r. ⌜ r ≡ bit (marked (getD (now (sets .entry)) block []) state) ⌝ }
 {
-    let row = sets[block];
-    if sets::test(&row, state) {
+    if sets::test(&sets[block], state) {
         return 1;
     }
     0
 }
 
 // The value of cell i, from those of the cells above it.
-fn value_of(file: &[u8], sizes: Sizes, sets: [[u64; WORDS]; BLOCKS], i: usize, work: &[u8]) -> u8
+fn value_of(file: &[u8], sizes: Sizes, sets: &[[u64; WORDS]; BLOCKS], i: usize, work: &[u8]) -> u8
     requires { ⌜ Ready (now file) sizes (now work) × (i < sizes .cells) ⌝ }
-    ensures { λ r. ⌜ Valued (now (file .entry)) sets i (now (work .entry)) r ⌝ }
+    ensures { λ r. ⌜ Valued (now (file .entry)) (now (sets .entry)) i (now (work .entry)) r ⌝ }
 {
     let x = entry_at(file, sizes, i);
     if x.kind == 2 {
@@ -90,7 +89,7 @@ pub fn evaluate(
     let mut i = sizes.cells;
     while from < i {
         i -= 1;
-        let v = value_of(file, sizes, sets, i, work);
+        let v = value_of(file, sizes, &sets, i, work);
         work[i] = v;
     }
 }

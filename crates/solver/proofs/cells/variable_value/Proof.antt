@@ -1,15 +1,14 @@
-use mathlib.Core.Path.{_≡_, ap, sym, _∙_}
-use native.Mathlib.Omega.{arith}
+use mathlib.Core.Path.{ap, sym, _∙_}
 use Rattle.sets.specs.Words.{bit}
 use borrow.Author.Needs.{needs}
 use Rattle.solver.proofs.cells.variable_value.Statement.{statement}
 use Rattle.solver.proofs.cells.variable_value.Tie as tie
 
-mul-row : tie.Need-mul-row
-mul-row c = search needs
+mul-test : tie.Need-mul-test
+mul-test c = search needs
 
-array-copy-out-row : tie.Need-array-copy-out-row
-array-copy-out-row c = search needs
+index-1-test : tie.Need-index-1-test
+index-1-test c = search needs
 
 test-requires : tie.Need-test-requires
 test-requires c κs = search needs
@@ -22,4 +21,4 @@ returns-2 c = sym (ap bit (sym (c .before .test .ensures) ∙ c .if1 .left))
 
 pub variable-value-spec : {M : Type 1} → statement M
 variable-value-spec =
-    tie.close (tie.spec mul-row array-copy-out-row test-requires returns returns-2)
+    tie.close (tie.spec mul-test index-1-test test-requires returns returns-2)

@@ -19,34 +19,34 @@ ghost use Rattle.cases.specs.Checks.{transitionsIn};
 ghost use Rattle.routes.specs.Evaluating.{modalIn, Records};
 
 // Whether a transition has one of the labels, and its target is in the set exactly if `inside`.
-fn leads(t: Transition, labels: u64, set: [u64; WORDS], inside: bool) -> bool
+fn leads(t: Transition, labels: u64, set: &[u64; WORDS], inside: bool) -> bool
     requires { ⌜ (t .label < labelLimit) × (t .target < stateLimit) ⌝ }
-    ensures { λ r. ⌜ ((α : Action) (v : Set) → labels ≡ maskOf α → length v ≤ stateLimit → set ≡ words wordCount v
+    ensures { λ r. ⌜ ((α : Action) (v : Set) → labels ≡ maskOf α → length v ≤ stateLimit → now (set .entry) ≡ words wordCount v
         → r ≡ (accepts eqb α (t .label) && Bool·beq (has v (t .target)) inside)) ⌝ }
 {
     if (labels >> t.label) % 2 != 1 {
         return false;
     }
-    sets::test(&set, t.target) == inside
+    sets::test(set, t.target) == inside
 }
 
-// The set with a transition's source, if the transition leads there.
+// Puts a transition's source into the set found, if the transition leads there.
 fn with_source(
-    found: [u64; WORDS],
+    found: &mut [u64; WORDS],
     t: Transition,
     labels: u64,
-    set: [u64; WORDS],
+    set: &[u64; WORDS],
     inside: bool,
-) -> [u64; WORDS]
+)
     requires { ⌜ (t .source < stateLimit) × (t .label < labelLimit) × (t .target < stateLimit) ⌝ }
-    ensures { λ r. ⌜ ((α : Action) (v w : Set) → labels ≡ maskOf α → length v ≤ stateLimit → set ≡ words wordCount v
-        → t .source < length w → found ≡ words wordCount w
-        → r ≡ words wordCount (cond (accepts eqb α (t .label) && Bool·beq (has v (t .target)) inside) (ListN·set w (t .source) true) w)) ⌝ }
+    ensures { λ _. ⌜ ((α : Action) (v w : Set) → labels ≡ maskOf α → length v ≤ stateLimit → now (set .entry) ≡ words wordCount v
+        → t .source < length w → now (found .entry) ≡ words wordCount w
+        → now (found .exit) ≡ words wordCount (cond (accepts eqb α (t .label) && Bool·beq (has v (t .target)) inside)
+        (ListN·set w (t .source) true) w)) ⌝ }
 {
     if leads(t, labels, set, inside) {
-        return sets::add(found, t.source);
+        sets::add(found, t.source);
     }
-    found
 }
 
 // The states with a transition that leads there.
@@ -66,8 +66,7 @@ fn sources(
     let mut found = sets::empty();
     let mut i = 0;
     while i < m {
-        let more = with_source(found, transition_at(records, i), labels, set, inside);
-        found = more;
+        with_source(&mut found, transition_at(records, i), labels, &set, inside);
         i += 1;
     }
     found

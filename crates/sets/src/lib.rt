@@ -63,15 +63,13 @@ pub fn test(set: &[u64; WORDS], s: usize) -> bool
     (set[s / 64] >> (s % 64)) % 2 == 1
 }
 
-// The set with state s.
-pub fn add(held: [u64; WORDS], s: usize) -> [u64; WORDS]
+// Puts state s into the set.
+pub fn add(held: &mut [u64; WORDS], s: usize)
     requires { ⌜ s < stateLimit ⌝ }
-    ensures { λ r. ⌜ ((v : Set) → s < length v → held ≡ words wordCount v → r ≡ words wordCount (set v s true)) ⌝ }
+    ensures { λ _. ⌜ ((v : Set) → s < length v → now (held .entry) ≡ words wordCount v → now (held .exit) ≡ words wordCount (set v s true)) ⌝ }
 {
-    let mut more = held;
     let k = s / 64;
-    more[k] = more[k] | (1 << (s % 64));
-    more
+    held[k] = held[k] | (1 << (s % 64));
 }
 
 // Whether two sets hold the same words.

@@ -102,8 +102,7 @@ fn gather(work: &[u8], from: usize, n: usize) -> [u64; WORDS]
     let mut row = sets::empty();
     for s in 0..n {
         if work[from + s] == 1 {
-            let more = sets::add(row, s);
-            row = more;
+            sets::add(&mut row, s);
         }
     }
     row

@@ -20,10 +20,10 @@ test-requires c κs = search needs
 
 returns-2 : tie.Need-returns-2
 returns-2 c α v e l q =
-    let d = c .before .before .before in
+    let d = c .before .before in
     let p = d .args in
     ap (λ (b : Bool). Bool·beq b (p .inside)) (c .test .ensures)
-    ∙ leads-by (p .t) (p .labels) (p .inside) α v (d .pre .0) e (omega arith) (d .pre .1) (p .t3) q
+    ∙ leads-by (p .t) (p .labels) (p .inside) α v (d .pre .0) e (omega arith) (d .pre .1) (p .set .now) q
 
 pub leads-spec : {M : Type 1} → statement M
 leads-spec = tie.close (tie.spec shr-if1 returns test-requires returns-2)

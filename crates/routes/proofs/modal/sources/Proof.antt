@@ -14,13 +14,13 @@ use Rattle.routes.proofs.modal.sources.Statement.{statement}
 use Rattle.routes.proofs.modal.sources.Tie as tie
 
 abbrev Inv-loop : tie.InvT-loop
-Inv-loop records m n l labels set inside found₀ i₀ found i =
+Inv-loop records m n l labels inside set found₀ i₀ found i =
     (i ≤ m)
     × ((α : Action) (v : Set) → labels ≡ maskOf α → length v ≡ n → set ≡ words wordCount v
     → found ≡ words wordCount (sourcesOf n α v inside (transitionsIn records i)))
 
 abbrev μ-loop : tie.MeasureT-loop
-μ-loop records m n l labels set inside found₀ i₀ found i = m - i
+μ-loop records m n l labels inside set found₀ i₀ found i = m - i
 
 empty-requires : tie.Need-empty-requires Inv-loop μ-loop
 empty-requires c κs = tt
@@ -31,12 +31,12 @@ loop-holds c =
     (omega arith, λ α v e l q. c .empty .ensures (p .n) ∙ ap (words wordCount) (sources-none (p .n) α v (p .inside) (p .records .now)))
 
 transition-at-requires : tie.Need-transition-at-requires Inv-loop μ-loop
-transition-at-requires c κs = omega (arith, c .before .before .before .before .pre .inside)
+transition-at-requires c κs = omega (arith, c .before .before .before .before .before .pre .inside)
 
 with-source-requires : tie.Need-with-source-requires Inv-loop μ-loop
 with-source-requires c κs =
-    let d = c .before .before .before .before .before in
-    let r = in-range (d .pre) _ (omega arith) _ (c .transition-at .ensures) in
+    let d = c .before .before .before .before .before .before .before in
+    let r = in-range (d .pre) _ (omega arith) _ (c .before .transition-at .ensures) in
     (omega (arith, r .0, d .pre .few-states), omega (arith, r .1, d .pre .few-labels), omega (arith, r .2, d .pre .few-states))
 
 add-i : tie.Need-add-i Inv-loop μ-loop
@@ -47,10 +47,11 @@ loop-less c = omega arith
 
 loop-again : tie.Need-loop-again Inv-loop μ-loop
 loop-again c =
-    let d = c .before .before .before .before .before .before in
+    let a = c .before .before .before .before .before in
+    let d = a .before .before .before in
     let p = d .args in
-    let s = c .before .before .before .loop in
-    let t = c .before .transition-at in
+    let s = a .loop in
+    let t = c .before .before .transition-at in
     let r = in-range (d .pre) (s .i) (omega arith) (t .result) (t .ensures) in
     let ts = transitionsIn (p .records .now) (s .i) in (
       omega arith,

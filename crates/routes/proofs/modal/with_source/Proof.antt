@@ -11,7 +11,7 @@ add-requires : tie.Need-add-requires
 add-requires c κs = search needs
 
 returns : tie.Need-returns
-returns c α v w e l q h f = rw (sym (c .before .before .leads .ensures α v e l q) ∙ c .before .if1 .taken) (c .add .ensures w h f)
+returns c α v w e l q h f = rw (sym (c .before .before .before .leads .ensures α v e l q) ∙ c .before .before .if1 .taken) (c .add .ensures w h f)
 
 returns-2 : tie.Need-returns-2
 returns-2 c α v w e l q h f = rw (sym (c .before .leads .ensures α v e l q) ∙ c .if1 .left) f

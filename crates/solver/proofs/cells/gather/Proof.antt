@@ -55,7 +55,7 @@ loop-again c =
     let at = part-at w (a .from) (a .n) (c .before .before .before .before .before .before .pre .1) s (omega arith) in (
       omega arith,
       ⊎-elim
-          (λ b. b .2 ∙ b .1 .ensures (filled v s) (omega (arith, filled-long v s (omega arith))) (c .before .before .before .loop .inv .1) ∙ ap (words wordCount) (filled-in v s (omega arith) (at ∙ eq-eqb _ _ (b .0 .taken))))
+          (λ b. b .3 ∙ b .2 .ensures (filled v s) (omega (arith, filled-long v s (omega arith))) (c .before .before .before .loop .inv .1) ∙ ap (words wordCount) (filled-in v s (omega arith) (at ∙ eq-eqb _ _ (b .0 .taken))))
           (λ b. b .1 ∙ c .before .before .before .loop .inv .1 ∙ ap (words wordCount) (filled-out v s (omega arith) (at ∙ ne-eqb _ _ (b .0 .left))))
           (c .if1 .came),
     )

@@ -4,18 +4,17 @@ use mathlib.Core.Bool.{true, false, _||_}
 use mathlib.Core.List.{List, [], map}
 use Prim.Native.Nat.{ℕ, _+_, _-_, _<_, _≤_}
 use native.Mathlib.Omega.{arith}
-use native.Mathlib.Decide.{ℕ-discrete}
+use native.Mathlib.Decide.{decLt, ℕ-discrete}
 use borrow.Author.Tests.{eq-eqb, ne-eqb}
 use lib.Dec.{eqb}
-use lib.ListN.{length, getD, set, take, length-replicate}
-use lib.Seq.{getD-set-same, getD-set-other}
+use lib.ListN.{length, getD, set, take, length-replicate, List·getD-eq-default}
+use lib.Seq.{getD-set-same, getD-set-other, set-set}
 use Rattle.sets.specs.Size.{wordCount}
 use Rattle.sets.specs.Set.{Set, start}
 use Rattle.sets.specs.Loop.{Step, Run}
 use Rattle.sets.specs.Words.{words}
 use Rattle.sets.proofs.Lists.{false-true}
-use Rattle.sets.proofs.Words.{words-inj}
-use Rattle.solver.specs.Limits.{blockLimit}
+use Rattle.sets.proofs.Words.{words-length, words-inj}
 use Rattle.solver.specs.Cells.{Valuation, bind}
 use Rattle.solver.proofs.Solving.{bind-sized}
 use Rattle.solver.proofs.Turns.{Left}
@@ -32,20 +31,31 @@ use Rattle.routes.specs.Evaluating.{Masks, Shown, Asks, KindAt, Evaluate
 use Rattle.routes.specs.declared.Value.{Value}
 use Rattle.routes.proofs.DirectLaws.{direct-sized}
 use Rattle.routes.proofs.Turns.{turn, stops-here, goes-on}
-use Rattle.routes.proofs.NodeLaws.{Binder, apart, by-kind, inside, in-arities, operand, block-of, block-fits, arity, ruled-by}
+use Rattle.routes.proofs.NodeLaws.{Binder, apart, by-kind, inside, in-arities, operand, block-of, arity, ruled-by}
 use Rattle.routes.proofs.EvaluateLaws.{value, all-spent}
+
+-- a row that is the words of a set is one of the rows
+row-inside : (rows : List (List ℕ)) (k : ℕ) (v : Set) → getD rows k [] ≡ words wordCount v → k < length rows
+row-inside rows k v e = go (decLt k (length rows))
+  where
+    go : Dec (k < length rows) → k < length rows
+    go (yes l) = l
+    go (no l) =
+        let none : getD rows k [] ≡ [] = List·getD-eq-default rows [] {n = k} (omega (arith, l)) in
+        omega (arith, ap length (sym none ∙ e), words-length wordCount v)
 
 -- the rows show the valuation with v for binder i if the words of v are put into i's row
 shown-bind : {n : ℕ} {t : List Node} {rows : List (List ℕ)} {ρ : Valuation} → Shown n t rows ρ → (i : ℕ) → Binder t i
-    → {k : ℕ} → k ≡ binderCount (take i t) → k < length rows → (v : Set) {held : List ℕ} → length v ≡ n → held ≡ words wordCount v
+    → {k : ℕ} → k ≡ binderCount (take i t) → (v : Set) {held : List ℕ} → length v ≡ n → held ≡ words wordCount v
     → Shown n t (set rows k held) (bind ρ i v)
 unfolding bind
-shown-bind {n} {t} {rows} {ρ} s i b {k} e l v {held} z w =
+shown-bind {n} {t} {rows} {ρ} s i b {k} e v {held} z w =
     record { sized = bind-sized ρ i v (s .sized) z; row = λ j h is. go j h is (ℕ-discrete j i) }
   where
     go : (j : ℕ) → j < length t → isBinder (nodeAt t j) ≡ true → Dec (j ≡ i)
         → getD (set rows k held) (binderCount (take j t)) [] ≡ words wordCount (bind ρ i v j)
-    go j h is (yes p) = rw (eq-eqb j i p, p, ← e, getD-set-same rows k held [] l) w
+    go j h is (yes p) =
+        rw (eq-eqb j i p, p, ← e, getD-set-same rows k held [] (row-inside rows k (ρ i) (rw e (s .row i (b .inside) (b .is))))) w
     go j h is (no p) =
         rw (ne-eqb j i p, getD-set-other rows k (binderCount (take j t)) held [] (λ x. p (apart t j i (record { inside = h; is = is }) b (x ∙ e))))
         (s .row j h is)
@@ -55,10 +65,10 @@ abbrev body : Header → List ℕ → List ℕ → ℕ → (ℕ → Action) → 
 body h records formula at action ρ u =
     Direct (h .states) (transitionsIn records (h .transitions)) (formulaAt action (nodesIn formula (h .nodes)) (at + 1)) (bind ρ at u)
 
--- At the loop's head, with the words `held` after `before` rounds: what is left of the binder's run.
-pub record Going (h : Header) (records formula labels : List ℕ) (rows : List (List ℕ)) (at kind used limit : ℕ)
-    (held : List ℕ) (before : ℕ) : Type 0 where
-  pub room : length rows ≡ blockLimit
+-- At the loop's head, with the words `held` after `before` rounds: what is left of the binder's run. The inner rows are the rows but for its own.
+pub record Going (h : Header) (records formula labels : List ℕ) (rows : List (List ℕ)) (at kind used limit block : ℕ)
+    (held : List ℕ) (before : ℕ) (inner : List (List ℕ)) : Type 0 where
+  pub others : (row : List ℕ) → set inner block row ≡ set rows block row
   pub low : used ≤ before
   pub high : before ≤ limit
   pub left : (action : ℕ → Action) (ρ : Valuation) (v : Set) (r : ℕ)
@@ -67,10 +77,11 @@ pub record Going (h : Header) (records formula labels : List ℕ) (rows : List (
       → Left (body h records formula at action ρ) (h .states) held v before (used + r)
 
 -- it begins
-pub begins : {h : Header} {records formula labels : List ℕ} {rows : List (List ℕ)} {at kind used limit : ℕ} → length rows ≡ blockLimit → used ≤ limit
-    → {held : List ℕ} → held ≡ words wordCount (start (h .states) (eqb kind 8)) → Going h records formula labels rows at kind used limit held used
-begins {h} {kind = kind} room l e = record {
-  room = room;
+pub begins : {h : Header} {records formula labels : List ℕ} {rows : List (List ℕ)} {at kind used limit block : ℕ} → used ≤ limit
+    → {held : List ℕ} → held ≡ words wordCount (start (h .states) (eqb kind 8))
+    → Going h records formula labels rows at kind used limit block held used rows
+begins {h} {kind = kind} l e = record {
+  others = λ row. refl;
   low = omega arith;
   high = l;
   left = λ action ρ v r m s run.
@@ -113,14 +124,14 @@ module _ {h : Header} {records formula labels blocks : List ℕ} {at used limit 
   binder-rule action ρ v r =
       ruled-by q k action ρ v r (λ m. Run (body h records formula at action ρ) (start n (eqb m 8)) v r) refl (λ d. d) (λ d. d)
 
-  module _ {block : ℕ} (b : block ≡ getD blocks at 0) {rows : List (List ℕ)} {held : List ℕ} {before : ℕ}
-      (g : Going h records formula labels rows at kind used limit held before) {one : Value}
-      (turned : Evaluated h records formula labels (set rows block held) (at + 1) before limit one) where
+  module _ {block : ℕ} (b : block ≡ getD blocks at 0) {rows : List (List ℕ)} {held : List ℕ} {before : ℕ} {inner : List (List ℕ)}
+      (g : Going h records formula labels rows at kind used limit block held before inner) {one : Value}
+      (turned : Evaluated h records formula labels (set inner block held) (at + 1) before limit one) where
     -- the rows of the turn show the set held
     shows : (action : ℕ → Action) (ρ : Valuation) {u : Set} {total : ℕ} → Shown n t rows ρ
-        → (l : Left (body h records formula at action ρ) n held u before total) → Shown n t (set rows block held) (bind ρ at (l .now))
+        → (l : Left (body h records formula at action ρ) n held u before total) → Shown n t (set inner block held) (bind ρ at (l .now))
     shows action ρ s l =
-        shown-bind s at own-binder (block-of q own-binder b) (omega (arith, g .room, block-fits q own-binder b)) (l .now) (l .sized) (l .are)
+        rw (g .others held) (shown-bind s at own-binder (block-of q own-binder b) (l .now) (l .sized) (l .are))
 
     -- the rounds are spent in the body,
     pub body-spent : one .spent ≡ true → Evaluated h records formula labels rows at used limit one
@@ -168,9 +179,9 @@ module _ {h : Header} {records formula labels blocks : List ℕ} {at used limit 
 
       -- It is another: the loop goes on from there.
       pub replaced : one .rounds < limit → ¬ (one .set ≡ held)
-          → Going h records formula labels rows at kind used limit (one .set) (one .rounds + 1)
+          → Going h records formula labels rows at kind used limit block (one .set) (one .rounds + 1) (set inner block held)
       replaced m other = record {
-        room = g .room;
+        others = λ row. set-set inner block held row ∙ g .others row;
         low = omega (arith, g .low, turned .low e);
         high = omega arith;
         left = λ action ρ v r masks s run.

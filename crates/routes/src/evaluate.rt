@@ -33,13 +33,13 @@ fn evaluate(
     formula: &[u8],
     labels: &[u64],
     blocks: &[u8],
-    sets: [[u64; WORDS]; BLOCKS],
+    sets: &[[u64; WORDS]; BLOCKS],
     at: usize,
     used: u64,
     limit: u64,
 ) -> Value
     requires { ⌜ Asks h (now records) (now formula) (now labels) (now blocks) at used limit ⌝ }
-    ensures { λ r. ⌜ Evaluated h (now (records .entry)) (now (formula .entry)) (now (labels .entry)) sets at used limit r ⌝ }
+    ensures { λ r. ⌜ Evaluated h (now (records .entry)) (now (formula .entry)) (now (labels .entry)) (now (sets .entry)) at used limit r ⌝ }
 {
     let x = node_at(formula, at);
     let kind = x.kind;
@@ -112,14 +112,14 @@ fn pair(
     formula: &[u8],
     labels: &[u64],
     blocks: &[u8],
-    sets: [[u64; WORDS]; BLOCKS],
+    sets: &[[u64; WORDS]; BLOCKS],
     at: usize,
     kind: usize,
     used: u64,
     limit: u64,
 ) -> Value
     requires { ⌜ Asks h (now records) (now formula) (now labels) (now blocks) at used limit × KindAt (now formula) (h .nodes) at kind 2 3 ⌝ }
-    ensures { λ r. ⌜ Evaluated h (now (records .entry)) (now (formula .entry)) (now (labels .entry)) sets at used limit r ⌝ }
+    ensures { λ r. ⌜ Evaluated h (now (records .entry)) (now (formula .entry)) (now (labels .entry)) (now (sets .entry)) at used limit r ⌝ }
 {
     let one = evaluate(
         h,
@@ -167,14 +167,14 @@ fn modal(
     formula: &[u8],
     labels: &[u64],
     blocks: &[u8],
-    sets: [[u64; WORDS]; BLOCKS],
+    sets: &[[u64; WORDS]; BLOCKS],
     at: usize,
     kind: usize,
     used: u64,
     limit: u64,
 ) -> Value
     requires { ⌜ Asks h (now records) (now formula) (now labels) (now blocks) at used limit × KindAt (now formula) (h .nodes) at kind 4 5 ⌝ }
-    ensures { λ r. ⌜ Evaluated h (now (records .entry)) (now (formula .entry)) (now (labels .entry)) sets at used limit r ⌝ }
+    ensures { λ r. ⌜ Evaluated h (now (records .entry)) (now (formula .entry)) (now (labels .entry)) (now (sets .entry)) at used limit r ⌝ }
 {
     let one = evaluate(
         h,
@@ -215,20 +215,20 @@ fn binder(
     formula: &[u8],
     labels: &[u64],
     blocks: &[u8],
-    sets: [[u64; WORDS]; BLOCKS],
+    sets: &[[u64; WORDS]; BLOCKS],
     at: usize,
     kind: usize,
     used: u64,
     limit: u64,
 ) -> Value
     requires { ⌜ Asks h (now records) (now formula) (now labels) (now blocks) at used limit × KindAt (now formula) (h .nodes) at kind 7 8 ⌝ }
-    ensures { λ r. ⌜ Evaluated h (now (records .entry)) (now (formula .entry)) (now (labels .entry)) sets at used limit r ⌝ }
+    ensures { λ r. ⌜ Evaluated h (now (records .entry)) (now (formula .entry)) (now (labels .entry)) (now (sets .entry)) at used limit r ⌝ }
 {
     let k = wide(blocks[at]);
     let mut held = sets::initial(h.states, kind == 8);
     let mut before = used;
+    let mut s = *sets;
     loop {
-        let mut s = sets;
         s[k] = held;
         let one = evaluate(
             h,
@@ -236,7 +236,7 @@ fn binder(
             formula,
             labels,
             blocks,
-            s,
+            &s,
             at + 1,
             before,
             limit,
@@ -276,17 +276,8 @@ fn evaluate_root(h: Header, records: &[u8], actions: &[u8], formula: &[u8], limi
 {
     let labels = masks_of(actions, h.actions, formula, h.nodes);
     let blocks = blocks_of(formula, h.nodes);
-    evaluate(
-        h,
-        records,
-        formula,
-        &labels,
-        &blocks,
-        [[0u64; WORDS]; BLOCKS],
-        0,
-        0,
-        limit,
-    )
+    let sets = [[0u64; WORDS]; BLOCKS];
+    evaluate(h, records, formula, &labels, &blocks, &sets, 0, 0, limit)
 }
 
 // The set of the formula of an accepted case.

@@ -27,42 +27,42 @@ use Rattle.sets.proofs.initial.Reads as initial-reads
 use Rattle.routes.proofs.evaluate.+binder+evaluate+modal+pair.{statement}
 use Rattle.routes.proofs.evaluate.+binder+evaluate+modal+pair.Tie.{close}
 
-abbrev μ-binder : Measures 4 binder-kinds.ps ℕ
+abbrev μ-binder : Measures 5 binder-kinds.ps ℕ
 μ-binder κs a = 2 * (a .0 .nodes - a .1 .1 .1 .1 .1 .1 .0)
 
-abbrev μ-evaluate : Measures 4 evaluate-kinds.ps ℕ
+abbrev μ-evaluate : Measures 5 evaluate-kinds.ps ℕ
 μ-evaluate κs a = 2 * (a .0 .nodes - a .1 .1 .1 .1 .1 .1 .0) + 1
 
-abbrev μ-modal : Measures 4 modal-kinds.ps ℕ
+abbrev μ-modal : Measures 5 modal-kinds.ps ℕ
 μ-modal κs a = 2 * (a .0 .nodes - a .1 .1 .1 .1 .1 .1 .0)
 
-abbrev μ-pair : Measures 4 pair-kinds.ps ℕ
+abbrev μ-pair : Measures 5 pair-kinds.ps ℕ
 μ-pair κs a = 2 * (a .0 .nodes - a .1 .1 .1 .1 .1 .1 .0)
 
-abbrev binder-at : ℕ → In 4 binder-kinds.ps
-binder-at t = and 4 binder-kinds.ps (is 4 binder-kinds.ps μ-binder t) binder.Pre
+abbrev binder-at : ℕ → In 5 binder-kinds.ps
+binder-at t = and 5 binder-kinds.ps (is 5 binder-kinds.ps μ-binder t) binder.Pre
 
-abbrev binder-below : ℕ → In 4 binder-kinds.ps
-binder-below t = and 4 binder-kinds.ps (falls 4 binder-kinds.ps _<_ μ-binder t) binder.Pre
+abbrev binder-below : ℕ → In 5 binder-kinds.ps
+binder-below t = and 5 binder-kinds.ps (falls 5 binder-kinds.ps _<_ μ-binder t) binder.Pre
 
-abbrev evaluate-at : ℕ → In 4 evaluate-kinds.ps
-evaluate-at t = and 4 evaluate-kinds.ps (is 4 evaluate-kinds.ps μ-evaluate t) evaluate.Pre
+abbrev evaluate-at : ℕ → In 5 evaluate-kinds.ps
+evaluate-at t = and 5 evaluate-kinds.ps (is 5 evaluate-kinds.ps μ-evaluate t) evaluate.Pre
 
-abbrev evaluate-below : ℕ → In 4 evaluate-kinds.ps
+abbrev evaluate-below : ℕ → In 5 evaluate-kinds.ps
 evaluate-below t =
-    and 4 evaluate-kinds.ps (falls 4 evaluate-kinds.ps _<_ μ-evaluate t) evaluate.Pre
+    and 5 evaluate-kinds.ps (falls 5 evaluate-kinds.ps _<_ μ-evaluate t) evaluate.Pre
 
-abbrev modal-at : ℕ → In 4 modal-kinds.ps
-modal-at t = and 4 modal-kinds.ps (is 4 modal-kinds.ps μ-modal t) modal.Pre
+abbrev modal-at : ℕ → In 5 modal-kinds.ps
+modal-at t = and 5 modal-kinds.ps (is 5 modal-kinds.ps μ-modal t) modal.Pre
 
-abbrev modal-below : ℕ → In 4 modal-kinds.ps
-modal-below t = and 4 modal-kinds.ps (falls 4 modal-kinds.ps _<_ μ-modal t) modal.Pre
+abbrev modal-below : ℕ → In 5 modal-kinds.ps
+modal-below t = and 5 modal-kinds.ps (falls 5 modal-kinds.ps _<_ μ-modal t) modal.Pre
 
-abbrev pair-at : ℕ → In 4 pair-kinds.ps
-pair-at t = and 4 pair-kinds.ps (is 4 pair-kinds.ps μ-pair t) pair.Pre
+abbrev pair-at : ℕ → In 5 pair-kinds.ps
+pair-at t = and 5 pair-kinds.ps (is 5 pair-kinds.ps μ-pair t) pair.Pre
 
-abbrev pair-below : ℕ → In 4 pair-kinds.ps
-pair-below t = and 4 pair-kinds.ps (falls 4 pair-kinds.ps _<_ μ-pair t) pair.Pre
+abbrev pair-below : ℕ → In 5 pair-kinds.ps
+pair-below t = and 5 pair-kinds.ps (falls 5 pair-kinds.ps _<_ μ-pair t) pair.Pre
 
 abbrev binder-calls : ℕ → binder-lts.Claims
 binder-calls t = (wide-reads.Asked, wide-reads.Learnt, initial-reads.Asked, initial-reads.Learnt, evaluate-below t, evaluate.Post, equal-reads.Asked, equal-reads.Learnt)
@@ -77,11 +77,11 @@ abbrev pair-calls : ℕ → pair-lts.Claims
 pair-calls t = (evaluate-below t, evaluate.Post, combine-reads.Asked, combine-reads.Learnt)
 
 abbrev binder-Inv-loop : binder-lts.InvT-loop
-binder-Inv-loop h records formula labels blocks sets at kind used limit k held₀ before₀ held before =
-    Going h records formula labels sets at kind used limit held before
+binder-Inv-loop h records formula labels blocks sets at kind used limit k held₀ before₀ s₀ held before s =
+    Going h records formula labels sets at kind used limit k held before s
 
 abbrev binder-μ-loop : binder-lts.MeasureT-loop
-binder-μ-loop h records formula labels blocks sets at kind used limit k held₀ before₀ held before =
+binder-μ-loop h records formula labels blocks sets at kind used limit k held₀ before₀ s₀ held before s =
     limit - before
 
 binder-shared-slice-read-wide : (t : ℕ) → binder-lts.Need-shared-slice-read-wide (binder-calls t) (binder-at t) binder.Post binder-Inv-loop binder-μ-loop
@@ -94,34 +94,34 @@ binder-initial-requires : (t : ℕ) → binder-lts.Need-initial-requires (binder
 binder-initial-requires t c κs = c .before .before .before .before .before .before .pre .1 .0 .parts .model .few-states
 
 binder-loop-holds : (t : ℕ) → binder-lts.Need-loop-holds (binder-calls t) (binder-at t) binder.Post binder-Inv-loop binder-μ-loop
-binder-loop-holds t c = begins (omega arith) (c .before .before .before .before .before .before .before .pre .1 .0 .within) (c .initial .ensures)
+binder-loop-holds t c = begins (c .before .before .before .before .before .before .before .before .pre .1 .0 .within) (c .before .initial .ensures)
 
 binder-mul-s : (t : ℕ) → binder-lts.Need-mul-s (binder-calls t) (binder-at t) binder.Post binder-Inv-loop binder-μ-loop
-binder-mul-s t c = let p = c .before .before .before .before .before .before .before .before .pre .1 in omega (arith, block-fits (p .0) (own-binder (p .0) (p .1)) (c .before .before .wide .ensures))
+binder-mul-s t c = let p = c .before .before .before .before .before .before .before .before .before .pre .1 in omega (arith, block-fits (p .0) (own-binder (p .0) (p .1)) (c .before .before .before .wide .ensures))
 
 binder-array-set-from-s : (t : ℕ) → binder-lts.Need-array-set-from-s (binder-calls t) (binder-at t) binder.Post binder-Inv-loop binder-μ-loop
-binder-array-set-from-s t c = let p = c .before .before .before .before .before .before .before .before .pre .1 in block-fits (p .0) (own-binder (p .0) (p .1)) (c .before .before .wide .ensures)
+binder-array-set-from-s t c = let p = c .before .before .before .before .before .before .before .before .before .pre .1 in block-fits (p .0) (own-binder (p .0) (p .1)) (c .before .before .before .wide .ensures)
 
 binder-add-evaluate : (t : ℕ) → binder-lts.Need-add-evaluate (binder-calls t) (binder-at t) binder.Post binder-Inv-loop binder-μ-loop
-binder-add-evaluate t c = let p = c .before .before .before .before .before .before .before .before .pre .1 in omega (arith, p .0 .node, p .0 .parts .nodes .holds .few)
+binder-add-evaluate t c = let p = c .before .before .before .before .before .before .before .before .before .before .pre .1 in omega (arith, p .0 .node, p .0 .parts .nodes .holds .few)
 
 binder-evaluate-requires : (t : ℕ) → binder-lts.Need-evaluate-requires (binder-calls t) (binder-at t) binder.Post binder-Inv-loop binder-μ-loop
-binder-evaluate-requires t c κs = let p = c .before .before .before .before .before .before .before .before .pre .1 in (omega (arith, c .before .before .before .before .before .before .before .before .pre .0, p .0 .node), binder-body (p .0) (p .1) (c .loop .inv .high))
+binder-evaluate-requires t c κs = let p = c .before .before .before .before .before .before .before .before .before .before .pre .1 in (omega (arith, c .before .before .before .before .before .before .before .before .before .before .pre .0, p .0 .node), binder-body (p .0) (p .1) (c .before .loop .inv .high))
 
 binder-returns : (t : ℕ) → binder-lts.Need-returns (binder-calls t) (binder-at t) binder.Post binder-Inv-loop binder-μ-loop
-binder-returns t c = let p = c .before .before .before .before .before .before .before .before .before .before .pre .1 in body-spent (p .0) (p .1) (c .before .before .before .before .wide .ensures) (c .before .before .loop .inv) (c .before .evaluate .ensures) (c .if1 .taken)
+binder-returns t c = let p = c .before .before .before .before .before .before .before .before .before .before .before .before .pre .1 in body-spent (p .0) (p .1) (c .before .before .before .before .before .before .wide .ensures) (c .before .before .before .loop .inv) (c .before .evaluate .ensures) (c .if1 .taken)
 
 binder-returns-2 : (t : ℕ) → binder-lts.Need-returns-2 (binder-calls t) (binder-at t) binder.Post binder-Inv-loop binder-μ-loop
-binder-returns-2 t c = let p = c .before .before .before .before .before .before .before .before .before .before .before .before .pre .1 in round-spent (p .0) (p .1) (c .before .before .before .before .before .before .wide .ensures) (c .before .before .before .before .loop .inv) (c .before .before .before .evaluate .ensures) (c .before .before .if1 .left) (c .if2 .taken)
+binder-returns-2 t c = let p = c .before .before .before .before .before .before .before .before .before .before .before .before .before .before .pre .1 in round-spent (p .0) (p .1) (c .before .before .before .before .before .before .before .before .wide .ensures) (c .before .before .before .before .before .loop .inv) (c .before .before .before .evaluate .ensures) (c .before .before .if1 .left) (c .if2 .taken)
 
 binder-equal-requires : (t : ℕ) → binder-lts.Need-equal-requires (binder-calls t) (binder-at t) binder.Post binder-Inv-loop binder-μ-loop
 binder-equal-requires t c κs = tt
 
-binder-add-t33 : (t : ℕ) → binder-lts.Need-add-t33 (binder-calls t) (binder-at t) binder.Post binder-Inv-loop binder-μ-loop
-binder-add-t33 t c = omega (arith, c .before .before .before .before .if2 .left)
+binder-add-t34 : (t : ℕ) → binder-lts.Need-add-t34 (binder-calls t) (binder-at t) binder.Post binder-Inv-loop binder-μ-loop
+binder-add-t34 t c = omega (arith, c .before .before .before .before .if2 .left)
 
 binder-returns-3 : (t : ℕ) → binder-lts.Need-returns-3 (binder-calls t) (binder-at t) binder.Post binder-Inv-loop binder-μ-loop
-binder-returns-3 t c = let p = c .before .before .before .before .before .before .before .before .before .before .before .before .before .before .before .before .pre .1 in stopped (p .0) (p .1) (c .before .before .before .before .before .before .before .before .before .before .wide .ensures) (c .before .before .before .before .before .before .before .before .loop .inv) (c .before .before .before .before .before .before .before .evaluate .ensures) (c .before .before .before .before .before .before .if1 .left) (c .before .before .before .before .if2 .left) (c .before .equal .ensures .yes-if (c .if3 .taken))
+binder-returns-3 t c = let p = c .before .before .before .before .before .before .before .before .before .before .before .before .before .before .before .before .before .before .pre .1 in stopped (p .0) (p .1) (c .before .before .before .before .before .before .before .before .before .before .before .before .wide .ensures) (c .before .before .before .before .before .before .before .before .before .loop .inv) (c .before .before .before .before .before .before .before .evaluate .ensures) (c .before .before .before .before .before .before .if1 .left) (c .before .before .before .before .if2 .left) (c .before .equal .ensures .yes-if (c .if3 .taken))
 
 binder-add-before : (t : ℕ) → binder-lts.Need-add-before (binder-calls t) (binder-at t) binder.Post binder-Inv-loop binder-μ-loop
 binder-add-before t c = omega (arith, c .before .before .before .before .if2 .left)
@@ -130,7 +130,7 @@ binder-loop-less : (t : ℕ) → binder-lts.Need-loop-less (binder-calls t) (bin
 binder-loop-less t c = omega (arith, c .before .before .before .before .before .before .before .evaluate .ensures .low (c .before .before .before .before .before .before .if1 .left), c .before .before .before .before .if2 .left)
 
 binder-loop-again : (t : ℕ) → binder-lts.Need-loop-again (binder-calls t) (binder-at t) binder.Post binder-Inv-loop binder-μ-loop
-binder-loop-again t c = let p = c .before .before .before .before .before .before .before .before .before .before .before .before .before .before .before .before .pre .1 in replaced (p .0) (p .1) (c .before .before .before .before .before .before .before .before .before .before .wide .ensures) (c .before .before .before .before .before .before .before .before .loop .inv) (c .before .before .before .before .before .before .before .evaluate .ensures) (c .before .before .before .before .before .before .if1 .left) (c .before .before .before .before .if2 .left) (c .before .equal .ensures .no-if (c .if3 .left))
+binder-loop-again t c = let p = c .before .before .before .before .before .before .before .before .before .before .before .before .before .before .before .before .before .before .pre .1 in replaced (p .0) (p .1) (c .before .before .before .before .before .before .before .before .before .before .before .before .wide .ensures) (c .before .before .before .before .before .before .before .before .before .loop .inv) (c .before .before .before .before .before .before .before .evaluate .ensures) (c .before .before .before .before .before .before .if1 .left) (c .before .before .before .before .if2 .left) (c .before .equal .ensures .no-if (c .if3 .left))
 
 evaluate-node-at-requires : (t : ℕ) → evaluate-lts.Need-node-at-requires (evaluate-calls t) (evaluate-at t) evaluate.Post
 evaluate-node-at-requires t c κs = let q = c .before .before .before .before .pre .1 in omega (arith, q .node, q .parts .nodes .holds .inside)
@@ -138,8 +138,8 @@ evaluate-node-at-requires t c κs = let q = c .before .before .before .before .p
 evaluate-initial-requires : (t : ℕ) → evaluate-lts.Need-initial-requires (evaluate-calls t) (evaluate-at t) evaluate.Post
 evaluate-initial-requires t c κs = c .before .before .before .before .before .before .pre .1 .parts .model .few-states
 
-evaluate-add-t19 : (t : ℕ) → evaluate-lts.Need-add-t19 (evaluate-calls t) (evaluate-at t) evaluate.Post
-evaluate-add-t19 t c = let q = c .before .before .before .before .before .before .before .pre .1 in omega (arith, q .node, q .parts .nodes .holds .few)
+evaluate-add-t18 : (t : ℕ) → evaluate-lts.Need-add-t18 (evaluate-calls t) (evaluate-at t) evaluate.Post
+evaluate-add-t18 t c = let q = c .before .before .before .before .before .before .before .pre .1 in omega (arith, q .node, q .parts .nodes .holds .few)
 
 evaluate-returns : (t : ℕ) → evaluate-lts.Need-returns (evaluate-calls t) (evaluate-at t) evaluate.Post
 evaluate-returns t c = let q = c .before .before .before .before .before .before .before .pre .1 in constant-done q (kind-at q (c .before .before .node-at .ensures) (omega arith) (c .before .if1 .taken)) (c .initial .ensures)
@@ -165,11 +165,11 @@ evaluate-wide-requires t c κs = tt
 evaluate-mul-held : (t : ℕ) → evaluate-lts.Need-mul-held (evaluate-calls t) (evaluate-at t) evaluate.Post
 evaluate-mul-held t c = let q = c .before .before .before .before .before .before .before .before .before .before .before .pre .1 in omega (arith, block-fits q (binder-of q (c .before .before .before .before .before .before .node-at .ensures) (c .before .before .if4 .taken)) (c .wide .ensures))
 
-evaluate-array-copy-out-held : (t : ℕ) → evaluate-lts.Need-array-copy-out-held (evaluate-calls t) (evaluate-at t) evaluate.Post
-evaluate-array-copy-out-held t c = let q = c .before .before .before .before .before .before .before .before .before .before .before .pre .1 in block-fits q (binder-of q (c .before .before .before .before .before .before .node-at .ensures) (c .before .before .if4 .taken)) (c .wide .ensures)
+evaluate-element-copy-out-held : (t : ℕ) → evaluate-lts.Need-element-copy-out-held (evaluate-calls t) (evaluate-at t) evaluate.Post
+evaluate-element-copy-out-held t c = let q = c .before .before .before .before .before .before .before .before .before .before .before .pre .1 in block-fits q (binder-of q (c .before .before .before .before .before .before .node-at .ensures) (c .before .before .if4 .taken)) (c .wide .ensures)
 
-evaluate-add-t24 : (t : ℕ) → evaluate-lts.Need-add-t24 (evaluate-calls t) (evaluate-at t) evaluate.Post
-evaluate-add-t24 t c = let q = c .before .before .before .before .before .before .before .before .before .before .before .before .pre .1 in omega (arith, q .node, q .parts .nodes .holds .few)
+evaluate-add-t21 : (t : ℕ) → evaluate-lts.Need-add-t21 (evaluate-calls t) (evaluate-at t) evaluate.Post
+evaluate-add-t21 t c = let q = c .before .before .before .before .before .before .before .before .before .before .before .before .pre .1 in omega (arith, q .node, q .parts .nodes .holds .few)
 
 evaluate-returns-4 : (t : ℕ) → evaluate-lts.Need-returns-4 (evaluate-calls t) (evaluate-at t) evaluate.Post
 evaluate-returns-4 t c = let q = c .before .before .before .before .before .before .before .before .before .before .before .before .pre .1 in variable-done q (c .before .before .before .before .before .before .before .node-at .ensures) (c .before .before .before .if4 .taken) (c .before .wide .ensures)
@@ -240,7 +240,7 @@ pub +binder+evaluate+modal+pair-spec : {M : Type 1} → statement M
     (binder-returns t)
     (binder-returns-2 t)
     (binder-equal-requires t)
-    (binder-add-t33 t)
+    (binder-add-t34 t)
     (binder-returns-3 t)
     (binder-add-before t)
     (binder-loop-less t)
@@ -251,7 +251,7 @@ pub +binder+evaluate+modal+pair-spec : {M : Type 1} → statement M
     evaluate.Post
     (evaluate-node-at-requires t)
     (evaluate-initial-requires t)
-    (evaluate-add-t19 t)
+    (evaluate-add-t18 t)
     (evaluate-returns t)
     (evaluate-pair-requires t)
     (evaluate-returns-2 t)
@@ -260,8 +260,8 @@ pub +binder+evaluate+modal+pair-spec : {M : Type 1} → statement M
     (evaluate-shared-slice-read-wide t)
     (evaluate-wide-requires t)
     (evaluate-mul-held t)
-    (evaluate-array-copy-out-held t)
-    (evaluate-add-t24 t)
+    (evaluate-element-copy-out-held t)
+    (evaluate-add-t21 t)
     (evaluate-returns-4 t)
     (evaluate-binder-requires t)
     (evaluate-returns-5 t))

@@ -66,15 +66,12 @@ unfolding wholeFormulas
 whole-step zero k ks = let e : k ≡ 0 - 1 + k = omega arith in ap (λ (n : ℕ). wholeFormulas n ks) e
 whole-step (suc due) k ks = let e : due + k ≡ suc due - 1 + k = omega arith in ap (λ (n : ℕ). wholeFormulas n ks) e
 
-exactly-step : (due k : ℕ) (ks : List ℕ) → ¬ (due ≡ 0) → exactly due (k ∷ ks) ≡ exactly (due - 1 + k) ks
-unfolding exactly
-exactly-step zero k ks d = absurd (d refl)
-exactly-step (suc due) k ks d = let e : due + k ≡ suc due - 1 + k = omega arith in ap (λ (n : ℕ). exactly n ks) e
-
-span-step : (due k : ℕ) (ks : List ℕ) → ¬ (due ≡ 0) → span due (k ∷ ks) ≡ suc (span (due - 1 + k) ks)
-unfolding span
-span-step zero k ks d = absurd (d refl)
-span-step (suc due) k ks d = let e : due + k ≡ suc due - 1 + k = omega arith in ap (λ (n : ℕ). suc (span n ks)) e
+due-step :
+    (due k : ℕ) (ks : List ℕ) → ¬ (due ≡ 0)
+    → (span due (k ∷ ks) ≡ suc (span (due - 1 + k) ks)) × (exactly due (k ∷ ks) ≡ exactly (due - 1 + k) ks)
+unfolding span exactly
+due-step zero k ks d = absurd (d refl)
+due-step (suc due) k ks d = let e : due + k ≡ suc due - 1 + k = omega arith in (ap (λ (n : ℕ). suc (span n ks)) e, ap (λ (n : ℕ). exactly n ks) e)
 
 -- ---- the loops
 
@@ -121,30 +118,17 @@ module _ (kinds part : List ℕ) (k i : ℕ) where
       → wholeFormulas due (aritiesFrom kinds part k i) ≡ wholeFormulas (due - 1 + a) (aritiesFrom kinds part k (i + 1))
   whole-next due x a h is n = ap (wholeFormulas due) (one-left x a h is n) ∙ whole-step due a _
 
-  -- exactly so many formulas
-  pub exactly-done : (due : ℕ) → k ≤ i → exactly due (aritiesFrom kinds part k i) ≡ eqb due 0
-  unfolding exactly
-  exactly-done due h = ap (exactly due) (none-left h)
+  -- so many formulas: how far they go, and whether no node is after them
+  pub due-done : (due : ℕ) → k ≤ i → (span due (aritiesFrom kinds part k i) ≡ 0) × (exactly due (aritiesFrom kinds part k i) ≡ eqb due 0)
+  unfolding span exactly
+  due-done due h = rw (none-left h) (refl, refl)
 
-  pub exactly-none : (due : ℕ) → due ≡ 0 → i < k → exactly due (aritiesFrom kinds part k i) ≡ false
-  unfolding exactly
-  exactly-none due z h = rw z (ap (exactly 0) (one-left (nodeIn part i) _ h refl refl))
+  pub due-none : (due : ℕ) → due ≡ 0 → i < k → (span due (aritiesFrom kinds part k i) ≡ 0) × (exactly due (aritiesFrom kinds part k i) ≡ false)
+  unfolding span exactly
+  due-none due z h = rw (z, one-left (nodeIn part i) _ h refl refl) (refl, refl)
 
-  pub exactly-next :
+  pub due-next :
       (due : ℕ) (x : Node) (a : ℕ) → ¬ (due ≡ 0) → i < k → x ≡ nodeIn part i → a ≡ arityIn kinds x
-      → exactly due (aritiesFrom kinds part k i) ≡ exactly (due - 1 + a) (aritiesFrom kinds part k (i + 1))
-  exactly-next due x a d h is n = ap (exactly due) (one-left x a h is n) ∙ exactly-step due a _ d
-
-  -- how far so many formulas go
-  pub span-done : (due : ℕ) → k ≤ i → span due (aritiesFrom kinds part k i) ≡ 0
-  unfolding span
-  span-done due h = ap (span due) (none-left h)
-
-  pub span-none : (due : ℕ) → due ≡ 0 → i < k → span due (aritiesFrom kinds part k i) ≡ 0
-  unfolding span
-  span-none due z h = rw z (ap (span 0) (one-left (nodeIn part i) _ h refl refl))
-
-  pub span-next :
-      (due : ℕ) (x : Node) (a : ℕ) → ¬ (due ≡ 0) → i < k → x ≡ nodeIn part i → a ≡ arityIn kinds x
-      → span due (aritiesFrom kinds part k i) ≡ suc (span (due - 1 + a) (aritiesFrom kinds part k (i + 1)))
-  span-next due x a d h is n = ap (span due) (one-left x a h is n) ∙ span-step due a _ d
+      → (span due (aritiesFrom kinds part k i) ≡ suc (span (due - 1 + a) (aritiesFrom kinds part k (i + 1))))
+      × (exactly due (aritiesFrom kinds part k i) ≡ exactly (due - 1 + a) (aritiesFrom kinds part k (i + 1)))
+  due-next due x a d h is n = rw (one-left x a h is n) (due-step due a _ d)

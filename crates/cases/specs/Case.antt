@@ -1,13 +1,12 @@
 -- A case: a model and a formula; and the distinct transitions.
-use mathlib.Core.Bool.{Bool, true, false, cond, _&&_}
+use mathlib.Core.Bool.{Bool, cond, _&&_}
 use mathlib.Core.List.{List, [], _∷_, map}
-use Prim.Native.Nat.{ℕ, zero, suc, _+_}
+use Prim.Native.Nat.{ℕ, _+_}
 use lib.Dec.{eqb}
 use lib.ListN.{length, getD, take}
 use Rattle.sets.specs.Lists.{range}
-use Rattle.cases.specs.Action.{Action}
 use Rattle.cases.specs.Formula.{Formula}
-use Rattle.cases.specs.Prefix.{Node, actionAt, formulaAt}
+use Rattle.cases.specs.Prefix.{actionAt, formulaAt}
 use Rattle.cases.specs.File.{Transition, stateCount, labelCount, initialState, transitionTable, actionTable, formulaTable}
 
 pub record Case : Type 0 where

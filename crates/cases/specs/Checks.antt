@@ -1,5 +1,6 @@
 -- What the functions that check a case ask and promise.
 use mathlib.Core.Path.{_≡_}
+use mathlib.Core.Bool.{Bool, true, false}
 use mathlib.Core.List.{List, map}
 use Prim.Native.Nat.{ℕ, _*_, _≤_}
 use lib.ListN.{length}
@@ -9,6 +10,7 @@ use Rattle.cases.specs.declared.Header.{Header}
 use Rattle.cases.specs.Limits.{labelLimit, transitionLimit, actionLimit, nodeLimit}
 use Rattle.cases.specs.Prefix.{Node}
 use Rattle.cases.specs.File.{u16, transitionsAt, actionsAt, formulaStart, fileEnd, headerOf, Transition, transitionIn, nodeIn}
+use Rattle.cases.specs.Conditions.{actionOk, nodeOk}
 
 -- the first transitions, or nodes, of a part
 unfoldable pub transitionsIn : List ℕ → ℕ → List Transition
@@ -16,6 +18,11 @@ transitionsIn part m = map (transitionIn part) (range 0 m)
 
 unfoldable pub nodesIn : List ℕ → ℕ → List Node
 nodesIn part k = map (nodeIn part) (range 0 k)
+
+-- the test of a formula node, by the number of action nodes, or of an action node, by the number of labels
+abbrev pub fits : Bool → ℕ → Node → Bool
+fits true = nodeOk
+fits false = actionOk
 
 -- a part holds k nodes, and they are not more than `limit`
 pub record Holds (limit : ℕ) (part : List ℕ) (k : ℕ) : Type 0 where

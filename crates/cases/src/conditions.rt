@@ -10,7 +10,7 @@ ghost use mathlib.Core.Path.{_≡_};
 ghost use mathlib.Core.Bool.{cond, not};
 ghost use mathlib.Core.List.{map};
 ghost use Prim.Native.Nat.{_-_, _*_, _≤_, _<_};
-ghost use lib.ListN.{length, getD};
+ghost use lib.ListN.{length, getD, drop};
 ghost use Rattle.sets.specs.Lists.{range, all};
 ghost use Rattle.solver.specs.Conditions.{between};
 ghost use Rattle.solver.specs.Outcome.{firstOf};
@@ -20,7 +20,7 @@ ghost use Rattle.cases.specs.File.{headerOf};
 ghost use Rattle.cases.specs.Conditions.{badCount, badOffset, badLength, badModel, badActions, badFormula, badVariable, tooDeep};
 ghost use Rattle.cases.specs.Conditions.{transitionOk, actionOk, nodeOk, boundOk, isBinder, binderCount};
 ghost use Rattle.cases.specs.Conditions.{modelConditions, formulaConditions, caseRefusal};
-ghost use Rattle.cases.specs.Checks.{transitionsIn, nodesIn, Counts, Laid, Holds};
+ghost use Rattle.cases.specs.Checks.{transitionsIn, nodesIn, fits, Counts, Laid, Holds};
 
 // Whether a count is below `low` or above `high`.
 fn outside(low: usize, high: usize, count: usize) -> bool
@@ -157,14 +157,43 @@ fn action_holds(x: Node, l: usize) -> bool
     x.arg == 0
 }
 
-// Whether that holds of each of the a nodes of a part.
-fn actions_hold(part: &[u8], a: usize, l: usize) -> bool
-    requires { ⌜ Holds actionLimit (now part) a ⌝ }
-    ensures { λ r. ⌜ r ≡ all (actionOk l) (nodesIn (now (part .entry)) a) ⌝ }
+// Whether the kind and the argument of a formula node are right, with a action nodes.
+fn node_holds(x: Node, a: usize) -> bool
+    ensures { λ r. ⌜ r ≡ nodeOk a x ⌝ }
+{
+    if 8 < x.kind {
+        return false;
+    }
+    if x.kind == 6 {
+        return true;
+    }
+    if x.kind == 4 {
+        return x.arg < a;
+    }
+    if x.kind == 5 {
+        return x.arg < a;
+    }
+    x.arg == 0
+}
+
+// Whether they are right of a node of either table: of a formula node with `bound` action nodes, or of an action node with `bound` labels.
+fn node_fits(x: Node, bound: usize, formula: bool) -> bool
+    ensures { λ r. ⌜ r ≡ fits formula bound x ⌝ }
+{
+    if formula {
+        return node_holds(x, bound);
+    }
+    action_holds(x, bound)
+}
+
+// Whether that holds of each of the k nodes of a part.
+fn all_fit(part: &[u8], k: usize, bound: usize, formula: bool) -> bool
+    requires { ⌜ 4 * k ≤ length (now part) ⌝ }
+    ensures { λ r. ⌜ r ≡ all (fits formula bound) (nodesIn (now (part .entry)) k) ⌝ }
 {
     let mut i = 0;
-    while i < a {
-        if !action_holds(node_at(part, i), l) {
+    while i < k {
+        if !node_fits(node_at(part, i), bound, formula) {
             return false;
         }
         i += 1;
@@ -194,7 +223,7 @@ fn bad_actions(case: &[u8]) -> bool
 {
     let h = header(case);
     let second = h.second;
-    if !actions_hold(&case[second..], h.actions, h.labels) {
+    if !all_fit(&case[second..], h.actions, h.labels, false) {
         return true;
     }
     !actions_whole(&case[second..], h.actions)
@@ -247,56 +276,35 @@ fn formula_arity(kind: usize) -> usize
     0
 }
 
-// Whether the kind and the argument of a formula node are right, with a action nodes.
-fn node_holds(x: Node, a: usize) -> bool
-    ensures { λ r. ⌜ r ≡ nodeOk a x ⌝ }
-{
-    if 8 < x.kind {
-        return false;
-    }
-    if x.kind == 6 {
-        return true;
-    }
-    if x.kind == 4 {
-        return x.arg < a;
-    }
-    if x.kind == 5 {
-        return x.arg < a;
-    }
-    x.arg == 0
+// A subtree: the node after it, and whether it is whole with no node after it.
+struct Subtree {
+    end: usize,
+    last: bool,
 }
 
-// Whether that holds of each of the f nodes of a part.
-fn nodes_hold(part: &[u8], f: usize, a: usize) -> bool
+// The subtree of a node.
+fn subtree_at(part: &[u8], f: usize, at: usize) -> Subtree
     requires { ⌜ Holds nodeLimit (now part) f ⌝ }
-    ensures { λ r. ⌜ r ≡ all (nodeOk a) (nodesIn (now (part .entry)) f) ⌝ }
-{
-    let mut i = 0;
-    while i < f {
-        if !node_holds(node_at(part, i), a) {
-            return false;
-        }
-        i += 1;
-    }
-    true
-}
-
-// Whether the f nodes of a part are one whole formula.
-fn one_formula(part: &[u8], f: usize) -> bool
-    requires { ⌜ Holds nodeLimit (now part) f ⌝ }
-    ensures { λ r. ⌜ r ≡ exactly 1 (map (arityIn formulaArities) (nodesIn (now (part .entry)) f)) ⌝ }
+    ensures ends { λ r. ⌜ r .end ≡ endOf (map (arityIn formulaArities) (nodesIn (now (part .entry)) f)) at ⌝ }
+    ensures last { λ r. ⌜ r .last ≡ exactly 1 (drop at (map (arityIn formulaArities) (nodesIn (now (part .entry)) f))) ⌝ }
 {
     let mut due = 1;
-    let mut i = 0;
+    let mut i = at;
     while i < f {
         if due == 0 {
-            return false;
+            return Subtree {
+                end: i,
+                last: false,
+            };
         }
         let x = node_at(part, i);
         due = due - 1 + formula_arity(x.kind);
         i += 1;
     }
-    due == 0
+    Subtree {
+        end: i,
+        last: due == 0,
+    }
 }
 
 // Condition 8.
@@ -304,10 +312,11 @@ fn bad_formula(actions: usize, part: &[u8], f: usize) -> bool
     requires { ⌜ Holds nodeLimit (now part) f ⌝ }
     ensures { λ r. ⌜ r ≡ badFormula actions (nodesIn (now (part .entry)) f) ⌝ }
 {
-    if !nodes_hold(part, f, actions) {
+    if !all_fit(part, f, actions, true) {
         return true;
     }
-    !one_formula(part, f)
+    let subtree = subtree_at(part, f, 0);
+    !subtree.last
 }
 
 // The node after the subtree of a node.
@@ -315,17 +324,8 @@ pub fn subtree_end(part: &[u8], f: usize, at: usize) -> usize
     requires { ⌜ Holds nodeLimit (now part) f ⌝ }
     ensures { λ r. ⌜ r ≡ endOf (map (arityIn formulaArities) (nodesIn (now (part .entry)) f)) at ⌝ }
 {
-    let mut due = 1;
-    let mut i = at;
-    while i < f {
-        if due == 0 {
-            return i;
-        }
-        let x = node_at(part, i);
-        due = due - 1 + formula_arity(x.kind);
-        i += 1;
-    }
-    i
+    let subtree = subtree_at(part, f, at);
+    subtree.end
 }
 
 // Whether a node is a mu or a nu.

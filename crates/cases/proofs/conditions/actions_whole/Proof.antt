@@ -37,11 +37,11 @@ loop-less : tie.Need-loop-less Inv-loop μ-loop
 loop-less c = omega arith
 
 loop-again : tie.Need-loop-again Inv-loop μ-loop
-loop-again c = (omega arith, omega arith, c .before .before .before .before .loop .inv .2 ∙ whole-next actionArities (c .before .before .before .before .before .before .args .part .now) (c .before .before .before .before .before .before .args .a) (c .before .before .before .before .loop .i) (c .before .before .before .before .loop .due) _ _ (c .before .before .before .loop-test .taken) (c .before .before .node-at .ensures) (c .action-arity .ensures .0) ∙ rw (c .before .one-less .ensures) refl)
+loop-again c = (omega arith, omega arith, c .before .before .before .before .loop .inv .2 ∙ whole-next actionArities _ _ _ _ _ _ (c .before .before .before .loop-test .taken) (c .before .before .node-at .ensures) (c .action-arity .ensures .0) ∙ rw (c .before .one-less .ensures) refl)
 
 returns : tie.Need-returns Inv-loop μ-loop
 unfolding nodesIn
-returns c = sym (c .before .loop .inv .2 ∙ whole-done actionArities (c .before .before .before .args .part .now) (c .before .before .before .args .a) (c .before .loop .i) (c .before .loop .due) (c .loop-test .left))
+returns c = sym (c .before .loop .inv .2 ∙ whole-done actionArities _ _ _ _ (c .loop-test .left))
 
 pub actions-whole-spec : {M : Type 1} → statement M
 actions-whole-spec =

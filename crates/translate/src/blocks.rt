@@ -4,7 +4,7 @@ use crate::bytes::put_two;
 use crate::shapes::SHAPES;
 ghost use mathlib.Core.Path.{_≡_};
 ghost use mathlib.Core.List.{[], _∷_};
-ghost use Prim.Native.Nat.{ℕ, _+_, _*_, _≤_};
+ghost use Prim.Native.Nat.{ℕ, _+_, _-_, _*_, _≤_, _<_};
 ghost use lib.Dec.{eqb};
 ghost use lib.ListN.{length, take};
 ghost use Rattle.sets.specs.Size.{stateLimit};
@@ -53,6 +53,14 @@ fn write_block(out: &mut [u8], done: usize, n: usize, x: Shape, i: usize) -> usi
     done + 2
 }
 
+// The outermost of the last `left` of k nodes.
+fn outermost(k: usize, left: usize) -> usize
+    requires { ⌜ (0 < left) × (left ≤ k) ⌝ }
+    ensures { λ r. ⌜ r ≡ k - left ⌝ }
+{
+    k - left
+}
+
 // The blocks of the first k nodes, where there are n states. Answers how many numbers are written.
 pub fn write_blocks(out: &mut [u8], n: usize, shapes: [Shape; SHAPES], k: usize) -> usize
     requires { ⌜ (n ≤ stateLimit) × (k ≤ nodeLimit + 1)
@@ -60,10 +68,13 @@ pub fn write_blocks(out: &mut [u8], n: usize, shapes: [Shape; SHAPES], k: usize)
     ensures { λ r. ⌜ WroteAll (blockNumbers (shapeBlocks n 0 (take k shapes))) (now (out .entry)) (now (out .exit)) r ⌝ }
 {
     let mut done: usize = 0;
-    for i in 0..k {
+    let mut left = k;
+    while 0 < left {
+        let i = outermost(k, left);
         let x = shapes[i];
         let more = write_block(out, done, n, x, i);
         done = more;
+        left -= 1;
     }
     done
 }

@@ -4,7 +4,7 @@ use crate::nodes::write_cells;
 use crate::nodes::write_operands;
 use crate::shapes::SHAPES;
 ghost use mathlib.Core.List.{map};
-ghost use Prim.Native.Nat.{ℕ, _+_, _*_, _^_, _<_, _≤_};
+ghost use Prim.Native.Nat.{_+_, _*_, _^_, _<_, _≤_};
 ghost use lib.ListN.{length, take};
 ghost use Rattle.sets.specs.Lists.{range};
 ghost use Rattle.sets.specs.Size.{stateLimit};

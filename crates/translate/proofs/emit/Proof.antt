@@ -4,10 +4,6 @@ use Rattle.translate.proofs.Filling.{cells-few, sizes, sizes-just, shor
 use Rattle.translate.proofs.emit.Statement.{statement}
 use Rattle.translate.proofs.emit.Tie as tie
 use Rattle.translate.proofs.emit.Reads as reads
-use Rattle.translate.proofs.emit.Lts as lts
-use Rattle.translate.proofs.blocks.block_count.Reads as block-count-reads
-use Rattle.translate.proofs.fill.Reads as fill-reads
-use Rattle.translate.proofs.totals.operand_total.Reads as operand-total-reads
 
 -- src/lib.rt:86:9
 block-count-requires : tie.Need-block-count-requires

@@ -5,11 +5,6 @@ use Rattle.translate.proofs.Filling.{cells-few, blocks-are, operands-ar
 use Rattle.translate.proofs.fill.Statement.{statement}
 use Rattle.translate.proofs.fill.Tie as tie
 use Rattle.translate.proofs.fill.Reads as reads
-use Rattle.translate.proofs.fill.Lts as lts
-use Rattle.translate.proofs.blocks.write_blocks.Reads as write-blocks-reads
-use Rattle.translate.proofs.bytes.put_header.Reads as put-header-reads
-use Rattle.translate.proofs.rows.write_all_cells.Reads as write-all-cells-reads
-use Rattle.translate.proofs.rows.write_all_operands.Reads as write-all-operands-reads
 
 -- src/lib.rt:61:13
 mul-c : tie.Need-mul-c

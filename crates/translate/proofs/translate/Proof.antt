@@ -3,9 +3,6 @@ use Rattle.translate.proofs.Translations.{case-refused}
 use Rattle.translate.proofs.translate.Statement.{statement}
 use Rattle.translate.proofs.translate.Tie as tie
 use Rattle.translate.proofs.translate.Reads as reads
-use Rattle.translate.proofs.translate.Lts as lts
-use Rattle.cases.proofs.refusal.Reads as refusal-reads
-use Rattle.translate.proofs.write_case.Reads as write-case-reads
 
 -- src/lib.rt:115:9
 refusal-requires : tie.Need-refusal-requires

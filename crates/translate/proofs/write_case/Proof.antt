@@ -5,12 +5,6 @@ use Rattle.translate.proofs.CaseParts.{opened, handed, left-as}
 use Rattle.translate.proofs.write_case.Statement.{statement}
 use Rattle.translate.proofs.write_case.Tie as tie
 use Rattle.translate.proofs.write_case.Reads as reads
-use Rattle.translate.proofs.write_case.Lts as lts
-use Rattle.cases.proofs.header_of.Reads as header-reads
-use Rattle.translate.proofs.emit.Reads as emit-reads
-use Rattle.translate.proofs.shapes.added_before.Reads as added-before-reads
-use Rattle.translate.proofs.shapes.first_appearances.Reads as first-appearances-reads
-use Rattle.translate.proofs.shapes.shapes_of.Reads as shapes-of-reads
 
 -- src/lib.rt:101:9
 header-requires : tie.Need-header-requires

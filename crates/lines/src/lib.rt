@@ -1,10 +1,14 @@
-// A case by both routes, as the programs run it: their limit, their memory, and how the numbers are printed.
+// Both routes and solve, as the programs run them: their limit, their memory, and how the numbers are printed.
 use libc::STDOUT_FILENO;
 use routes::Numbers;
 use routes::numbers_of;
+use routes::solving_answer;
 use sets::WORDS;
 use solver::CELLS;
 ghost use mathlib.Core.Path.{_≡_};
+ghost use Rattle.sets.specs.Size.{wordCount};
+ghost use Rattle.solver.specs.Limits.{cellLimit};
+ghost use Rattle.solver.specs.Outcome.{solveOutcome};
 ghost use Rattle.routes.specs.Route.{direct, equation, outcomeOf, shown};
 ghost use Rattle.routes.specs.Examples.{lends};
 
@@ -30,15 +34,24 @@ pub fn by_direct(case: &[u8]) -> Numbers
     numbers_of(routes::direct(case, &mut marks, LIMIT))
 }
 
+// The numbers of solving an equation file, with fresh memory.
+pub fn by_file(file: &[u8]) -> Numbers
+    ensures { λ r. ⌜ shown r ≡ solveOutcome (now (file .entry)) cellLimit wordCount 1_000_000 ⌝ }
+{
+    let mut work = [0u8; CELLS];
+    let mut marks = [0u64; WORDS];
+    numbers_of(solving_answer(solver::solve(file, &mut work, &mut marks, LIMIT)))
+}
+
 // A space, and a number.
 fn print_number(n: u64) {
     io::write_all(STDOUT_FILENO, b" ");
     io::print_decimal(STDOUT_FILENO, n);
 }
 
-// The name of a route, and its numbers.
-pub fn print(route: &[u8], numbers: Numbers) {
-    io::write_all(STDOUT_FILENO, route);
+// A name, as E and D of the routes, and its numbers.
+pub fn print(name: &[u8], numbers: Numbers) {
+    io::write_all(STDOUT_FILENO, name);
     print_number(numbers.refusal);
     print_number(numbers.verdict);
     print_number(numbers.count);

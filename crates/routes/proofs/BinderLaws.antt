@@ -14,10 +14,10 @@ use Rattle.sets.specs.Set.{Set, start}
 use Rattle.sets.specs.Loop.{Step, Run}
 use Rattle.sets.specs.Words.{words}
 use Rattle.sets.proofs.Lists.{false-true}
+use Rattle.sets.proofs.Turns.{Left, turn, stops-here, goes-on}
 use Rattle.sets.proofs.Words.{words-length, words-inj}
 use Rattle.solver.specs.Cells.{Valuation, bind}
 use Rattle.solver.proofs.Solving.{bind-sized}
-use Rattle.solver.proofs.Turns.{Left}
 use Rattle.cases.specs.Action.{Action}
 use Rattle.cases.specs.declared.Header.{Header}
 use Rattle.cases.specs.declared.Node.{Node}
@@ -30,7 +30,6 @@ use Rattle.routes.specs.Direct.{Direct}
 use Rattle.routes.specs.Evaluating.{Masks, Shown, Asks, KindAt, Evaluated}
 use Rattle.routes.specs.declared.Value.{Value}
 use Rattle.routes.proofs.DirectLaws.{direct-sized}
-use Rattle.routes.proofs.Turns.{turn, stops-here, goes-on}
 use Rattle.routes.proofs.NodeLaws.{Binder, apart, by-kind, inside, in-arities, operand, block-of, arity, ruled-by}
 use Rattle.routes.proofs.EvaluateLaws.{value, all-spent}
 
@@ -65,6 +64,10 @@ abbrev body : Header → List ℕ → List ℕ → ℕ → (ℕ → Action) → 
 body h records formula at action ρ u =
     Direct (h .states) (transitionsIn records (h .transitions)) (formulaAt action (nodesIn formula (h .nodes)) (at + 1)) (bind ρ at u)
 
+-- words that hold a set of n states
+abbrev pub Holding : ℕ → List ℕ → Set → Type 0
+Holding n held v = (length v ≡ n) × (held ≡ words wordCount v)
+
 -- At the loop's head, with the words `held` after `before` rounds: what is left of the binder's run. The inner rows are the rows but for its own.
 pub record Going (h : Header) (records formula labels : List ℕ) (rows : List (List ℕ)) (at kind used limit block : ℕ)
     (held : List ℕ) (before : ℕ) (inner : List (List ℕ)) : Type 0 where
@@ -74,7 +77,7 @@ pub record Going (h : Header) (records formula labels : List ℕ) (rows : List (
   pub left : (action : ℕ → Action) (ρ : Valuation) (v : Set) (r : ℕ)
       → Masks action (nodesIn formula (h .nodes)) labels → Shown (h .states) (nodesIn formula (h .nodes)) rows ρ
       → Run (body h records formula at action ρ) (start (h .states) (eqb kind 8)) v r
-      → Left (body h records formula at action ρ) (h .states) held v before (used + r)
+      → Left (body h records formula at action ρ) (Holding (h .states) held) v before (used + r)
 
 -- it begins
 pub begins : {h : Header} {records formula labels : List ℕ} {rows : List (List ℕ)} {at kind used limit block : ℕ} → used ≤ limit
@@ -85,7 +88,7 @@ begins {h} {kind = kind} l e = record {
   low = omega arith;
   high = l;
   left = λ action ρ v r m s run.
-      record { now = start (h .states) (eqb kind 8); sized = length-replicate (h .states) (eqb kind 8); are = e; rest = r; run = run; sum = refl };
+      record { now = start (h .states) (eqb kind 8); held = (length-replicate (h .states) (eqb kind 8), e); rest = r; run = run; sum = refl };
 }
 
 module _ {h : Header} {records formula labels blocks : List ℕ} {at used limit : ℕ} (q : Asks h records formula labels blocks at used limit)
@@ -129,9 +132,9 @@ module _ {h : Header} {records formula labels blocks : List ℕ} {at used limit 
       (turned : Evaluated h records formula labels (set inner block held) (at + 1) before limit one) where
     -- the rows of the turn show the set held
     shows : (action : ℕ → Action) (ρ : Valuation) {u : Set} {total : ℕ} → Shown n t rows ρ
-        → (l : Left (body h records formula at action ρ) n held u before total) → Shown n t (set inner block held) (bind ρ at (l .now))
+        → (l : Left (body h records formula at action ρ) (Holding n held) u before total) → Shown n t (set inner block held) (bind ρ at (l .now))
     shows action ρ s l =
-        rw (g .others held) (shown-bind s at own-binder (block-of q own-binder b) (l .now) (l .sized) (l .are))
+        rw (g .others held) (shown-bind s at own-binder (block-of q own-binder b) (l .now) (l .held .0) (l .held .1))
 
     -- the rounds are spent in the body,
     pub body-spent : one .spent ≡ true → Evaluated h records formula labels rows at used limit one
@@ -151,7 +154,7 @@ module _ {h : Header} {records formula labels blocks : List ℕ} {at used limit 
 
       -- or the body's set is there.
       found : (action : ℕ → Action) (ρ : Valuation) {u : Set} {total : ℕ} → Masks action t labels → Shown n t rows ρ
-          → (l : Left (body h records formula at action ρ) n held u before total) (w : Set) (r : ℕ) → body h records formula at action ρ (l .now) w r
+          → (l : Left (body h records formula at action ρ) (Holding n held) u before total) (w : Set) (r : ℕ) → body h records formula at action ρ (l .now) w r
           → (length w ≡ n) × (one .set ≡ words wordCount w) × (r ≡ one .rounds - before)
       found action ρ m s l w r d =
           let y = turned .right e action (bind ρ at (l .now)) w r (m, shows action ρ s l, d) in
@@ -173,8 +176,8 @@ module _ {h : Header} {records formula labels blocks : List ℕ} {at used limit 
             let l = g .left action ρ v r (d .0) (d .1) (binder-rule action ρ v r (d .2)) in
             let x = stops-here (λ w c f.
             let y = found action ρ (d .0) (d .1) l w c f in
-            (same w (l .now) (y .0) (l .sized) (sym (y .1) ∙ is ∙ l .are), y .2)) (l .run) in
-            (omega (arith, x .1, l .sum, turned .low e), is ∙ l .are ∙ ap (words wordCount) (sym (x .0)));
+            (same w (l .now) (y .0) (l .held .0) (sym (y .1) ∙ is ∙ l .held .1), y .2)) (l .run) in
+            (omega (arith, x .1, l .sum, turned .low e), is ∙ l .held .1 ∙ ap (words wordCount) (sym (x .0)));
       }
 
       -- It is another: the loop goes on from there.
@@ -188,8 +191,8 @@ module _ {h : Header} {records formula labels blocks : List ℕ} {at used limit 
             let l = g .left action ρ v r masks s run in
             let x = turn (l .run) in
             let y = found action ρ masks s l (x .next) (x .took) (x .step) in
-            let z = goes-on (λ p. other (y .1 ∙ ap (words wordCount) p ∙ sym (l .are))) (λ w c f.
+            let z = goes-on (λ p. other (y .1 ∙ ap (words wordCount) p ∙ sym (l .held .1))) (λ w c f.
             let f = found action ρ masks s l w c f in
             (same w (x .next) (f .0) (y .0) (sym (f .1) ∙ y .1), f .2)) (l .run) in
-            record { now = x .next; sized = y .0; are = y .1; rest = z .0; run = z .1; sum = omega (arith, z .2, l .sum, turned .low e) };
+            record { now = x .next; held = (y .0, y .1); rest = z .0; run = z .1; sum = omega (arith, z .2, l .sum, turned .low e) };
       }

@@ -11,7 +11,6 @@ pub mod Shallow
 pub mod BlockCounts
 pub mod DirectLaws
 pub mod IterateLaws
-pub mod Turns
 pub mod TableLaws
 pub mod RootLaws
 pub mod DirectAnswers

@@ -2,6 +2,7 @@
 pub mod Lists
 pub mod Order
 pub mod FixedPoint
+pub mod Turns
 pub mod Words
 pub mod Masks
 pub mod Stores

@@ -1,7 +1,7 @@
 -- Laws of the words that hold a set, for any number of words.
 use mathlib.Core.Path.{_≡_, refl, sym, ap, _∙_}
 use mathlib.Core.Logic.{_≢_}
-use mathlib.Core.Bool.{Bool, true, false}
+use mathlib.Core.Bool.{Bool, true, false, cond}
 use mathlib.Core.List.{List, [], _∷_, map}
 use Prim.Native.Nat.{ℕ, zero, suc, _+_, _-_, _*_, _/_, _%_, _^_, _<_, _≤_, min}
 use native.Mathlib.Omega.{arith}
@@ -11,7 +11,7 @@ use native.Mathlib.Numerals.{add-one, one-add}
 use lib.ListN.{length, getD, set, take, drop, replicate, length-set, length-take, length-drop, length-replicate, getD-replicate}
 use lib.Seq.{getD-take, getD-drop, drop-drop, ext-getD, getD-set-same, getD-set-other, drop-set-add, drop-set-lt, take-set-le, take-set-lt}
 use lib.Dec.{eqb, lit<}
-use lib.Bits.{bitOr, or-step, or-zero-r}
+use lib.Bits.{bitAnd, bitOr, and-step, or-step, and-zero-l, or-zero-r}
 use lib.Pow.{pow-mono, pow-pos, shl-exact, shr-shr}
 use Rattle.sets.specs.Lists.{range}
 use Rattle.sets.specs.Set.{Set, has, start, size}
@@ -49,7 +49,7 @@ number-fits [] = omega arith
 number-fits (b ∷ v) = omega (arith, number-fits v, pow-suc 2 (length v), bit-small b)
 
 -- one state more is one bit more
-pub number-add : (v : Set) (s : ℕ) → s < length v → bitOr (number v) (2 ^ s) ≡ number (set v s true)
+number-add : (v : Set) (s : ℕ) → s < length v → bitOr (number v) (2 ^ s) ≡ number (set v s true)
 unfolding number
 number-add [] s h = absurd (omega arith)
 number-add (b ∷ v) zero h =
@@ -64,6 +64,42 @@ number-add (b ∷ v) (suc s) h =
 
     even : (x : ℕ) → x * 2 % 2 ≡ 0
     even x = omega arith
+
+-- a number of m bits, and a mask of all m
+mask-all : (v : Set) (m : ℕ) → length v ≤ m → bitAnd (number v) (2 ^ m - 1) ≡ number v
+unfolding number
+mask-all [] m h = and-zero-l (2 ^ m - 1)
+mask-all (b ∷ v) zero h = absurd (omega arith)
+mask-all (b ∷ v) (suc m) h =
+    let l : (2 ^ suc m - 1) / 2 ≡ 2 ^ m - 1 = omega (arith, pow-suc 2 m, pow-pos m) in
+    let o : (2 ^ suc m - 1) % 2 ≡ 1 = omega (arith, pow-suc 2 m, pow-pos m) in
+    and-step (bit b + 2 * number v) (2 ^ suc m - 1)
+    ∙ rw (half b (number v), odd b (number v), l, o, mask-all v m (omega arith)) (omega (arith, bit-small b))
+
+-- one state less is one bit less, in words of m bits
+number-remove : (v : Set) (s m : ℕ) → s < length v → length v ≤ m → bitAnd (number v) (2 ^ m - 1 - 2 ^ s) ≡ number (set v s false)
+unfolding number
+number-remove [] s m h g = absurd (omega arith)
+number-remove (b ∷ v) s zero h g = absurd (omega arith)
+number-remove (b ∷ v) zero (suc m) h g =
+    let l : (2 ^ suc m - 1 - 2 ^ 0) / 2 ≡ 2 ^ m - 1 = omega (arith, pow-suc 2 m, pow-pos m, pow-zero 2) in
+    let o : (2 ^ suc m - 1 - 2 ^ 0) % 2 ≡ 0 = omega (arith, pow-suc 2 m, pow-pos m, pow-zero 2) in
+    and-step (bit b + 2 * number v) (2 ^ suc m - 1 - 2 ^ 0)
+    ∙ rw (half b (number v), odd b (number v), l, o, mask-all v m (omega arith)) (omega (arith, bit-small b))
+number-remove (b ∷ v) (suc s) (suc m) h g =
+    let wide : 2 ^ suc s ≤ 2 ^ m = pow-mono {i = suc s} {j = m} (omega arith) in
+    let l : (2 ^ suc m - 1 - 2 ^ suc s) / 2 ≡ 2 ^ m - 1 - 2 ^ s = omega (arith, pow-suc 2 m, pow-suc 2 s, pow-pos s) in
+    let o : (2 ^ suc m - 1 - 2 ^ suc s) % 2 ≡ 1 = omega (arith, pow-suc 2 m, pow-suc 2 s, pow-pos s) in
+    and-step (bit b + 2 * number v) (2 ^ suc m - 1 - 2 ^ suc s)
+    ∙ rw (half b (number v), odd b (number v), l, o, number-remove v s m (omega arith) (omega arith)) (omega (arith, bit-small b))
+
+-- a 64-bit word with the bits of a mask, or without them
+abbrev pub with-bits : ℕ → ℕ → Bool → ℕ
+with-bits word mask there = cond there (bitOr word mask) (bitAnd word (2 ^ 64 - 1 - mask))
+
+number-put : (v : Set) (s : ℕ) (there : Bool) → s < length v → length v ≤ 64 → with-bits (number v) (2 ^ s) there ≡ number (set v s there)
+number-put v s true h g = number-add v s h
+number-put v s false h g = number-remove v s 64 h g
 
 -- no state has the number 0
 pub number-none : (m : ℕ) → number (replicate m false) ≡ 0
@@ -249,14 +285,15 @@ words-store k v w q x h e f =
     go j l (yes d) = rw (d, getD-set-same (words k v) q x 0 (omega (arith, words-length k v))) e
     go j l (no n) = rw (getD-set-other (words k v) q j x 0 n, f j n) (word-at k v j l)
 
--- a state is added by one bit of one word
-pub words-add : (k : ℕ) (v : Set) (s : ℕ) → s < length v → s < 64 * k
-    → set (words k v) (s / 64) (bitOr (getD (words k v) (s / 64) 0) ((1 * 2 ^ (s % 64)) % 2 ^ 64)) ≡ words k (set v s true)
-words-add k v s h b =
+-- a state is put in by one bit of one word, and taken out by all others of it
+pub words-put : (k : ℕ) (v : Set) (s : ℕ) (there : Bool) → s < length v → s < 64 * k
+    → set (words k v) (s / 64) (with-bits (getD (words k v) (s / 64) 0) ((1 * 2 ^ (s % 64)) % 2 ^ 64) there) ≡ words k (set v s there)
+words-put k v s there h b =
     let inside : s % 64 < length (part v (s / 64)) = simp (length-take, length-drop) (omega arith) in
-    words-store k v (set v s true) (s / 64) _ (omega arith)
-    (rw (word-at k v (s / 64) (omega arith), shifted-one (s % 64) (omega arith), part-same v s true) (number-add (part v (s / 64)) (s % 64) inside))
-    (λ j n. part-other v s j true n)
+    words-store k v (set v s there) (s / 64) _ (omega arith)
+    (rw (word-at k v (s / 64) (omega arith), shifted-one (s % 64) (omega arith), part-same v s there)
+    (number-put (part v (s / 64)) (s % 64) there inside (simp length-take (omega arith))))
+    (λ j n. part-other v s j there n)
 
 -- ---- counting states
 

@@ -1,6 +1,6 @@
 -- The loop of the paper: work out, count a round, stop if equal, else replace.
 use mathlib.Core.Path.{_≡_}
-use mathlib.Core.Bool.{Bool, true, false}
+use mathlib.Core.Bool.{true, false}
 use Prim.Native.Nat.{ℕ, zero, suc, _+_}
 use Rattle.sets.specs.Set.{Set, same}
 

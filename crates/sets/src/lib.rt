@@ -2,7 +2,7 @@
 ghost use mathlib.Core.Path.{_≡_};
 ghost use mathlib.Core.Bool.{true, false, not, cond, _&&_, _||_};
 ghost use mathlib.Core.List.{map, _++_};
-ghost use Prim.Native.Nat.{ℕ, _<_, _≤_};
+ghost use Prim.Native.Nat.{ℕ, _-_, _^_, _<_, _≤_};
 ghost use lib.Bits.{bitAnd, bitOr};
 ghost use lib.ListN.{length, set, take, drop};
 ghost use Rattle.sets.specs.Size.{wordCount, stateLimit};
@@ -63,13 +63,31 @@ pub fn test(set: &[u64; WORDS], s: usize) -> bool
     (set[s / 64] >> (s % 64)) % 2 == 1
 }
 
+// A word with the bits of a mask, or without them.
+fn word_with(word: u64, mask: u64, there: bool) -> u64
+    ensures { λ r. ⌜ r ≡ cond there (bitOr word mask) (bitAnd word (2 ^ 64 - 1 - mask)) ⌝ }
+{
+    if there {
+        return word | mask;
+    }
+    word & !mask
+}
+
+// Puts state s into the set, or takes it out.
+pub fn put(held: &mut [u64; WORDS], s: usize, there: bool)
+    requires { ⌜ s < stateLimit ⌝ }
+    ensures { λ _. ⌜ ((v : Set) → s < length v → now (held .entry) ≡ words wordCount v → now (held .exit) ≡ words wordCount (set v s there)) ⌝ }
+{
+    let k = s / 64;
+    held[k] = word_with(held[k], 1 << (s % 64), there);
+}
+
 // Puts state s into the set.
 pub fn add(held: &mut [u64; WORDS], s: usize)
     requires { ⌜ s < stateLimit ⌝ }
     ensures { λ _. ⌜ ((v : Set) → s < length v → now (held .entry) ≡ words wordCount v → now (held .exit) ≡ words wordCount (set v s true)) ⌝ }
 {
-    let k = s / 64;
-    held[k] = held[k] | (1 << (s % 64));
+    put(held, s, true);
 }
 
 // Whether two sets hold the same words.

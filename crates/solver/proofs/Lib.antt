@@ -12,6 +12,6 @@ pub mod BlockRules
 pub mod CellRules
 pub mod Lookup
 pub mod Shown
-pub mod Gathered
+pub mod Sides
 pub mod Turns
 pub mod Runs

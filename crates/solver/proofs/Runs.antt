@@ -1,68 +1,128 @@
 -- What solving from block 0 gives: the solution of all blocks and the rounds that the definitions give.
-use mathlib.Core.Path.{_≡_, sym, ap, _∙_}
-use mathlib.Core.Bool.{Bool, false}
+use mathlib.Core.Path.{_≡_, sym, ap, subst, fun-ext, _∙_}
+use mathlib.Core.Bool.{Bool, false, _&&_}
 use mathlib.Core.List.{List, [], map}
-use Prim.Native.Nat.{ℕ, zero, suc, _≤_}
+use Prim.Native.Nat.{ℕ, zero, suc, _+_, _<_, _≤_}
 use native.Mathlib.Omega.{arith}
-use lib.ListN.{length, getD, replicate, length-replicate, getD-replicate, length-map, List·getD-map}
-use lib.Seq.{ext-getD}
+use native.Mathlib.Decide.{ℕ-discrete, decLt}
+use lib.Dec.{ltb}
+use lib.ListN.{length, getD, set, replicate, length-replicate, getD-replicate, length-map, List·getD-map}
+use lib.Seq.{ext-getD, getD-set-same, getD-set-other}
+use borrow.Author.Tests.{lt-ltb, le-ltb}
 use Rattle.sets.specs.Size.{wordCount}
-use Rattle.sets.specs.Words.{bit}
+use Rattle.sets.specs.Set.{start}
+use Rattle.sets.specs.Words.{words, bit}
 use Rattle.sets.proofs.Words.{words-none}
 use Rattle.solver.specs.Limits.{blockLimit}
-use Rattle.solver.specs.Cells.{none, evaluate}
-use Rattle.solver.specs.File.{stateCount, cellCount, blocks, cells}
+use Rattle.solver.specs.Cells.{bind, none, evaluate}
+use Rattle.solver.specs.File.{stateCount, blockCount, cellCount, blocks, blockAt, cells}
 use Rattle.solver.specs.Conditions.{WellFormed}
+use Rattle.solver.specs.Rounds.{Reached, solved}
 use Rattle.solver.specs.Outcome.{run}
-use Rattle.solver.specs.Working.{Opens, Ready, Holds, Shows, Evaluated, SolvesFrom, Solving, Ran, spent}
+use Rattle.solver.specs.Working.{Opens, Ready, Holds, Shows, Evaluated, SolvesFrom, Solving, Ran, Started, starting, spent}
 use Rattle.solver.specs.declared.Sizes.{Sizes}
-use Rattle.solver.proofs.Tables.{length-cells}
-use Rattle.solver.proofs.WellFormed.{ordered, inside}
+use Rattle.solver.proofs.Tables.{length-blocks, length-cells, counted}
+use Rattle.solver.proofs.Reading.{layout-facts, opens-read}
+use Rattle.solver.proofs.WellFormed.{ordered}
 use Rattle.solver.proofs.Values.{evaluate-values}
-use Rattle.solver.proofs.Solving.{solves}
+use Rattle.solver.proofs.Solving.{Sized, bind-same, bind-other, solves}
+use Rattle.solver.proofs.Starts.{Agree, own-named, own-inside, solved-start, evaluate-start}
+use Rattle.solver.proofs.Sides.{holds-bind}
+use Rattle.solver.proofs.Turns.{first}
 
--- before any round every set is empty
-none-held : (n : ℕ) → Holds n (replicate blockLimit (replicate wordCount 0)) (none n)
-none-held n = record {
-  sized = λ k. length-replicate n false;
-  row = λ k h. getD-replicate blockLimit k (replicate wordCount 0) [] h ∙ words-none wordCount n;
+-- ---- where the blocks start
+
+-- a block that has its turn starts by its sign, another is empty
+starting-in : (e : List ℕ) (k j : ℕ) → j < k → starting e k j ≡ first e j
+unfolding starting
+starting-in e k j h = rw (lt-ltb j k h)
+
+starting-out : (e : List ℕ) (k j : ℕ) → k ≤ j → starting e k j ≡ start (stateCount e) false
+unfolding starting
+starting-out e k j h = rw (le-ltb j k h)
+
+starting-sized : (e : List ℕ) (k : ℕ) → Sized (stateCount e) (starting e k)
+unfolding starting
+starting-sized e k j = length-replicate (stateCount e) (ltb j k && blockAt e j .sign)
+
+-- one block more
+starting-more : (e : List ℕ) (k : ℕ) → bind (starting e k) k (first e k) ≡ starting e (k + 1)
+starting-more e k = fun-ext λ j. by j (ℕ-discrete j k)
+  where
+    by : (j : ℕ) → Dec (j ≡ k) → bind (starting e k) k (first e k) j ≡ starting e (k + 1) j
+    by j (yes q) = rw q (bind-same (starting e k) k (first e k) ∙ sym (starting-in e (k + 1) k (omega arith)))
+    by j (no q) = bind-other (starting e k) k (first e k) j q ∙ side (decLt j k)
+      where
+        side : Dec (j < k) → starting e k j ≡ starting e (k + 1) j
+        side (yes h) = starting-in e k j h ∙ sym (starting-in e (k + 1) j (omega arith))
+        side (no h) = starting-out e k j (omega arith) ∙ sym (starting-out e (k + 1) j (omega (arith, q)))
+
+-- no block, one more, all of them
+pub none-started : (e : List ℕ) → Holds (stateCount e) (replicate blockLimit (replicate wordCount 0)) (starting e 0)
+none-started e = record {
+  sized = starting-sized e 0;
+  row = λ k h. getD-replicate blockLimit k (replicate wordCount 0) [] h ∙ words-none wordCount (stateCount e) ∙ ap (words wordCount) (sym (starting-out e 0 k (omega arith)));
 }
 
--- the rule gives what the definition computes
-pub rule : (e : List ℕ) → WellFormed e → SolvesFrom e 0 (none (stateCount e)) (run e .0) (run e .1)
-unfolding SolvesFrom run
-rule e f = solves (stateCount e) (cells e) (ordered e f) (blocks e) (rw (length-cells e) (inside e f)) 0 (none (stateCount e)) (λ k. length-replicate (stateCount e) false)
+pub more-started : (e : List ℕ) {k : ℕ} {rows : List (List ℕ)} {row : List ℕ} → Holds (stateCount e) rows (starting e k) → k < length rows → row ≡ words wordCount (first e k)
+    → Holds (stateCount e) (set rows k row) (starting e (k + 1))
+more-started e {k} {rows} {row} h l is =
+    subst (Holds (stateCount e) (set rows k row)) (starting-more e k)
+    (holds-bind h k (first e k) (length-replicate (stateCount e) (blockAt e k .sign)) (getD-set-same rows k row [] l ∙ is) (λ j n. getD-set-other rows k j row [] n))
+
+pub all-started : {e : List ℕ} {sizes : Sizes} {rows : List (List ℕ)} → Opens e sizes → Holds (stateCount e) rows (starting e (blockCount e)) → Started e 0 rows
+all-started {e} o h = record {
+  row = λ j g b. h .row j (omega (arith, opens-read o .counts .few-blocks, counted (o .counts) .blocks)) ∙ ap (words wordCount) (starting-in e (blockCount e) j b);
+}
+
+-- ---- what is reached from there
+
+-- the solution of all blocks, and the rounds
+abbrev reached : List ℕ → Reached
+reached e = solved (stateCount e) (cells e) (blocks e) 0 (starting e (blockCount e))
+
+reaches : (e : List ℕ) → WellFormed e → SolvesFrom e 0 (starting e (blockCount e)) (reached e .0) (reached e .1)
+unfolding SolvesFrom
+reaches e f = solves (stateCount e) (cells e) (ordered e f) (blocks e) (own-inside f) 0 (starting e (blockCount e)) (starting-sized e (blockCount e))
+
+-- it is what the definition computes, which starts from empty sets
+as-run : (e : List ℕ) → WellFormed e → Agree (blockCount e) (reached e .0) (run e .0) × (reached e .1 ≡ run e .1)
+unfolding run
+as-run e f = solved-start (stateCount e) (blockCount e) (cells e) (own-named f) (blocks e) 0 (omega (arith, length-blocks e)) (starting e (blockCount e)) (none (stateCount e)) (λ j l. absurd (omega arith))
 
 -- bytes that show values
 shown : (vs : List Bool) (work : List ℕ) → length work ≡ length vs → Shows vs 0 work → work ≡ map bit vs
 shown vs work l s = ext-getD 0 work (map bit vs) (l ∙ sym (length-map vs bit)) λ j h.
     s .byte j (omega arith) (omega arith) ∙ sym (List·getD-map bit vs j false)
 
-module _ {e : List ℕ} (f : WellFormed e) {limit rounds status : ℕ} {work : List ℕ} {rows : List (List ℕ)}
-    (s : Solving e (replicate blockLimit (replicate wordCount 0)) 0 0 limit work rows rounds status) where
+module _ {e : List ℕ} (f : WellFormed e) {limit rounds status : ℕ} {work : List ℕ} {rows after : List (List ℕ)}
+    (h : Holds (stateCount e) rows (starting e (blockCount e))) (s : Solving e rows 0 0 limit work after rounds status) where
   pub ran-spent : status ≡ spent → {row : List ℕ} → Ran e limit work row rounds status
   ran-spent z = record {
     room = s .room;
     bits = s .bits;
-    over = λ z. omega (arith, s .over z (none (stateCount e)) (run e .0) (run e .1) (none-held (stateCount e)) (rule e f));
+    over = λ z. omega (arith, s .over z (starting e (blockCount e)) (reached e .0) (reached e .1) h (reaches e f), as-run e f .1);
     within = λ n. absurd (n z);
     counted = λ n. absurd (n z);
     first = λ n. absurd (n z);
     values = λ n. absurd (n z);
   }
 
-  pub ran : ¬ (status ≡ spent) → {after : List ℕ} → Evaluated e rows 0 after → Ran e limit after (getD rows 0 []) rounds status
-  ran go {after} d =
-      let r = s .right go (none (stateCount e)) (run e .0) (run e .1) (none-held (stateCount e)) (rule e f) in
-      let v = evaluate-values (cells e) (ordered e f) (run e .0) in
+  pub ran : ¬ (status ≡ spent) → {bytes : List ℕ} → Evaluated e after 0 bytes → Ran e limit bytes (getD after 0 []) rounds status
+  ran go {bytes} d =
+      let r = s .right go (starting e (blockCount e)) (reached e .0) (reached e .1) h (reaches e f) in
+      let a = as-run e f in
+      let v = evaluate-values (cells e) (ordered e f) (reached e .0) in
       record {
         room = d .room;
         bits = d .bits;
         over = λ z. absurd (go z);
-        within = λ n. omega (arith, r .0, s .high go);
-        counted = λ n. omega (arith, r .0);
-        first = λ n. r .1 .row 0 (omega arith);
-        values = λ n. shown (evaluate (cells e) (run e .0)) after (d .room ∙ sym (v .sized ∙ length-cells e)) (d .right (run e .0) (evaluate (cells e) (run e .0)) (r .1) v);
+        within = λ n. omega (arith, r .0, a .1, s .high go);
+        counted = λ n. omega (arith, r .0, a .1);
+        first = λ n. r .1 .row 0 (omega arith) ∙ ap (words wordCount) (a .0 0 (layout-facts e (f .layout) .counts .some-block));
+        values = λ n.
+            shown (evaluate (cells e) (reached e .0)) bytes (d .room ∙ sym (v .sized ∙ length-cells e)) (d .right (reached e .0) (evaluate (cells e) (reached e .0)) (r .1) v)
+            ∙ ap (map bit) (evaluate-start (blockCount e) (reached e .0) (run e .0) (a .0) (cells e) (own-named f));
       }
 
 -- zeros are working bytes

@@ -5,25 +5,24 @@ use Prim.Native.Nat.{ℕ, suc, _+_, _-_, _<_, _≤_}
 use native.Mathlib.Omega.{arith}
 use native.Mathlib.Numerals.{add-one}
 use native.Mathlib.Decide.{ℕ-discrete}
-use borrow.Author.Tests.{eq-eqb, ne-eqb}
 use lib.ListN.{length, getD, set, drop, drop-of-length-le, length-replicate}
 use lib.Seq.{drop-cons, getD-set-same, getD-set-other}
 use Rattle.sets.specs.Size.{wordCount}
 use Rattle.sets.specs.Set.{Set, start}
 use Rattle.sets.specs.Loop.{Step, Run, stop, again}
 use Rattle.sets.specs.Words.{words}
+use Rattle.sets.proofs.Turns.{Left, turn}
 use Rattle.sets.proofs.Words.{words-inj}
 use Rattle.solver.specs.Limits.{blockLimit}
 use Rattle.solver.specs.Cells.{Valuation, bind}
 use Rattle.solver.specs.File.{Block, stateCount, blockCount, cellCount, blocks, blockAt, cells}
-use Rattle.solver.specs.Conditions.{WellFormed}
 use Rattle.solver.specs.Rounds.{Solves}
-use Rattle.solver.specs.Working.{Holds, SolvesFrom, RightSidesOf, Applied, Solving, Turned, spent, stable, replaced}
-use Rattle.solver.proofs.Tables.{length-cells, length-blocks, block-at}
-use Rattle.solver.proofs.Reading.{layout-facts}
-use Rattle.solver.proofs.WellFormed.{block-kept}
-use Rattle.solver.proofs.Values.{length-part}
+use Rattle.solver.specs.Working.{Opens, Holds, Started, SolvesFrom, RightSidesOf, Applied, Solving, Turned, spent, stable, replaced}
+use Rattle.solver.specs.declared.Sizes.{Sizes}
+use Rattle.solver.proofs.Tables.{length-blocks, block-at, counted}
+use Rattle.solver.proofs.Reading.{opens-read, few-blocks, own-block}
 use Rattle.solver.proofs.Solving.{bind-same}
+use Rattle.solver.proofs.Sides.{sides-sized, holds-bind}
 
 -- ---- the rule, block by block
 
@@ -58,25 +57,6 @@ from-block e k ρ σ r h s = subst Later (sym (add-one k)) (subst (λ (bs : List
     split =
         drop-cons (blocks e) k (blockAt e k) (omega (arith, length-blocks e))
         ∙ ap (λ (b : Block). b ∷ drop (suc k) (blocks e)) (block-at e k (blockAt e k) h)
-
--- right-hand sides are a set of n states
-sides-sized : (e : List ℕ) (k : ℕ) {σ : Valuation} {w : Set} → WellFormed e → k < blockCount e → RightSidesOf e k σ w → length w ≡ stateCount e
-sides-sized e k f h s =
-    ap length (s .are) ∙ length-part (stateCount e) (blockAt e k .first) (s .values) (omega (arith, block-kept e f k h, s .each .sized, length-cells e))
-
--- a row is stored for block k
-holds-bind : {n : ℕ} {rows : List (List ℕ)} {ρ : Valuation} → Holds n rows ρ → {k : ℕ} → k < length rows → (v : Set) {row : List ℕ} → length v ≡ n → row ≡ words wordCount v →
-    Holds n (set rows k row) (bind ρ k v)
-unfolding bind
-holds-bind {n} {rows} {ρ} h {k} l v {row} s e = record { sized = λ j. long j (ℕ-discrete j k); row = λ j b. at j b (ℕ-discrete j k) }
-  where
-    long : (j : ℕ) → Dec (j ≡ k) → length (bind ρ k v j) ≡ n
-    long j (yes q) = rw (eq-eqb j k q) s
-    long j (no q) = rw (ne-eqb j k q) (h .sized j)
-
-    at : (j : ℕ) → j < blockLimit → Dec (j ≡ k) → getD (set rows k row) j [] ≡ words wordCount (bind ρ k v j)
-    at j b (yes q) = rw (eq-eqb j k q, q, getD-set-same rows k row [] l) e
-    at j b (no q) = rw (ne-eqb j k q, getD-set-other rows k j row [] q) (h .row j b)
 
 -- ---- one round
 
@@ -113,11 +93,11 @@ module _ {e : List ℕ} {rows inner : List (List ℕ)} {k used limit usedInner s
       differs = λ m. absurd (m refl);
     }
 
-    module _ (left : usedInner < limit) (f : WellFormed e) (b : k < blockCount e) (b′ : k < blockLimit) {work row : List ℕ} (a : Applied e inner k work row) where
-      row-is : (ρ τ : Valuation) (q : ℕ) (w : Set) → Holds (stateCount e) rows ρ → SolvesFrom e (k + 1) ρ τ q → RightSidesOf e k τ w → row ≡ words wordCount w
-      row-is ρ τ q w h t r = a .right τ w (s .right go ρ τ q h t .1) r
+    module _ (left : usedInner < limit) {sizes : Sizes} (o : Opens e sizes) (b : k < sizes .blocks) {work : List ℕ} {next : List (List ℕ)} (a : Applied e inner k work next) where
+      row-is : (ρ τ : Valuation) (q : ℕ) (w : Set) → Holds (stateCount e) rows ρ → SolvesFrom e (k + 1) ρ τ q → RightSidesOf e k τ w → getD next k [] ≡ words wordCount w
+      row-is ρ τ q w h t r = a .right τ w (s .right go ρ τ q h t .1) r .row k (few-blocks o b) ∙ ap (words wordCount) (bind-same τ k w)
 
-      pub settled : row ≡ getD rows k [] → Turned e rows k used limit work inner (usedInner + 1) stable
+      pub settled : getD next k [] ≡ getD rows k [] → Turned e rows k used limit work inner (usedInner + 1) stable
       settled is = record {
         room = a .room;
         bits = a .bits;
@@ -128,13 +108,13 @@ module _ {e : List ℕ} {rows inner : List (List ℕ)} {k used limit usedInner s
         counted = λ m ρ τ q h t. omega (arith, s .right go ρ τ q h t .0);
         kept = λ m ρ τ q h t. s .right go ρ τ q h t .1;
         same = λ m ρ τ q w h t r.
-            let z = sides-sized e k f b r in
-            words-inj wordCount w (ρ k) (z ∙ sym (h .sized k)) (omega (arith, layout-facts e (f .layout) .counts .few-states)) (sym (row-is ρ τ q w h t r) ∙ is ∙ h .row k b′);
+            let z = sides-sized e k (o .formed) (own-block o b) r in
+            words-inj wordCount w (ρ k) (z ∙ sym (h .sized k)) (omega (arith, opens-read o .counts .few-states, counted (o .counts) .states)) (sym (row-is ρ τ q w h t r) ∙ is ∙ h .row k (few-blocks o b));
         differs = λ m n. absurd (n refl);
       }
 
-      pub moved : k < length inner → ¬ (row ≡ getD rows k []) → Turned e rows k used limit work (set inner k row) (usedInner + 1) replaced
-      moved l is = record {
+      pub moved : ¬ (getD next k [] ≡ getD rows k []) → Turned e rows k used limit work next (usedInner + 1) replaced
+      moved is = record {
         room = a .room;
         bits = a .bits;
         three = omega arith;
@@ -145,38 +125,23 @@ module _ {e : List ℕ} {rows inner : List (List ℕ)} {k used limit usedInner s
         kept = λ m. absurd (omega arith);
         same = λ m. absurd (omega arith);
         differs = λ m n ρ τ q w h t r. (
-          getD-set-same inner k row [] l ∙ row-is ρ τ q w h t r,
-          λ x. is (row-is ρ τ q w h t r ∙ ap (words wordCount) x ∙ sym (h .row k b′)),
+          row-is ρ τ q w h t r,
+          λ x. is (row-is ρ τ q w h t r ∙ ap (words wordCount) x ∙ sym (h .row k (few-blocks o b))),
         );
       }
 
 -- ---- the loop
 
--- what is left of a block's loop to u: the words `held` hold the set that it is at, after `used` rounds of `total`
-pub record Left (F : Step) (n : ℕ) (held : List ℕ) (u : Set) (used total : ℕ) : Type 0 where
-  pub now : Set
-  pub sized : length now ≡ n
-  pub are : held ≡ words wordCount now
-  pub rest : ℕ
-  pub run : Run F now u rest
-  pub sum : used + rest ≡ total
+-- the rows hold a set for block k, beside ρ
+abbrev pub Beside : List ℕ → ℕ → Valuation → List (List ℕ) → Set → Type 0
+Beside e k ρ rows v = Holds (stateCount e) rows (bind ρ k v)
 
--- the next turn of a loop
-record Next (F : Step) (v : Set) (p : ℕ) : Type 0 where
-  to : Set
-  took : ℕ
-  turn : F v to took
-  less : took < p
-
-next : {F : Step} {v u : Set} {p : ℕ} → Run F v u p → Next F v p
-next {v = v} (stop {r = r} f) = record { to = v; took = r; turn = f; less = omega arith }
-next (again {w = w} {r = r} f n g) = record { to = w; took = r; turn = f; less = omega arith }
-
--- at the head of block k's loop
-pub record Going (e : List ℕ) (rows : List (List ℕ)) (k used₀ limit : ℕ) (held : List ℕ) (used : ℕ) : Type 0 where
+-- at the head of block k's loop: the rows `now` are turned, and the later blocks are where they start
+pub record Going (e : List ℕ) (rows : List (List ℕ)) (k used₀ limit : ℕ) (now : List (List ℕ)) (used : ℕ) : Type 0 where
   pub low : used₀ ≤ used
   pub high : used ≤ limit
-  pub left : (ρ : Valuation) (v : Set) (r : ℕ) → Holds (stateCount e) rows ρ → Run (Turn e k ρ) (first e k) v r → Left (Turn e k ρ) (stateCount e) held v used (used₀ + r)
+  pub later : Started e (k + 1) now
+  pub left : (ρ : Valuation) (v : Set) (r : ℕ) → Holds (stateCount e) rows ρ → Run (Turn e k ρ) (first e k) v r → Left (Turn e k ρ) (Beside e k ρ now) v used (used₀ + r)
 
 -- no blocks: no change
 pub unchanged : {e : List ℕ} {rows : List (List ℕ)} {k used limit : ℕ} {work : List ℕ} → blockCount e ≤ k → used ≤ limit → length work ≡ cellCount e → ((i : ℕ) → getD work i 0 ≤ 1) →
@@ -192,28 +157,31 @@ unchanged {e} {rows} {k} h l room bits = record {
       (omega (arith, z .1), subst (Holds (stateCount e) rows) (sym (z .0)) holds);
 }
 
-pub begins : {e : List ℕ} {rows : List (List ℕ)} {k used limit : ℕ} {held : List ℕ} → used ≤ limit → held ≡ words wordCount (first e k) → Going e rows k used limit held used
-begins {e} {k = k} l is = record {
+pub begins : {e : List ℕ} {rows : List (List ℕ)} {k used limit : ℕ} → used ≤ limit → k < blockCount e → Started e k rows → Going e rows k used limit rows used
+begins {e} {k = k} l b s = record {
   low = omega arith;
   high = l;
-  left = λ ρ v r holds run. record { now = first e k; sized = length-replicate (stateCount e) (blockAt e k .sign); are = is; rest = r; run = run; sum = refl };
+  later = record { row = λ j h. s .row j (omega arith) };
+  left = λ ρ v r holds run. record {
+    now = first e k;
+    held = holds-bind holds k (first e k) (length-replicate (stateCount e) (blockAt e k .sign)) (s .row k (omega arith) b) (λ j n. refl);
+    rest = r;
+    run = run;
+    sum = refl;
+  };
 }
 
-module _ {e : List ℕ} {rows : List (List ℕ)} {k used₀ limit : ℕ} {held : List ℕ} {used : ℕ} (f : WellFormed e) (b : k < blockCount e) (l : k < length rows)
-    (g : Going e rows k used₀ limit held used) {work : List ℕ} {after : List (List ℕ)} {usedAfter status : ℕ} (t : Turned e (set rows k held) k used limit work after usedAfter status) where
-  -- the sets of the turn
-  shows : {ρ : Valuation} {u : Set} {total : ℕ} → Holds (stateCount e) rows ρ → (m : Left (Turn e k ρ) (stateCount e) held u used total) → Holds (stateCount e) (set rows k held) (bind ρ k (m .now))
-  shows h m = holds-bind h l (m .now) (m .sized) (m .are)
-
+module _ {e : List ℕ} {sizes : Sizes} {rows now : List (List ℕ)} {k used₀ limit used : ℕ} (o : Opens e sizes) (b : k < sizes .blocks) (l : length rows ≡ blockLimit) (s : Started e k rows)
+    (g : Going e rows k used₀ limit now used) {work : List ℕ} {after : List (List ℕ)} {usedAfter status : ℕ} (t : Turned e now k used limit work after usedAfter status) where
   out-of-rounds : status ≡ spent → Solving e rows k used₀ limit work after usedAfter status
   out-of-rounds z = record {
     room = t .room;
     bits = t .bits;
     over = λ z ρ σ r h s.
-        let x = from-block e k ρ σ r b s in
+        let x = from-block e k ρ σ r (own-block o b) s in
         let m = g .left ρ (x .0) r h (x .1) in
-        let y = next (m .run) in
-        omega (arith, t .over z (bind ρ k (m .now)) (y .turn .0) (y .took) (shows h m) (y .turn .1), y .less, m .sum);
+        let y = turn (m .run) in
+        omega (arith, t .over z (bind ρ k (m .now)) (y .step .0) (y .took) (m .held) (y .step .1), y .less, m .sum);
     low = λ m. absurd (m z);
     high = λ m. absurd (m z);
     right = λ m. absurd (m z);
@@ -229,39 +197,40 @@ module _ {e : List ℕ} {rows : List (List ℕ)} {k used₀ limit : ℕ} {held :
       low = λ m. omega (arith, t .low go, g .low);
       high = λ m. t .high go;
       right = λ m ρ σ r h s.
-          let x = from-block e k ρ σ r b s in
+          let x = from-block e k ρ σ r (own-block o b) s in
           let y = g .left ρ (x .0) r h (x .1) in
-          ends ρ σ (x .2) (y .run) (y .sum) (shows h y) (x .3);
+          ends ρ σ (x .2) (y .run) (y .sum) (y .held) (x .3);
     }
       where
-        ends : (ρ σ : Valuation) (q : ℕ) {v u : Set} {p total : ℕ} → Run (Turn e k ρ) v u p → used + p ≡ total → Holds (stateCount e) (set rows k held) (bind ρ k v) →
+        ends : (ρ σ : Valuation) (q : ℕ) {v u : Set} {p total : ℕ} → Run (Turn e k ρ) v u p → used + p ≡ total → Holds (stateCount e) now (bind ρ k v) →
             SolvesFrom e (k + 1) (bind ρ k u) σ q → (usedAfter ≡ total) × Holds (stateCount e) after σ
         ends ρ σ q {v} (stop {r = c} x) sum h s = (omega (arith, t .counted go (bind ρ k v) (x .0) c h (x .1)), t .kept z (bind ρ k v) σ q h s)
         ends ρ σ q {v} (again {w = w} {r = c} x d _) sum h s = absurd (d (t .same z (bind ρ k v) (x .0) c w h (x .1) (x .2) ∙ bind-same ρ k v))
 
-    -- it goes on from the set that was put in place
-    goes : ¬ (status ≡ stable) → Going e rows k used₀ limit (getD after k []) usedAfter
+    -- it goes on from the set that was put in place, with the later blocks where they start
+    goes : ¬ (status ≡ stable) → Going e rows k used₀ limit (set rows k (getD after k [])) usedAfter
     goes z = record {
       low = omega (arith, t .low go, g .low);
       high = t .high go;
-      left = λ ρ v r h run. let y = g .left ρ v r h run in on ρ (y .run) (y .sum) (shows h y);
+      later = record { row = λ j h d. getD-set-other rows k j (getD after k []) [] (λ q. omega arith) ∙ s .row j (omega arith) d };
+      left = λ ρ v r h run. let y = g .left ρ v r h run in on ρ h (y .run) (y .sum) (y .held);
     }
       where
-        on : (ρ : Valuation) {v u : Set} {p total : ℕ} → Run (Turn e k ρ) v u p → used + p ≡ total → Holds (stateCount e) (set rows k held) (bind ρ k v) →
-            Left (Turn e k ρ) (stateCount e) (getD after k []) u usedAfter total
-        on ρ {v} (stop {r = c} x) sum h = absurd (t .differs go z (bind ρ k v) (x .0) c v h (x .1) (x .2) .1 (sym (bind-same ρ k v)))
-        on ρ {v} (again {w = w} {r = c} {q = q} x d rest) sum h = record {
+        on : (ρ : Valuation) → Holds (stateCount e) rows ρ → {v u : Set} {p total : ℕ} → Run (Turn e k ρ) v u p → used + p ≡ total → Holds (stateCount e) now (bind ρ k v) →
+            Left (Turn e k ρ) (Beside e k ρ (set rows k (getD after k []))) u usedAfter total
+        on ρ h′ {v} (stop {r = c} x) sum h = absurd (t .differs go z (bind ρ k v) (x .0) c v h (x .1) (x .2) .1 (sym (bind-same ρ k v)))
+        on ρ h′ {v} (again {w = w} {r = c} {q = q} x d rest) sum h = record {
           now = w;
-          sized = sides-sized e k f b (x .2);
-          are = t .differs go z (bind ρ k v) (x .0) c w h (x .1) (x .2) .0;
+          held = holds-bind h′ k w (sides-sized e k (o .formed) (own-block o b) (x .2)) (getD-set-same rows k (getD after k []) [] (rw l (few-blocks o b)) ∙ t .differs go z (bind ρ k v) (x .0) c w h (x .1) (x .2) .0)
+              (λ j n. getD-set-other rows k j (getD after k []) [] n);
           rest = q;
           run = rest;
           sum = omega (arith, t .counted go (bind ρ k v) (x .0) c h (x .1));
         }
 
   -- so it does where the set was replaced, with fewer rounds left
-  pub goes-on : status ≡ replaced → Going e rows k used₀ limit (getD after k []) usedAfter
-  goes-on z = goes (λ m. omega arith) (λ m. omega arith)
+  pub goes-on : status ≡ replaced → {next : List (List ℕ)} → next ≡ set rows k (getD after k []) → Going e rows k used₀ limit next usedAfter
+  goes-on z is = rw is (goes (λ m. omega arith) (λ m. omega arith))
 
   pub fewer : status ≡ replaced → limit - usedAfter < limit - used
   fewer z = omega (arith, t .low (λ m. omega arith), t .high (λ m. omega arith))

@@ -1,8 +1,8 @@
 -- Cells, and the values of all cells under a valuation.
 use mathlib.Core.Path.{_≡_}
 use mathlib.Core.Bool.{Bool, true, false, cond}
-use mathlib.Core.List.{List, [], _∷_}
-use Prim.Native.Nat.{ℕ, zero, suc, _+_, _<_}
+use mathlib.Core.List.{List, []}
+use Prim.Native.Nat.{ℕ, zero, suc, _<_}
 use lib.Dec.{T, eqb, ltb}
 use lib.ListN.{length, getD, take, drop, set, replicate}
 use Rattle.sets.specs.Lists.{all, any}

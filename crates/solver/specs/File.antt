@@ -1,6 +1,6 @@
 -- The equation file: the counts, blocks, cells and operands of any list of bytes.
-use mathlib.Core.Bool.{Bool, true, false}
-use mathlib.Core.List.{List, [], _∷_, map}
+use mathlib.Core.Bool.{Bool}
+use mathlib.Core.List.{List, map}
 use Prim.Native.Nat.{ℕ, zero, suc, _+_, _*_}
 use lib.Dec.{T, eqb, leb}
 use lib.ListN.{getD, take, drop}

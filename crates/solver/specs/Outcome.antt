@@ -2,16 +2,15 @@
 use mathlib.Core.Path.{_≡_}
 use mathlib.Core.Bool.{Bool, true, false, not, _||_}
 use mathlib.Core.List.{List, [], _∷_, _++_, map}
-use Prim.Native.Nat.{ℕ, zero, suc, _+_, _≤_, _<_}
-use lib.Dec.{eqb, ltb}
+use Prim.Native.Nat.{ℕ, zero, suc, _+_, _≤_}
+use lib.Dec.{ltb}
 use lib.ListN.{length, getD, drop}
 use Rattle.sets.specs.Size.{wordCount}
-use Rattle.sets.specs.Set.{Set, has, size}
+use Rattle.sets.specs.Set.{has, size}
 use Rattle.sets.specs.Words.{words, bit}
 use Rattle.solver.specs.Cells.{Valuation, none, evaluate}
 use Rattle.solver.specs.File.{stateCount, cellCount, initialState, blocks, cells}
 use Rattle.solver.specs.Conditions.{layoutOk, tablesOk}
-use Rattle.solver.specs.Standard.{Solution}
 use Rattle.solver.specs.Rounds.{Solves, Reached, solved}
 use Rattle.solver.specs.declared.Cause.{Cause}
 use Rattle.solver.specs.declared.Cause.the-variants.{Layout, Table, Memory, Spent}

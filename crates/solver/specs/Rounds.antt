@@ -3,7 +3,7 @@ use mathlib.Core.Path.{_≡_}
 use mathlib.Core.List.{List, [], _∷_}
 use Prim.Native.Nat.{ℕ, zero, suc, _+_, _^_}
 use Rattle.sets.specs.Set.{Set, start}
-use Rattle.sets.specs.Loop.{Step, Run, Worked, iterate}
+use Rattle.sets.specs.Loop.{Run, Worked, iterate}
 use Rattle.solver.specs.Cells.{Cell, Valuation, bind, evaluate, part}
 use Rattle.solver.specs.File.{Block}
 use Rattle.solver.specs.Standard.{RightSides}

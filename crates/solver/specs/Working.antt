@@ -1,16 +1,16 @@
 -- What the code's parts hold while blocks are solved, and what each part of the code answers.
 use mathlib.Core.Path.{_≡_}
-use mathlib.Core.Bool.{Bool, true, false}
-use mathlib.Core.List.{List, [], _∷_, map}
-use Prim.Native.Nat.{ℕ, suc, _+_, _<_, _≤_}
-use lib.Dec.{eqb}
-use lib.ListN.{length, getD, drop, replicate}
+use mathlib.Core.Bool.{Bool, false, _&&_}
+use mathlib.Core.List.{List, [], map}
+use Prim.Native.Nat.{ℕ, _+_, _<_, _≤_}
+use lib.Dec.{eqb, ltb}
+use lib.ListN.{length, getD, drop}
 use Rattle.sets.specs.Size.{wordCount}
-use Rattle.sets.specs.Set.{Set}
+use Rattle.sets.specs.Set.{Set, start}
 use Rattle.sets.specs.Words.{words, bit}
 use Rattle.solver.specs.Limits.{blockLimit}
-use Rattle.solver.specs.Cells.{Valuation, Values, evaluate}
-use Rattle.solver.specs.File.{stateCount, cellCount, operandCount, sizesOf, blocks, blockAt, cells, operands}
+use Rattle.solver.specs.Cells.{Valuation, bind, Values, evaluate}
+use Rattle.solver.specs.File.{stateCount, blockCount, cellCount, operandCount, sizesOf, blocks, blockAt, cells, operands}
 use Rattle.solver.specs.Conditions.{WellFormed}
 use Rattle.solver.specs.Standard.{RightSides}
 use Rattle.solver.specs.Rounds.{Solves}
@@ -64,11 +64,19 @@ SolvesFrom e k ρ σ r = Solves (stateCount e) (cells e) (drop k (blocks e)) k �
 abbrev pub RightSidesOf : List ℕ → ℕ → Valuation → Set → Type 0
 RightSidesOf e k σ w = RightSides (stateCount e) (cells e) (blockAt e k .first) σ w
 
--- block k's right-hand sides, and the working bytes afterwards
-pub record Applied (e : List ℕ) (rows : List (List ℕ)) (k : ℕ) (work row : List ℕ) : Type 0 where
+-- block k's set is replaced by its right-hand sides, and the working bytes afterwards
+pub record Applied (e : List ℕ) (rows : List (List ℕ)) (k : ℕ) (work : List ℕ) (rowsAfter : List (List ℕ)) : Type 0 where
   pub room : length work ≡ cellCount e
   pub bits : (i : ℕ) → getD work i 0 ≤ 1
-  pub right : (σ : Valuation) (w : Set) → Holds (stateCount e) rows σ → RightSidesOf e k σ w → row ≡ words wordCount w
+  pub right : (σ : Valuation) (w : Set) → Holds (stateCount e) rows σ → RightSidesOf e k σ w → Holds (stateCount e) rowsAfter (bind σ k w)
+
+-- the first k blocks where they start, no state for mu and every state for nu; the others empty
+unfoldable pub starting : List ℕ → ℕ → Valuation
+starting e k j = start (stateCount e) (ltb j k && blockAt e j .sign)
+
+-- the blocks from k on are held where they start
+pub record Started (e : List ℕ) (k : ℕ) (rows : List (List ℕ)) : Type 0 where
+  pub row : (j : ℕ) → k ≤ j → j < blockCount e → getD rows j [] ≡ words wordCount (start (stateCount e) (blockAt e j .sign))
 
 -- how solving or a round ends: block k's set was replaced, is stable, or the rounds are spent
 abbrev pub replaced : ℕ

@@ -8,14 +8,14 @@ use crate::file::operand_at;
 use sets::WORDS;
 ghost use mathlib.Core.Path.{_≡_};
 ghost use mathlib.Core.List.{[]};
-ghost use Prim.Native.Nat.{ℕ, _+_, _*_, _<_, _≤_};
+ghost use Prim.Native.Nat.{_<_, _≤_};
 ghost use lib.Dec.{eqb};
-ghost use lib.ListN.{length, getD};
-ghost use Rattle.sets.specs.Size.{wordCount, stateLimit};
+ghost use lib.ListN.{getD};
+ghost use Rattle.sets.specs.Size.{stateLimit};
 ghost use Rattle.sets.specs.Lists.{any};
-ghost use Rattle.sets.specs.Words.{words, marked, bit};
+ghost use Rattle.sets.specs.Words.{marked, bit};
 ghost use Rattle.solver.specs.Limits.{blockLimit};
-ghost use Rattle.solver.specs.Cells.{Valuation, value, part};
+ghost use Rattle.solver.specs.Cells.{Valuation, value};
 ghost use Rattle.solver.specs.File.{operands, listOf, cellOf};
 ghost use Rattle.solver.specs.Working.{Ready, ListAt, Valued, Evaluated, Applied, truths};
 
@@ -94,32 +94,26 @@ pub fn evaluate(
     }
 }
 
-// The set of n states whose values are the working bytes from `from` on.
-fn gather(work: &[u8], from: usize, n: usize) -> [u64; WORDS]
-    requires { ⌜ (n ≤ stateLimit) × (from + n ≤ length (now work)) ⌝ }
-    ensures { λ r. ⌜ r ≡ words wordCount (part n from (truths (now (work .entry)))) ⌝ }
-{
-    let mut row = sets::empty();
-    for s in 0..n {
-        if work[from + s] == 1 {
-            sets::add(&mut row, s);
-        }
-    }
-    row
-}
-
-// The right-hand sides of block k, all worked out before any is replaced.
+// The sets with that of block k replaced by its right-hand sides, all of them worked out from the sets as they were.
 pub fn right_sides(
     file: &[u8],
     sizes: Sizes,
     sets: [[u64; WORDS]; BLOCKS],
     k: usize,
     work: &mut [u8],
-) -> [u64; WORDS]
+) -> [[u64; WORDS]; BLOCKS]
     requires { ⌜ Ready (now file) sizes (now work) × (k < sizes .blocks) ⌝ }
     ensures { λ r. ⌜ Applied (now (file .entry)) sets k (now (work .exit)) r ⌝ }
 {
     let first = number_at(file, HEADER + 8 * k + 4);
-    evaluate(file, sizes, sets, first, work);
-    gather(work, first, sizes.states)
+    evaluate(file, sizes, sets, first + sizes.states, work);
+    let mut next = sets;
+    let mut s = sizes.states;
+    while 0 < s {
+        s -= 1;
+        let v = value_of(file, sizes, &sets, first + s, work);
+        work[first + s] = v;
+        sets::put(&mut next[k], s, v == 1);
+    }
+    next
 }

@@ -93,11 +93,12 @@ fn run(
     ensures { λ r. ⌜ Ran (now (file .entry)) limit (now (work .exit)) r (now (rounds .exit)) (now (status .exit)) ⌝ }
 {
     clear(work);
-    let sets = rounds::solve_from(
+    let starts = rounds::starts(file, sizes);
+    let sets = rounds::solve_last(
         file,
         sizes,
-        [[0u64; WORDS]; BLOCKS],
-        0,
+        starts,
+        sizes.blocks,
         limit,
         work,
         rounds,

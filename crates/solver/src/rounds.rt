@@ -6,12 +6,12 @@ use crate::file::HEADER;
 use crate::file::number_at;
 use sets::WORDS;
 ghost use mathlib.Core.Path.{_≡_};
-ghost use Prim.Native.Nat.{_<_, _≤_};
+ghost use Prim.Native.Nat.{_+_, _-_, _<_, _≤_};
 ghost use Rattle.sets.specs.Size.{wordCount};
 ghost use Rattle.sets.specs.Set.{start};
 ghost use Rattle.sets.specs.Words.{words};
-ghost use Rattle.solver.specs.File.{stateCount, blockAt};
-ghost use Rattle.solver.specs.Working.{Opens, Ready, Solving, Turned};
+ghost use Rattle.solver.specs.File.{stateCount, blockCount, blockAt};
+ghost use Rattle.solver.specs.Working.{Opens, Ready, Holds, Started, Solving, Turned, starting};
 
 // How a round, or the solving of a block, ends.
 pub const REPLACED: u8 = 0;
@@ -28,51 +28,75 @@ fn start_of(file: &[u8], sizes: Sizes, k: usize) -> [u64; WORDS]
     sets::initial(sizes.states, number_at(file, HEADER + 8 * k) == 1)
 }
 
-// Solves block k and those after it, with the sets of those before it held.
-pub fn solve_from(
+// Where all blocks start.
+pub fn starts(file: &[u8], sizes: Sizes) -> [[u64; WORDS]; BLOCKS]
+    requires { ⌜ Opens (now file) sizes ⌝ }
+    ensures { λ r. ⌜ Holds (stateCount (now (file .entry))) r (starting (now (file .entry)) (blockCount (now (file .entry)))) ⌝ }
+{
+    let mut sets = [[0u64; WORDS]; BLOCKS];
+    for k in 0..sizes.blocks {
+        let row = start_of(file, sizes, k);
+        sets[k] = row;
+    }
+    sets
+}
+
+// The outermost of the last `left` blocks.
+fn outermost(sizes: Sizes, left: usize) -> usize
+    requires { ⌜ (0 < left) × (left ≤ sizes .blocks) ⌝ }
+    ensures { λ r. ⌜ r ≡ sizes .blocks - left ⌝ }
+{
+    sizes.blocks - left
+}
+
+// Solves the last `left` blocks, which are held where they start, with the sets of those before them held.
+pub fn solve_last(
     file: &[u8],
     sizes: Sizes,
     sets: [[u64; WORDS]; BLOCKS],
-    k: usize,
+    left: usize,
     limit: u64,
     work: &mut [u8],
     rounds: &mut u64,
     status: &mut u8,
 ) -> [[u64; WORDS]; BLOCKS]
-    requires { ⌜ Ready (now file) sizes (now work) × (k ≤ sizes .blocks) × (now rounds ≤ limit) ⌝ }
-    ensures { λ r. ⌜ Solving (now (file .entry)) sets k (now (rounds .entry)) limit (now (work .exit)) r (now (rounds .exit)) (now (status .exit)) ⌝ }
+    requires { ⌜ Ready (now file) sizes (now work) × (left ≤ sizes .blocks) × (now rounds ≤ limit) × Started (now file) (sizes .blocks - left) sets ⌝ }
+    ensures { λ r. ⌜ Solving (now (file .entry)) sets (sizes .blocks - left) (now (rounds .entry)) limit (now (work .exit)) r (now (rounds .exit)) (now (status .exit)) ⌝ }
 {
-    if sizes.blocks <= k {
+    if left == 0 {
         *status = STABLE;
         return sets;
     }
-    let mut held = start_of(file, sizes, k);
+    let k = outermost(sizes, left);
+    let mut s = sets;
     loop {
-        let mut s = sets;
-        s[k] = held;
-        let t = round(file, sizes, s, k, limit, work, rounds, status);
+        let t = round(file, sizes, s, left, limit, work, rounds, status);
         if *status != REPLACED {
             return t;
         }
-        held = t[k];
+        // The later blocks go back to where they start.
+        let row = t[k];
+        s = sets;
+        s[k] = row;
     }
 }
 
-// One round of block k: the later blocks are solved anew, a round is counted, the right-hand sides are worked out and compared.
+// One round of the outermost of the last `left` blocks: the later blocks are solved anew, a round is counted, the right-hand sides are
+// worked out and compared.
 fn round(
     file: &[u8],
     sizes: Sizes,
     sets: [[u64; WORDS]; BLOCKS],
-    k: usize,
+    left: usize,
     limit: u64,
     work: &mut [u8],
     rounds: &mut u64,
     status: &mut u8,
 ) -> [[u64; WORDS]; BLOCKS]
-    requires { ⌜ Ready (now file) sizes (now work) × (k < sizes .blocks) × (now rounds ≤ limit) ⌝ }
-    ensures { λ r. ⌜ Turned (now (file .entry)) sets k (now (rounds .entry)) limit (now (work .exit)) r (now (rounds .exit)) (now (status .exit)) ⌝ }
+    requires { ⌜ Ready (now file) sizes (now work) × (0 < left) × (left ≤ sizes .blocks) × (now rounds ≤ limit) × Started (now file) (sizes .blocks - left + 1) sets ⌝ }
+    ensures { λ r. ⌜ Turned (now (file .entry)) sets (sizes .blocks - left) (now (rounds .entry)) limit (now (work .exit)) r (now (rounds .exit)) (now (status .exit)) ⌝ }
 {
-    let mut s = solve_from(file, sizes, sets, k + 1, limit, work, rounds, status);
+    let s = solve_last(file, sizes, sets, left - 1, limit, work, rounds, status);
     if *status == SPENT {
         return s;
     }
@@ -81,13 +105,12 @@ fn round(
         return s;
     }
     *rounds += 1;
-    let row = right_sides(file, sizes, s, k, work);
-    let held = sets[k];
-    if sets::equal(&row, &held) {
+    let k = outermost(sizes, left);
+    let next = right_sides(file, sizes, s, k, work);
+    if sets::equal(&next[k], &sets[k]) {
         *status = STABLE;
         return s;
     }
-    s[k] = row;
     *status = REPLACED;
-    s
+    next
 }

@@ -4,8 +4,6 @@ use Rattle.routes.specs.Route.{number}
 use Rattle.routes.proofs.cause_of.Statement.{statement}
 use Rattle.routes.proofs.cause_of.Tie as tie
 use Rattle.routes.proofs.cause_of.Reads as reads
-use Rattle.routes.proofs.cause_of.Lts as lts
-use Rattle.routes.proofs.later_cause.Reads as later-cause-reads
 
 -- src/lib.rt:92:9
 later-cause-requires : tie.Need-later-cause-requires

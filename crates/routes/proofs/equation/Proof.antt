@@ -6,10 +6,6 @@ use borrow.Author.Needs.{needs}
 use Rattle.routes.proofs.equation.Statement.{statement}
 use Rattle.routes.proofs.equation.Tie as tie
 use Rattle.routes.proofs.equation.Reads as reads
-use Rattle.routes.proofs.equation.Lts as lts
-use Rattle.routes.proofs.solve_written.Reads as solve-written-reads
-use Rattle.routes.proofs.unwritten.Reads as unwritten-reads
-use Rattle.translate.proofs.translate.Reads as translate-reads
 
 -- src/lib.rt:199:9
 translate-requires : tie.Need-translate-requires

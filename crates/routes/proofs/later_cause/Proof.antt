@@ -2,8 +2,6 @@ use native.Mathlib.Omega.{arith}
 use Rattle.routes.specs.Route.{number}
 use Rattle.routes.proofs.later_cause.Statement.{statement}
 use Rattle.routes.proofs.later_cause.Tie as tie
-use Rattle.routes.proofs.later_cause.Reads as reads
-use Rattle.routes.proofs.later_cause.Lts as lts
 
 -- src/lib.rt:66:9
 returns : tie.Need-returns

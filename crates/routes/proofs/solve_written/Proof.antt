@@ -3,11 +3,6 @@ use borrow.Author.Needs.{needs}
 use Rattle.routes.proofs.solve_written.Statement.{statement}
 use Rattle.routes.proofs.solve_written.Tie as tie
 use Rattle.routes.proofs.solve_written.Reads as reads
-use Rattle.routes.proofs.solve_written.Lts as lts
-use Rattle.sets.proofs.load.Reads as load-reads
-use Rattle.routes.proofs.report_of.Reads as report-of-reads
-use Rattle.routes.proofs.outcome.solving_cause.Reads as solving-cause-reads
-use Rattle.solver.proofs.solve.Reads as solve-reads
 
 -- src/lib.rt:182:11
 solve-requires : tie.Need-solve-requires

@@ -7,8 +7,6 @@ use borrow.Author.Needs.{needs}
 use Rattle.routes.proofs.unwritten.Statement.{statement}
 use Rattle.routes.proofs.unwritten.Tie as tie
 use Rattle.routes.proofs.unwritten.Reads as reads
-use Rattle.routes.proofs.unwritten.Lts as lts
-use Rattle.routes.proofs.cause_of.Reads as cause-of-reads
 
 -- src/lib.rt:166:45
 enum-told : tie.Need-enum-told

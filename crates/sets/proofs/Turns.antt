@@ -2,8 +2,16 @@
 use mathlib.Core.Path.{_≡_, refl, sym, ap, subst}
 use Prim.Native.Nat.{ℕ, _+_, _≤_}
 use native.Mathlib.Omega.{arith}
 use Rattle.sets.specs.Set.{Set}
 use Rattle.sets.specs.Loop.{Step, Run, stop, again}
+
+-- What is left of a run to u, after `used` rounds of `total`: from the set that it is at, of which something is held.
+pub record Left (F : Step) (Held : Set → Type 0) (u : Set) (used total : ℕ) : Type 0 where
+  pub now : Set
+  pub held : Held now
+  pub rest : ℕ
+  pub run : Run F now u rest
+  pub sum : used + rest ≡ total
 
 -- the next turn of a run from v to u in p rounds
 pub record Turn (F : Step) (v u : Set) (p : ℕ) : Type 0 where

@@ -27,11 +27,11 @@ use Rattle.cases.specs.Conditions.{nodeAt, isBinder, binderCount}
 use Rattle.cases.specs.Checks.{transitionsIn, nodesIn}
 use Rattle.cases.proofs.Spans.{end-one}
 use Rattle.routes.specs.Direct.{Direct}
-use Rattle.routes.specs.Evaluating.{Masks, Shown, Asks, KindAt, Evaluated}
+use Rattle.routes.specs.Evaluating.{value, Masks, Shown, Asks, KindAt, Evaluated}
 use Rattle.routes.specs.declared.Value.{Value}
 use Rattle.routes.proofs.DirectLaws.{direct-sized}
 use Rattle.routes.proofs.NodeLaws.{Binder, apart, by-kind, inside, in-arities, operand, block-of, arity, ruled-by}
-use Rattle.routes.proofs.EvaluateLaws.{value, all-spent}
+use Rattle.routes.proofs.EvaluateLaws.{all-spent}
 
 -- a row that is the words of a set is one of the rows
 row-inside : (rows : List (List ℕ)) (k : ℕ) (v : Set) → getD rows k [] ≡ words wordCount v → k < length rows

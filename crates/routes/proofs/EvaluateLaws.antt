@@ -1,6 +1,6 @@
 -- What the evaluator answers at a constant, a variable, an and or an or, a box or a diamond, from the answers at its operands.
 use mathlib.Core.Path.{_≡_, refl, sym, ap, subst, _∙_}
-use mathlib.Core.Bool.{Bool, true, false, cond, _&&_, _||_}
+use mathlib.Core.Bool.{true, false, cond, _&&_, _||_}
 use mathlib.Core.List.{List, [], map}
 use Prim.Native.Nat.{ℕ, _+_, _<_}
 use native.Mathlib.Omega.{arith}
@@ -24,15 +24,11 @@ use Rattle.cases.specs.Meaning.{setOf}
 use Rattle.cases.specs.Checks.{transitionsIn, nodesIn}
 use Rattle.cases.proofs.Spans.{end-leaf, end-one, end-two, second-node, second-inside}
 use Rattle.routes.specs.Direct.{FromTwo, FromOne, Direct}
-use Rattle.routes.specs.Evaluating.{modalIn, Asks, KindAt, Rule, Evaluated}
+use Rattle.routes.specs.Evaluating.{value, modalIn, Asks, KindAt, Rule, Evaluated}
 use Rattle.routes.specs.declared.Value.{Value}
 use Rattle.routes.proofs.DirectLaws.{direct-sized}
 use Rattle.routes.proofs.NodeLaws.{by-kind, whole, inside, in-arities, node-read, kind-at, asks, operand, arity, ruled, ruled-by}
 use Rattle.routes.proofs.NodeLaws.{Binder, binder-of, block-of}
-
--- the values that are returned
-abbrev pub value : List ℕ → ℕ → ℕ → Bool → Value
-value set next rounds spent = record { set = set; next = next; rounds = rounds; spent = spent }
 
 -- the answer where the rounds are spent
 pub all-spent : {h : Header} {records formula labels : List ℕ} {rows : List (List ℕ)} {at used limit : ℕ} {o : Value} → o .spent ≡ true

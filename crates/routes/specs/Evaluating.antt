@@ -23,6 +23,10 @@ use Rattle.cases.specs.Checks.{transitionsIn, nodesIn, Holds}
 use Rattle.routes.specs.Direct.{Direct}
 use Rattle.routes.specs.declared.Value.{Value}
 
+-- the values that are returned
+abbrev pub value : List ℕ → ℕ → ℕ → Bool → Value
+value set next rounds spent = record { set = set; next = next; rounds = rounds; spent = spent }
+
 -- the property of a state that a box or a diamond asks for
 abbrev pub modalIn : Bool → ℕ → List Transition → Action → Set → ℕ → Bool
 modalIn diamond n ts α v = cond diamond (diamondIn n ts α v) (boxIn n ts α v)

@@ -18,7 +18,7 @@ ghost use Rattle.cases.specs.Checks.{transitionsIn, nodesIn};
 ghost use Rattle.routes.specs.Direct.{worked};
 ghost use Rattle.routes.specs.Route.{direct, runOf};
 ghost use Rattle.routes.specs.Answering.{Rooted};
-ghost use Rattle.routes.specs.Evaluating.{Records, ActionPart, FormulaPart, Asks, KindAt, Evaluated};
+ghost use Rattle.routes.specs.Evaluating.{value, Records, ActionPart, FormulaPart, Asks, KindAt, Evaluated};
 
 fn wide(x: u8) -> usize
     ensures { λ r. ⌜ r ≡ x ⌝ }
@@ -26,167 +26,102 @@ fn wide(x: u8) -> usize
     x as usize
 }
 
+fn value_of(set: [u64; WORDS], next: usize, rounds: u64, spent: bool) -> Value
+    ensures { λ r. ⌜ r ≡ value set next rounds spent ⌝ }
+{
+    Value {
+        set: set,
+        next: next,
+        rounds: rounds,
+        spent: spent,
+    }
+}
+
 // The set of node `at`, after `used` rounds.
 fn evaluate(
     h: Header,
     records: &[u8],
-    formula: &[u8],
-    labels: &[u64],
-    blocks: &[u8],
+    nodes: &[u8],
+    masks: &[u64],
+    rows: &[u8],
     sets: &[[u64; WORDS]; BLOCKS],
     at: usize,
     used: u64,
     limit: u64,
 ) -> Value
-    requires { ⌜ Asks h (now records) (now formula) (now labels) (now blocks) at used limit ⌝ }
-    ensures { λ r. ⌜ Evaluated h (now (records .entry)) (now (formula .entry)) (now (labels .entry)) (now (sets .entry)) at used limit r ⌝ }
+    requires { ⌜ Asks h (now records) (now nodes) (now masks) (now rows) at used limit ⌝ }
+    ensures { λ r. ⌜ Evaluated h (now (records .entry)) (now (nodes .entry)) (now (masks .entry)) (now (sets .entry)) at used limit r ⌝ }
 {
-    let x = node_at(formula, at);
+    let x = node_at(nodes, at);
     let kind = x.kind;
     if kind <= 1 {
         let all = sets::initial(h.states, kind == 1);
-        return Value {
-            set: all,
-            next: at + 1,
-            rounds: used,
-            spent: false,
-        };
+        return value_of(all, at + 1, used, false);
     }
     if kind <= 3 {
-        return pair(
-            h,
-            records,
-            formula,
-            labels,
-            blocks,
-            sets,
-            at,
-            kind,
-            used,
-            limit,
-        );
+        return pair(h, records, nodes, masks, rows, sets, at, kind, used, limit);
     }
     if kind <= 5 {
-        return modal(
-            h,
-            records,
-            formula,
-            labels,
-            blocks,
-            sets,
-            at,
-            kind,
-            used,
-            limit,
-        );
+        return modal(h, records, nodes, masks, rows, sets, at, kind, used, limit);
     }
     if kind == 6 {
         let j = x.arg;
-        let k = wide(blocks[j]);
+        let k = wide(rows[j]);
         let held = sets[k];
-        return Value {
-            set: held,
-            next: at + 1,
-            rounds: used,
-            spent: false,
-        };
+        return value_of(held, at + 1, used, false);
     }
-    binder(
-        h,
-        records,
-        formula,
-        labels,
-        blocks,
-        sets,
-        at,
-        kind,
-        used,
-        limit,
-    )
+    binder(h, records, nodes, masks, rows, sets, at, kind, used, limit)
 }
 
 // An and or an or: both operands, left first.
 fn pair(
     h: Header,
     records: &[u8],
-    formula: &[u8],
-    labels: &[u64],
-    blocks: &[u8],
+    nodes: &[u8],
+    masks: &[u64],
+    rows: &[u8],
     sets: &[[u64; WORDS]; BLOCKS],
     at: usize,
     kind: usize,
     used: u64,
     limit: u64,
 ) -> Value
-    requires { ⌜ Asks h (now records) (now formula) (now labels) (now blocks) at used limit × KindAt (now formula) (h .nodes) at kind 2 3 ⌝ }
-    ensures { λ r. ⌜ Evaluated h (now (records .entry)) (now (formula .entry)) (now (labels .entry)) (now (sets .entry)) at used limit r ⌝ }
+    requires { ⌜ Asks h (now records) (now nodes) (now masks) (now rows) at used limit × KindAt (now nodes) (h .nodes) at kind 2 3 ⌝ }
+    ensures { λ r. ⌜ Evaluated h (now (records .entry)) (now (nodes .entry)) (now (masks .entry)) (now (sets .entry)) at used limit r ⌝ }
 {
-    let one = evaluate(
-        h,
-        records,
-        formula,
-        labels,
-        blocks,
-        sets,
-        at + 1,
-        used,
-        limit,
-    );
+    let one = evaluate(h, records, nodes, masks, rows, sets, at + 1, used, limit);
     if one.spent {
         return one;
     }
-    let two = evaluate(
-        h,
-        records,
-        formula,
-        labels,
-        blocks,
-        sets,
-        one.next,
-        one.rounds,
-        limit,
-    );
+    let next = one.next;
+    let rounds = one.rounds;
+    let two = evaluate(h, records, nodes, masks, rows, sets, next, rounds, limit);
     if two.spent {
         return two;
     }
     let left = one.set;
     let right = two.set;
     let set = sets::combine(left, right, kind == 3);
-    Value {
-        set: set,
-        next: two.next,
-        rounds: two.rounds,
-        spent: false,
-    }
+    value_of(set, two.next, two.rounds, false)
 }
 
 // A box or a diamond.
 fn modal(
     h: Header,
     records: &[u8],
-    formula: &[u8],
-    labels: &[u64],
-    blocks: &[u8],
+    nodes: &[u8],
+    masks: &[u64],
+    rows: &[u8],
     sets: &[[u64; WORDS]; BLOCKS],
     at: usize,
     kind: usize,
     used: u64,
     limit: u64,
 ) -> Value
-    requires { ⌜ Asks h (now records) (now formula) (now labels) (now blocks) at used limit × KindAt (now formula) (h .nodes) at kind 4 5 ⌝ }
-    ensures { λ r. ⌜ Evaluated h (now (records .entry)) (now (formula .entry)) (now (labels .entry)) (now (sets .entry)) at used limit r ⌝ }
+    requires { ⌜ Asks h (now records) (now nodes) (now masks) (now rows) at used limit × KindAt (now nodes) (h .nodes) at kind 4 5 ⌝ }
+    ensures { λ r. ⌜ Evaluated h (now (records .entry)) (now (nodes .entry)) (now (masks .entry)) (now (sets .entry)) at used limit r ⌝ }
 {
-    let one = evaluate(
-        h,
-        records,
-        formula,
-        labels,
-        blocks,
-        sets,
-        at + 1,
-        used,
-        limit,
-    );
+    let one = evaluate(h, records, nodes, masks, rows, sets, at + 1, used, limit);
     if one.spent {
         return one;
     }
@@ -196,71 +131,46 @@ fn modal(
         h.transitions,
         h.states,
         h.labels,
-        labels[at],
+        masks[at],
         operand,
         kind == 5,
     );
-    Value {
-        set: set,
-        next: one.next,
-        rounds: one.rounds,
-        spent: false,
-    }
+    value_of(set, one.next, one.rounds, false)
 }
 
 // A mu or a nu: the rounds of its loop. The sets of outer binders are held.
 fn binder(
     h: Header,
     records: &[u8],
-    formula: &[u8],
-    labels: &[u64],
-    blocks: &[u8],
+    nodes: &[u8],
+    masks: &[u64],
+    rows: &[u8],
     sets: &[[u64; WORDS]; BLOCKS],
     at: usize,
     kind: usize,
     used: u64,
     limit: u64,
 ) -> Value
-    requires { ⌜ Asks h (now records) (now formula) (now labels) (now blocks) at used limit × KindAt (now formula) (h .nodes) at kind 7 8 ⌝ }
-    ensures { λ r. ⌜ Evaluated h (now (records .entry)) (now (formula .entry)) (now (labels .entry)) (now (sets .entry)) at used limit r ⌝ }
+    requires { ⌜ Asks h (now records) (now nodes) (now masks) (now rows) at used limit × KindAt (now nodes) (h .nodes) at kind 7 8 ⌝ }
+    ensures { λ r. ⌜ Evaluated h (now (records .entry)) (now (nodes .entry)) (now (masks .entry)) (now (sets .entry)) at used limit r ⌝ }
 {
-    let k = wide(blocks[at]);
+    let k = wide(rows[at]);
     let mut held = sets::initial(h.states, kind == 8);
     let mut before = used;
     let mut s = *sets;
     loop {
         s[k] = held;
-        let one = evaluate(
-            h,
-            records,
-            formula,
-            labels,
-            blocks,
-            &s,
-            at + 1,
-            before,
-            limit,
-        );
+        let one = evaluate(h, records, nodes, masks, rows, &s, at + 1, before, limit);
         if one.spent {
             return one;
         }
         let next = one.set;
         let rounds = one.rounds;
         if limit <= rounds {
-            return Value {
-                set: next,
-                next: one.next,
-                rounds: rounds,
-                spent: true,
-            };
+            return value_of(next, one.next, rounds, true);
         }
         if sets::equal(&next, &held) {
-            return Value {
-                set: next,
-                next: one.next,
-                rounds: rounds + 1,
-                spent: false,
-            };
+            return value_of(next, one.next, rounds + 1, false);
         }
         held = next;
         before = rounds + 1;

@@ -20,6 +20,7 @@ use Rattle.routes.proofs.evaluate.pair.Kinds as pair-kinds
 use Rattle.routes.proofs.evaluate.+binder+evaluate+modal+pair.Lts-pair as pair-lts
 use Rattle.cases.proofs.node_at.Reads as node-at-reads
 use Rattle.routes.proofs.evaluate.wide.Reads as wide-reads
+use Rattle.routes.proofs.evaluate.value_of.Reads as value-of-reads
 use Rattle.sets.proofs.combine.Reads as combine-reads
 use Rattle.routes.proofs.modal.modal_set.Reads as modal-set-reads
 use Rattle.sets.proofs.equal.Reads as equal-reads
@@ -65,23 +66,23 @@ abbrev pair-below : ℕ → In 5 pair-kinds.ps
 pair-below t = and 5 pair-kinds.ps (falls 5 pair-kinds.ps _<_ μ-pair t) pair.Pre
 
 abbrev binder-calls : ℕ → binder-lts.Claims
-binder-calls t = (wide-reads.Asked, wide-reads.Learnt, initial-reads.Asked, initial-reads.Learnt, evaluate-below t, evaluate.Post, equal-reads.Asked, equal-reads.Learnt)
+binder-calls t = (wide-reads.Asked, wide-reads.Learnt, initial-reads.Asked, initial-reads.Learnt, evaluate-below t, evaluate.Post, value-of-reads.Asked, value-of-reads.Learnt, equal-reads.Asked, equal-reads.Learnt)
 
 abbrev evaluate-calls : ℕ → evaluate-lts.Claims
-evaluate-calls t = (node-at-reads.Asked, node-at-reads.Learnt, initial-reads.Asked, initial-reads.Learnt, pair-below t, pair.Post, modal-below t, modal.Post, wide-reads.Asked, wide-reads.Learnt, binder-below t, binder.Post)
+evaluate-calls t = (node-at-reads.Asked, node-at-reads.Learnt, initial-reads.Asked, initial-reads.Learnt, value-of-reads.Asked, value-of-reads.Learnt, pair-below t, pair.Post, modal-below t, modal.Post, wide-reads.Asked, wide-reads.Learnt, binder-below t, binder.Post)
 
 abbrev modal-calls : ℕ → modal-lts.Claims
-modal-calls t = (evaluate-below t, evaluate.Post, modal-set-reads.Asked, modal-set-reads.Learnt)
+modal-calls t = (evaluate-below t, evaluate.Post, modal-set-reads.Asked, modal-set-reads.Learnt, value-of-reads.Asked, value-of-reads.Learnt)
 
 abbrev pair-calls : ℕ → pair-lts.Claims
-pair-calls t = (evaluate-below t, evaluate.Post, combine-reads.Asked, combine-reads.Learnt)
+pair-calls t = (evaluate-below t, evaluate.Post, combine-reads.Asked, combine-reads.Learnt, value-of-reads.Asked, value-of-reads.Learnt)
 
 abbrev binder-Inv-loop : binder-lts.InvT-loop
-binder-Inv-loop h records formula labels blocks sets at kind used limit k held₀ before₀ s₀ held before s =
-    Going h records formula labels sets at kind used limit k held before s
+binder-Inv-loop h records nodes masks rows sets at kind used limit k held₀ before₀ s₀ held before s =
+    Going h records nodes masks sets at kind used limit k held before s
 
 abbrev binder-μ-loop : binder-lts.MeasureT-loop
-binder-μ-loop h records formula labels blocks sets at kind used limit k held₀ before₀ s₀ held before s =
+binder-μ-loop h records nodes masks rows sets at kind used limit k held₀ before₀ s₀ held before s =
     limit - before
 
 binder-shared-slice-read-wide : (t : ℕ) → binder-lts.Need-shared-slice-read-wide (binder-calls t) (binder-at t) binder.Post binder-Inv-loop binder-μ-loop
@@ -111,17 +112,23 @@ binder-evaluate-requires t c κs = let p = c .before .before .before .before .be
 binder-returns : (t : ℕ) → binder-lts.Need-returns (binder-calls t) (binder-at t) binder.Post binder-Inv-loop binder-μ-loop
 binder-returns t c = let p = c .before .before .before .before .before .before .before .before .before .before .before .before .pre .1 in body-spent (p .0) (p .1) (c .before .before .before .before .before .before .wide .ensures) (c .before .before .before .loop .inv) (c .before .evaluate .ensures) (c .if1 .taken)
 
+binder-value-of-requires : (t : ℕ) → binder-lts.Need-value-of-requires (binder-calls t) (binder-at t) binder.Post binder-Inv-loop binder-μ-loop
+binder-value-of-requires t c κs = tt
+
 binder-returns-2 : (t : ℕ) → binder-lts.Need-returns-2 (binder-calls t) (binder-at t) binder.Post binder-Inv-loop binder-μ-loop
-binder-returns-2 t c = let p = c .before .before .before .before .before .before .before .before .before .before .before .before .before .before .pre .1 in round-spent (p .0) (p .1) (c .before .before .before .before .before .before .before .before .wide .ensures) (c .before .before .before .before .before .loop .inv) (c .before .before .before .evaluate .ensures) (c .before .before .if1 .left) (c .if2 .taken)
+binder-returns-2 t c = let p = c .before .before .before .before .before .before .before .before .before .before .before .before .before .before .before .pre .1 in rw (c .value-of .ensures) (round-spent (p .0) (p .1) (c .before .before .before .before .before .before .before .before .before .wide .ensures) (c .before .before .before .before .before .before .loop .inv) (c .before .before .before .before .evaluate .ensures) (c .before .before .before .if1 .left) (c .before .if2 .taken))
 
 binder-equal-requires : (t : ℕ) → binder-lts.Need-equal-requires (binder-calls t) (binder-at t) binder.Post binder-Inv-loop binder-μ-loop
 binder-equal-requires t c κs = tt
 
-binder-add-t34 : (t : ℕ) → binder-lts.Need-add-t34 (binder-calls t) (binder-at t) binder.Post binder-Inv-loop binder-μ-loop
-binder-add-t34 t c = omega (arith, c .before .before .before .before .if2 .left)
+binder-add-value-of : (t : ℕ) → binder-lts.Need-add-value-of (binder-calls t) (binder-at t) binder.Post binder-Inv-loop binder-μ-loop
+binder-add-value-of t c = omega (arith, c .before .before .before .before .if2 .left)
+
+binder-value-of-requires-2 : (t : ℕ) → binder-lts.Need-value-of-requires-2 (binder-calls t) (binder-at t) binder.Post binder-Inv-loop binder-μ-loop
+binder-value-of-requires-2 t c κs = tt
 
 binder-returns-3 : (t : ℕ) → binder-lts.Need-returns-3 (binder-calls t) (binder-at t) binder.Post binder-Inv-loop binder-μ-loop
-binder-returns-3 t c = let p = c .before .before .before .before .before .before .before .before .before .before .before .before .before .before .before .before .before .before .pre .1 in stopped (p .0) (p .1) (c .before .before .before .before .before .before .before .before .before .before .before .before .wide .ensures) (c .before .before .before .before .before .before .before .before .before .loop .inv) (c .before .before .before .before .before .before .before .evaluate .ensures) (c .before .before .before .before .before .before .if1 .left) (c .before .before .before .before .if2 .left) (c .before .equal .ensures .yes-if (c .if3 .taken))
+binder-returns-3 t c = let p = c .before .before .before .before .before .before .before .before .before .before .before .before .before .before .before .before .before .before .before .pre .1 in rw (c .value-of2 .ensures) (stopped (p .0) (p .1) (c .before .before .before .before .before .before .before .before .before .before .before .before .before .wide .ensures) (c .before .before .before .before .before .before .before .before .before .before .loop .inv) (c .before .before .before .before .before .before .before .before .evaluate .ensures) (c .before .before .before .before .before .before .before .if1 .left) (c .before .before .before .before .before .if2 .left) (c .before .before .equal .ensures .yes-if (c .before .if3 .taken)))
 
 binder-add-before : (t : ℕ) → binder-lts.Need-add-before (binder-calls t) (binder-at t) binder.Post binder-Inv-loop binder-μ-loop
 binder-add-before t c = omega (arith, c .before .before .before .before .if2 .left)
@@ -138,11 +145,14 @@ evaluate-node-at-requires t c κs = let q = c .before .before .before .before .p
 evaluate-initial-requires : (t : ℕ) → evaluate-lts.Need-initial-requires (evaluate-calls t) (evaluate-at t) evaluate.Post
 evaluate-initial-requires t c κs = c .before .before .before .before .before .before .pre .1 .parts .model .few-states
 
-evaluate-add-t18 : (t : ℕ) → evaluate-lts.Need-add-t18 (evaluate-calls t) (evaluate-at t) evaluate.Post
-evaluate-add-t18 t c = let q = c .before .before .before .before .before .before .before .pre .1 in omega (arith, q .node, q .parts .nodes .holds .few)
+evaluate-add-value-of : (t : ℕ) → evaluate-lts.Need-add-value-of (evaluate-calls t) (evaluate-at t) evaluate.Post
+evaluate-add-value-of t c = let q = c .before .before .before .before .before .before .before .pre .1 in omega (arith, q .node, q .parts .nodes .holds .few)
+
+evaluate-value-of-requires : (t : ℕ) → evaluate-lts.Need-value-of-requires (evaluate-calls t) (evaluate-at t) evaluate.Post
+evaluate-value-of-requires t c κs = tt
 
 evaluate-returns : (t : ℕ) → evaluate-lts.Need-returns (evaluate-calls t) (evaluate-at t) evaluate.Post
-evaluate-returns t c = let q = c .before .before .before .before .before .before .before .pre .1 in constant-done q (kind-at q (c .before .before .node-at .ensures) (omega arith) (c .before .if1 .taken)) (c .initial .ensures)
+evaluate-returns t c = let q = c .before .before .before .before .before .before .before .before .pre .1 in rw (c .value-of .ensures) (constant-done q (kind-at q (c .before .before .before .node-at .ensures) (omega arith) (c .before .before .if1 .taken)) (c .before .initial .ensures))
 
 evaluate-pair-requires : (t : ℕ) → evaluate-lts.Need-pair-requires (evaluate-calls t) (evaluate-at t) evaluate.Post
 evaluate-pair-requires t c κs = let q = c .before .before .before .before .before .before .before .pre .1 in (omega (arith, c .before .before .before .before .before .before .before .pre .0), (q, kind-at q (c .before .before .node-at .ensures) (c .before .if1 .left) (c .if2 .taken)))
@@ -168,11 +178,14 @@ evaluate-mul-held t c = let q = c .before .before .before .before .before .befor
 evaluate-element-copy-out-held : (t : ℕ) → evaluate-lts.Need-element-copy-out-held (evaluate-calls t) (evaluate-at t) evaluate.Post
 evaluate-element-copy-out-held t c = let q = c .before .before .before .before .before .before .before .before .before .before .before .pre .1 in block-fits q (binder-of q (c .before .before .before .before .before .before .node-at .ensures) (c .before .before .if4 .taken)) (c .wide .ensures)
 
-evaluate-add-t21 : (t : ℕ) → evaluate-lts.Need-add-t21 (evaluate-calls t) (evaluate-at t) evaluate.Post
-evaluate-add-t21 t c = let q = c .before .before .before .before .before .before .before .before .before .before .before .before .pre .1 in omega (arith, q .node, q .parts .nodes .holds .few)
+evaluate-add-value-of-2 : (t : ℕ) → evaluate-lts.Need-add-value-of-2 (evaluate-calls t) (evaluate-at t) evaluate.Post
+evaluate-add-value-of-2 t c = let q = c .before .before .before .before .before .before .before .before .before .before .before .before .pre .1 in omega (arith, q .node, q .parts .nodes .holds .few)
+
+evaluate-value-of-requires-2 : (t : ℕ) → evaluate-lts.Need-value-of-requires-2 (evaluate-calls t) (evaluate-at t) evaluate.Post
+evaluate-value-of-requires-2 t c κs = tt
 
 evaluate-returns-4 : (t : ℕ) → evaluate-lts.Need-returns-4 (evaluate-calls t) (evaluate-at t) evaluate.Post
-evaluate-returns-4 t c = let q = c .before .before .before .before .before .before .before .before .before .before .before .before .pre .1 in variable-done q (c .before .before .before .before .before .before .before .node-at .ensures) (c .before .before .before .if4 .taken) (c .before .wide .ensures)
+evaluate-returns-4 t c = let q = c .before .before .before .before .before .before .before .before .before .before .before .before .before .pre .1 in rw (c .value-of2 .ensures) (variable-done q (c .before .before .before .before .before .before .before .before .node-at .ensures) (c .before .before .before .before .if4 .taken) (c .before .before .wide .ensures))
 
 evaluate-binder-requires : (t : ℕ) → evaluate-lts.Need-binder-requires (evaluate-calls t) (evaluate-at t) evaluate.Post
 evaluate-binder-requires t c κs = let q = c .before .before .before .before .before .before .before .before .before .pre .1 in (omega (arith, c .before .before .before .before .before .before .before .before .before .pre .0), (q, kind-at q (c .before .before .before .before .node-at .ensures) (omega (arith, c .before .if3 .left, c .if4 .left)) (kind-known q (c .before .before .before .before .node-at .ensures))))
@@ -198,8 +211,11 @@ modal-shared-slice-read-modal-set t c = let p = c .before .before .before .befor
 modal-modal-set-requires : (t : ℕ) → modal-lts.Need-modal-set-requires (modal-calls t) (modal-at t) modal.Post
 modal-modal-set-requires t c κs = c .before .before .before .before .before .before .before .before .pre .1 .0 .parts .model
 
+modal-value-of-requires : (t : ℕ) → modal-lts.Need-value-of-requires (modal-calls t) (modal-at t) modal.Post
+modal-value-of-requires t c κs = tt
+
 modal-returns-2 : (t : ℕ) → modal-lts.Need-returns-2 (modal-calls t) (modal-at t) modal.Post
-modal-returns-2 t c = let p = c .before .before .before .before .before .before .before .before .before .pre .1 in modal-done (p .0) (p .1) (c .before .before .before .before .evaluate .ensures) (c .before .before .before .if1 .left) (c .modal-set .ensures)
+modal-returns-2 t c = let p = c .before .before .before .before .before .before .before .before .before .before .pre .1 in rw (c .value-of .ensures) (modal-done (p .0) (p .1) (c .before .before .before .before .before .evaluate .ensures) (c .before .before .before .before .if1 .left) (c .before .modal-set .ensures))
 
 pair-add-evaluate : (t : ℕ) → pair-lts.Need-add-evaluate (pair-calls t) (pair-at t) pair.Post
 pair-add-evaluate t c = let p = c .before .before .before .before .pre .1 in omega (arith, p .0 .node, p .0 .parts .nodes .holds .few)
@@ -219,8 +235,11 @@ pair-returns-2 t c = let p = c .before .before .before .before .before .before .
 pair-combine-requires : (t : ℕ) → pair-lts.Need-combine-requires (pair-calls t) (pair-at t) pair.Post
 pair-combine-requires t c κs = tt
 
+pair-value-of-requires : (t : ℕ) → pair-lts.Need-value-of-requires (pair-calls t) (pair-at t) pair.Post
+pair-value-of-requires t c κs = tt
+
 pair-returns-3 : (t : ℕ) → pair-lts.Need-returns-3 (pair-calls t) (pair-at t) pair.Post
-pair-returns-3 t c = let p = c .before .before .before .before .before .before .before .before .before .before .before .pre .1 in pair-done (p .0) (p .1) (c .before .before .before .before .before .before .evaluate .ensures) (c .before .before .before .before .before .if1 .left) (c .before .before .before .before .evaluate2 .ensures) (c .before .before .before .if2 .left) (c .combine .ensures)
+pair-returns-3 t c = let p = c .before .before .before .before .before .before .before .before .before .before .before .before .pre .1 in rw (c .value-of .ensures) (pair-done (p .0) (p .1) (c .before .before .before .before .before .before .before .evaluate .ensures) (c .before .before .before .before .before .before .if1 .left) (c .before .before .before .before .before .evaluate2 .ensures) (c .before .before .before .before .if2 .left) (c .before .combine .ensures))
 
 pub +binder+evaluate+modal+pair-spec : {M : Type 1} → statement M
 +binder+evaluate+modal+pair-spec = close μ-binder μ-evaluate μ-modal μ-pair (λ t. binder-lts.spec
@@ -238,9 +257,11 @@ pub +binder+evaluate+modal+pair-spec : {M : Type 1} → statement M
     (binder-add-evaluate t)
     (binder-evaluate-requires t)
     (binder-returns t)
+    (binder-value-of-requires t)
     (binder-returns-2 t)
     (binder-equal-requires t)
-    (binder-add-t34 t)
+    (binder-add-value-of t)
+    (binder-value-of-requires-2 t)
     (binder-returns-3 t)
     (binder-add-before t)
     (binder-loop-less t)
@@ -251,7 +272,8 @@ pub +binder+evaluate+modal+pair-spec : {M : Type 1} → statement M
     evaluate.Post
     (evaluate-node-at-requires t)
     (evaluate-initial-requires t)
-    (evaluate-add-t18 t)
+    (evaluate-add-value-of t)
+    (evaluate-value-of-requires t)
     (evaluate-returns t)
     (evaluate-pair-requires t)
     (evaluate-returns-2 t)
@@ -261,7 +283,8 @@ pub +binder+evaluate+modal+pair-spec : {M : Type 1} → statement M
     (evaluate-wide-requires t)
     (evaluate-mul-held t)
     (evaluate-element-copy-out-held t)
-    (evaluate-add-t21 t)
+    (evaluate-add-value-of-2 t)
+    (evaluate-value-of-requires-2 t)
     (evaluate-returns-4 t)
     (evaluate-binder-requires t)
     (evaluate-returns-5 t))
@@ -275,6 +298,7 @@ pub +binder+evaluate+modal+pair-spec : {M : Type 1} → statement M
     (modal-mul-modal-set t)
     (modal-shared-slice-read-modal-set t)
     (modal-modal-set-requires t)
+    (modal-value-of-requires t)
     (modal-returns-2 t))
     λ t. pair-lts.spec
     (pair-calls t)
@@ -286,4 +310,5 @@ pub +binder+evaluate+modal+pair-spec : {M : Type 1} → statement M
     (pair-evaluate-requires-2 t)
     (pair-returns-2 t)
     (pair-combine-requires t)
+    (pair-value-of-requires t)
     (pair-returns-3 t)

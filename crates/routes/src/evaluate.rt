@@ -26,6 +26,7 @@ fn wide(x: u8) -> usize
     x as usize
 }
 
+// A set, the node after those that it is of, the rounds so far, and whether they are spent.
 fn value_of(set: [u64; WORDS], next: usize, rounds: u64, spent: bool) -> Value
     ensures { λ r. ⌜ r ≡ value set next rounds spent ⌝ }
 {
@@ -37,19 +38,19 @@ fn value_of(set: [u64; WORDS], next: usize, rounds: u64, spent: bool) -> Value
     }
 }
 
-// The set of node `at`, after `used` rounds.
+// The set of node `at`, after `used` rounds. Beside the parts of the case it is handed, for each node, the labels accepted as a mask and its block.
 fn evaluate(
     h: Header,
     records: &[u8],
     nodes: &[u8],
     masks: &[u64],
-    rows: &[u8],
+    block: &[u8],
     sets: &[[u64; WORDS]; BLOCKS],
     at: usize,
     used: u64,
     limit: u64,
 ) -> Value
-    requires { ⌜ Asks h (now records) (now nodes) (now masks) (now rows) at used limit ⌝ }
+    requires { ⌜ Asks h (now records) (now nodes) (now masks) (now block) at used limit ⌝ }
     ensures { λ r. ⌜ Evaluated h (now (records .entry)) (now (nodes .entry)) (now (masks .entry)) (now (sets .entry)) at used limit r ⌝ }
 {
     let x = node_at(nodes, at);
@@ -59,18 +60,18 @@ fn evaluate(
         return value_of(all, at + 1, used, false);
     }
     if kind <= 3 {
-        return pair(h, records, nodes, masks, rows, sets, at, kind, used, limit);
+        return pair(h, records, nodes, masks, block, sets, at, kind, used, limit);
     }
     if kind <= 5 {
-        return modal(h, records, nodes, masks, rows, sets, at, kind, used, limit);
+        return modal(h, records, nodes, masks, block, sets, at, kind, used, limit);
     }
     if kind == 6 {
         let j = x.arg;
-        let k = wide(rows[j]);
+        let k = wide(block[j]);
         let held = sets[k];
         return value_of(held, at + 1, used, false);
     }
-    binder(h, records, nodes, masks, rows, sets, at, kind, used, limit)
+    binder(h, records, nodes, masks, block, sets, at, kind, used, limit)
 }
 
 // An and or an or: both operands, left first.
@@ -79,23 +80,23 @@ fn pair(
     records: &[u8],
     nodes: &[u8],
     masks: &[u64],
-    rows: &[u8],
+    block: &[u8],
     sets: &[[u64; WORDS]; BLOCKS],
     at: usize,
     kind: usize,
     used: u64,
     limit: u64,
 ) -> Value
-    requires { ⌜ Asks h (now records) (now nodes) (now masks) (now rows) at used limit × KindAt (now nodes) (h .nodes) at kind 2 3 ⌝ }
+    requires { ⌜ Asks h (now records) (now nodes) (now masks) (now block) at used limit × KindAt (now nodes) (h .nodes) at kind 2 3 ⌝ }
     ensures { λ r. ⌜ Evaluated h (now (records .entry)) (now (nodes .entry)) (now (masks .entry)) (now (sets .entry)) at used limit r ⌝ }
 {
-    let one = evaluate(h, records, nodes, masks, rows, sets, at + 1, used, limit);
+    let one = evaluate(h, records, nodes, masks, block, sets, at + 1, used, limit);
     if one.spent {
         return one;
     }
     let next = one.next;
     let rounds = one.rounds;
-    let two = evaluate(h, records, nodes, masks, rows, sets, next, rounds, limit);
+    let two = evaluate(h, records, nodes, masks, block, sets, next, rounds, limit);
     if two.spent {
         return two;
     }
@@ -111,17 +112,17 @@ fn modal(
     records: &[u8],
     nodes: &[u8],
     masks: &[u64],
-    rows: &[u8],
+    block: &[u8],
     sets: &[[u64; WORDS]; BLOCKS],
     at: usize,
     kind: usize,
     used: u64,
     limit: u64,
 ) -> Value
-    requires { ⌜ Asks h (now records) (now nodes) (now masks) (now rows) at used limit × KindAt (now nodes) (h .nodes) at kind 4 5 ⌝ }
+    requires { ⌜ Asks h (now records) (now nodes) (now masks) (now block) at used limit × KindAt (now nodes) (h .nodes) at kind 4 5 ⌝ }
     ensures { λ r. ⌜ Evaluated h (now (records .entry)) (now (nodes .entry)) (now (masks .entry)) (now (sets .entry)) at used limit r ⌝ }
 {
-    let one = evaluate(h, records, nodes, masks, rows, sets, at + 1, used, limit);
+    let one = evaluate(h, records, nodes, masks, block, sets, at + 1, used, limit);
     if one.spent {
         return one;
     }
@@ -144,23 +145,23 @@ fn binder(
     records: &[u8],
     nodes: &[u8],
     masks: &[u64],
-    rows: &[u8],
+    block: &[u8],
     sets: &[[u64; WORDS]; BLOCKS],
     at: usize,
     kind: usize,
     used: u64,
     limit: u64,
 ) -> Value
-    requires { ⌜ Asks h (now records) (now nodes) (now masks) (now rows) at used limit × KindAt (now nodes) (h .nodes) at kind 7 8 ⌝ }
+    requires { ⌜ Asks h (now records) (now nodes) (now masks) (now block) at used limit × KindAt (now nodes) (h .nodes) at kind 7 8 ⌝ }
     ensures { λ r. ⌜ Evaluated h (now (records .entry)) (now (nodes .entry)) (now (masks .entry)) (now (sets .entry)) at used limit r ⌝ }
 {
-    let k = wide(rows[at]);
+    let k = wide(block[at]);
     let mut held = sets::initial(h.states, kind == 8);
     let mut before = used;
     let mut s = *sets;
     loop {
         s[k] = held;
-        let one = evaluate(h, records, nodes, masks, rows, &s, at + 1, before, limit);
+        let one = evaluate(h, records, nodes, masks, block, &s, at + 1, before, limit);
         if one.spent {
             return one;
         }

@@ -53,15 +53,6 @@ module _ (e : List ℕ) (work marks limit : ℕ) where
       unfolding solveRefusal firstOf badLayout badTable tooShort exceeds
       refusal-0 h = rw (f .layout, f .tables, le-ltb work (cellCount e) (enough .0), le-ltb marks wordCount (enough .1), le-ltb limit (run e .1) h) refl
 
--- lent memory that is too short, one way or the other
-pub few-bytes : (e : List ℕ) (work marks : ℕ) → work < cellCount e → tooShort e work marks ≡ true
-unfolding tooShort
-few-bytes e work marks h = rw (lt-ltb work (cellCount e) h) refl
-
-pub few-words : (e : List ℕ) (work marks : ℕ) → marks < wordCount → tooShort e work marks ≡ true
-unfolding tooShort
-few-words e work marks h = rw (lt-ltb marks wordCount h) (or-true (ltb work (cellCount e)))
-
 -- ---- what each answer promises
 
 module _ (e work marks : List ℕ) (limit : ℕ) where
@@ -107,9 +98,18 @@ module _ (e work marks : List ℕ) (limit : ℕ) where
 
 -- ---- an opened file
 module _ {e : List ℕ} {sizes : Sizes} (o : Opens e sizes) (work marks : List ℕ) (limit : ℕ) where
-  pub short : tooShort e (length work) (length marks) ≡ true → Answered e work marks limit (Refused Memory) work marks
+  -- lent memory that is too short, one way or the other
+  short : tooShort e (length work) (length marks) ≡ true → Answered e work marks limit (Refused Memory) work marks
   unfolding number
   short h = answered-refused e work marks limit Memory (refusal-13 e (length work) (length marks) limit (o .formed) h) (λ z. omega arith) (λ z. omega arith)
+
+  pub few-bytes : length work < sizes .cells → Answered e work marks limit (Refused Memory) work marks
+  unfolding tooShort
+  few-bytes h = short (rw (lt-ltb (length work) (cellCount e) (omega (arith, counted (o .counts) .cells))) refl)
+
+  pub few-words : length marks < wordCount → Answered e work marks limit (Refused Memory) work marks
+  unfolding tooShort
+  few-words h = short (rw (lt-ltb (length marks) wordCount h) (or-true (ltb (length work) (cellCount e))))
 
   module _ (bytes : sizes .cells ≤ length work) (room : wordCount ≤ length marks)
       {after row : List ℕ} {rounds status : ℕ} (r : Ran e limit after row rounds status) where

@@ -169,9 +169,6 @@ module _ {R : Bool → Bool → Type 0} (kept : Kept R) {A : Type 0} (u p q : A 
   any-kept (x ∷ xs) t =
       kept .or (p x) (any p xs) (q x) (any q xs) (each x (and-left (u x) (all u xs) t)) (any-kept xs (and-right (u x) (all u xs) t))
 
--- all and any grow with the property
+-- what holds of all grows with the property
 pub all-mono : {A : Type 0} (p q : A → Bool) → ((x : A) → T (p x) → T (q x)) → (xs : List A) → T (all p xs) → T (all q xs)
 all-mono p q h xs = all-kept kept-implies (λ x. true) p q (λ x t. h x) xs (all-true xs)
-
-pub any-mono : {A : Type 0} (p q : A → Bool) → ((x : A) → T (p x) → T (q x)) → (xs : List A) → T (any p xs) → T (any q xs)
-any-mono p q h xs = any-kept kept-implies (λ x. true) p q (λ x t. h x) xs (all-true xs)

@@ -1,5 +1,5 @@
 //! Runs all tests of the built library and program: `cargo run --release --manifest-path tests/Cargo.toml`, after
-//! `rt staticlib exports` and with the program `twosides` built. The first failure ends it with a non-zero status.
+//! `rt staticlib exports` and with the programs `twosides` and `solvefile` built. The first failure ends it with a non-zero status.
 //! An argument is another seed to start from.
 
 mod library;
@@ -152,8 +152,9 @@ fn main() {
     large(seed);
     runs_cases();
     slips(seed);
-    let binary = Path::new(env!("CARGO_MANIFEST_DIR")).join("../target/bin/twosides");
-    report("program twosides", Instant::now(), program::check(&binary));
+    let programs = Path::new(env!("CARGO_MANIFEST_DIR")).join("../target/bin");
+    report("program twosides", Instant::now(), program::twosides(&programs));
+    report("program solvefile", Instant::now(), program::solvefile(&programs));
     println!("all passed; {:.1} s", start.elapsed().as_secs_f64());
 }
 

@@ -70,9 +70,13 @@ pub fn refused_cases() -> Vec<Vec<u8>> {
     ]
 }
 
+/// The four numbers of an answer that a program prints.
+pub fn line(x: Numbers) -> Line {
+    [x.refusal, x.verdict, x.count, x.rounds]
+}
+
 /// The numbers of both routes with the program's limit and buffers.
 pub fn both_routes(calls: &dyn Calls, bytes: &[u8]) -> (Line, Line) {
-    let line = |x: Numbers| [x.refusal, x.verdict, x.count, x.rounds];
     let (mut file, mut work, mut marks) = (vec![0; FILE_BUFFER], vec![0; CELLS], [0; 4]);
     let equation = calls.equation(bytes, &mut file, &mut work, &mut marks, LIMIT);
     let direct = calls.direct(bytes, &mut marks, LIMIT);

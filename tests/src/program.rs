@@ -1,9 +1,11 @@
-//! The built program `twosides`: a case on standard input, two lines on standard output.
+//! The built programs `twosides` and `solvefile`: a file on standard input, lines of numbers on standard output.
 
+use crate::calls::{Calls, MARK_WORDS};
 use crate::formats::*;
-use crate::generate::{case_of, Size};
-use crate::paper::runs;
+use crate::generate::{case_of, equations, Size};
+use crate::paper::{line, p1_file, runs, LIMIT};
 use crate::random::Random;
+use crate::slips::Reference;
 use crate::stream::{reference_lines, text};
 use crate::text::case;
 use std::io::{ErrorKind, Write};
@@ -39,8 +41,12 @@ fn output(binary: &Path, input: &[u8], piece: usize) -> Result<String, String> {
     String::from_utf8(output.stdout).map_err(|error| error.to_string())
 }
 
+const LARGE: &str = "an equation file over 65,536 bytes";
+
 /// Inputs by name.
-fn inputs() -> Vec<(&'static str, Vec<u8>)> {
+type Inputs = Vec<(&'static str, Vec<u8>)>;
+
+fn cases() -> Inputs {
     let mut all: Vec<(&str, Vec<u8>)> = runs().iter().map(|run| (run.name, run.case.bytes())).collect();
     let p1 = all[0].1.clone();
     let full = case_of(&mut Random::new(5), Size::Full);
@@ -54,7 +60,7 @@ fn inputs() -> Vec<(&'static str, Vec<u8>)> {
         ("a byte too long", [&p1[..], &[0]].concat()),
         ("a byte too short", p1[..53].to_vec()),
         ("19 bytes", p1[..19].to_vec()),
-        ("an equation file over 65,536 bytes", large.bytes()),
+        (LARGE, large.bytes()),
         ("more rounds than the limit in the equation route", spent.bytes()),
         ("the largest case", full.bytes()),
         ("a byte more than the largest case", long[..LARGEST_CASE + 1].to_vec()),
@@ -64,26 +70,60 @@ fn inputs() -> Vec<(&'static str, Vec<u8>)> {
     all
 }
 
-/// Compares the program's lines with the reference; answers how many runs were compared.
-pub fn check(binary: &Path) -> Result<u64, String> {
+fn files() -> Inputs {
+    let p1 = p1_file();
+    let mut all = vec![
+        ("P1's file", p1.clone()),
+        ("empty", Vec::new()),
+        ("a byte too long", [&p1[..], &[0]].concat()),
+        ("a byte too short", p1[..159].to_vec()),
+        ("longer than any equation file", vec![1; 1_000_000]),
+    ];
+    all.extend((0..8).map(|seed| ("any equation file", equations(&mut Random::new(seed)).bytes())));
+    all
+}
+
+/// What `twosides` prints by the reference.
+fn both_routes(bytes: &[u8]) -> String {
+    let (equation, direct) = reference_lines(bytes);
+    format!("E {}\nD {}\n", text(equation), text(direct))
+}
+
+/// What `solvefile` prints by the reference.
+fn solved(bytes: &[u8]) -> String {
+    let (mut work, mut marks) = (vec![0; CELLS], [0; MARK_WORDS]);
+    format!("S {}\n", text(line(Reference(None).solve(bytes, &mut work, &mut marks, LIMIT))))
+}
+
+/// Compares what a program prints with the reference; answers how many runs were compared.
+fn compare(binary: &Path, inputs: Inputs, expected: fn(&[u8]) -> String) -> Result<u64, String> {
     if !binary.exists() {
-        return Err("target/bin/twosides is missing: build it with `rt check twosides` first".to_string());
+        return Err(format!("{} is missing: build it with `rt check` first", binary.display()));
     }
     let mut compared = 0;
-    for (name, input) in inputs() {
-        let (equation, direct) = reference_lines(&input);
-        let expected = format!("E {}\nD {}\n", text(equation), text(direct));
-        if name == "an equation file over 65,536 bytes" {
-            assert!(expected.starts_with("E 13 0 0 0\nD 0 "), "the large case is one that only direct solves");
-        }
+    for (name, input) in inputs {
+        let expected = expected(&input);
         let pieces = if input.len() < 100 { vec![input.len(), 7] } else { vec![input.len()] };
         for piece in pieces {
-            let got = output(binary, &input, piece).map_err(|text| format!("twosides, {name}: {text}"))?;
+            let got = output(binary, &input, piece).map_err(|text| format!("{name}: {text}"))?;
             if got != expected {
-                return Err(format!("twosides, {name}: printed {got:?}, expected {expected:?}"));
+                return Err(format!("{name}: printed {got:?}, expected {expected:?}"));
             }
             compared += 1;
         }
     }
     Ok(compared)
+}
+
+/// The program `twosides` of a folder.
+pub fn twosides(folder: &Path) -> Result<u64, String> {
+    let large = cases().into_iter().find(|(name, _)| *name == LARGE).expect("the large case").1;
+    assert!(both_routes(&large).starts_with("E 13 0 0 0\nD 0 "), "the large case is one that only direct solves");
+    compare(&folder.join("twosides"), cases(), both_routes)
+}
+
+/// The program `solvefile` of a folder.
+pub fn solvefile(folder: &Path) -> Result<u64, String> {
+    assert_eq!(solved(&p1_file()), "S 0 1 3 4\n");
+    compare(&folder.join("solvefile"), files(), solved)
 }

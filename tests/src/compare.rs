@@ -11,6 +11,22 @@ use crate::tables;
 /// What went wrong, in words.
 pub type Check = Result<(), String>;
 
+/// How the reference solved the accepted files in a route.
+#[derive(Clone, Copy, Debug, Default)]
+pub struct Solving {
+    /// Files solved by trying all sets as well.
+    pub searched: u64,
+    /// Files with more rounds than the cap, compared only as spent.
+    pub capped: u64,
+}
+
+impl Solving {
+    fn add(&mut self, searched: u64, capped: u64) {
+        self.searched += searched;
+        self.capped += capped;
+    }
+}
+
 /// What was compared.
 #[derive(Clone, Debug, Default)]
 pub struct Tally {
@@ -18,10 +34,10 @@ pub struct Tally {
     pub refused: [u64; 15],
     /// Calls made and compared.
     pub calls: u64,
-    /// Accepted files solved by trying all sets as well.
-    pub searched: u64,
-    /// Accepted files with more rounds than the cap, compared only as spent.
-    pub capped: u64,
+    /// Accepted equation files, those of cases included.
+    pub equations: Solving,
+    /// Accepted cases in direct.
+    pub direct: Solving,
 }
 
 impl Tally {
@@ -35,8 +51,8 @@ impl Tally {
             *mine += theirs;
         }
         self.calls += other.calls;
-        self.searched += other.searched;
-        self.capped += other.capped;
+        self.equations.add(other.equations.searched, other.equations.capped);
+        self.direct.add(other.direct.searched, other.direct.capped);
     }
 }
 
@@ -242,7 +258,7 @@ impl Comparison<'_> {
         let direct = rounds::direct(&case, cap).ok();
         let game = meaning::states_by_game(&case);
         let search = meaning::states_by_search(&case);
-        self.tally.searched += search.is_some() as u64;
+        self.tally.direct.add(search.is_some() as u64, direct.is_none() as u64);
         let solved = match &solve {
             FileTruth::Accepted { solved: Some(solved), .. } => Some(&solved.sets[0]),
             _ => None,
@@ -268,8 +284,7 @@ impl Comparison<'_> {
         let solved = rounds::equations(&equations, cap).ok();
         let game = meaning::solution_by_game(&equations);
         let search = meaning::solution_by_search(&equations);
-        self.tally.searched += search.is_some() as u64;
-        self.tally.capped += solved.is_none() as u64;
+        self.tally.equations.add(search.is_some() as u64, solved.is_none() as u64);
         if search.is_some_and(|search| search != game) {
             return Err("reference: game and search give different solutions".to_string());
         }

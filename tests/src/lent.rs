@@ -2,6 +2,7 @@
 
 use crate::compare::Check;
 use crate::random::Random;
+use std::ops::Not;
 
 /// What a call must leave in the working bytes.
 pub enum Work {
@@ -78,4 +79,38 @@ impl Lent<u64> {
     pub fn words(size: usize, random: &mut Random) -> Lent<u64> {
         Lent::new(size, random, |word| word)
     }
+}
+
+/// Each element of lent places and of their guards, touched in turn, is noticed; answers how many were.
+pub fn check() -> Result<u64, String> {
+    let mut random = Random::new(1);
+    let mut noticed = 0;
+    for (size, written) in [(0, 0), (4, 0), (4, 4), (5, 4)] {
+        let mut marks = Lent::words(size, &mut random);
+        let words = marks.lend()[..written].to_vec();
+        noticed += each_touched(&mut marks, |marks| marks.holds(&words, "mark words"))?;
+
+        let mut work = Lent::bytes(size, &mut random);
+        work.lend()[..written].fill(1);
+        for values in [Work::Values(vec![1; written]), Work::ZeroOrOne(written)] {
+            noticed += each_touched(&mut work, |work| work.holds_work(&values))?;
+        }
+    }
+    Ok(noticed)
+}
+
+/// Touches each element of a right place and its guards in turn; answers how many were noticed, which is all of them.
+fn each_touched<T>(place: &mut Lent<T>, holds: impl Fn(&Lent<T>) -> Check) -> Result<u64, String>
+where
+    T: Copy + Not<Output = T>,
+{
+    holds(place)?;
+    for i in 0..place.all.len() {
+        place.all[i] = !place.all[i];
+        if holds(place).is_ok() {
+            return Err(format!("element {i} of {} with its guards was touched and not noticed", place.all.len()));
+        }
+        place.all[i] = !place.all[i];
+    }
+    Ok(place.all.len() as u64)
 }

@@ -4,6 +4,7 @@
 pub mod calls;
 pub mod compare;
 pub mod damage;
+pub mod faults;
 pub mod formats;
 pub mod game;
 pub mod generate;

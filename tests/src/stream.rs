@@ -6,6 +6,7 @@ use crate::paper::{both_routes, refused_cases, runs, Line};
 use crate::reader::read_case;
 use crate::slips::Reference;
 use crate::text::case;
+use std::path::Path;
 
 type Triple = (usize, usize, usize);
 
@@ -136,4 +137,20 @@ pub fn stdin_and_stdout() -> (Vec<u8>, String) {
         stdout += &format!("{} E {} D {}\n", i + 1, text(equation), text(direct));
     }
     (stdin, stdout)
+}
+
+/// The program's files `stdin` and `stdout` in a folder are what is written now; answers how many bytes were compared.
+pub fn files(folder: &Path) -> Result<u64, String> {
+    let (stdin, stdout) = stdin_and_stdout();
+    let mut compared = 0;
+    for (name, expected) in [("stdin", stdin), ("stdout", stdout.into_bytes())] {
+        let path = folder.join(name);
+        let found = std::fs::read(&path).map_err(|error| format!("cannot read {}: {error}", path.display()))?;
+        if found != expected {
+            let at = found.iter().zip(&expected).take_while(|(x, y)| x == y).count();
+            return Err(format!("{} differs from byte {at} on: write it with the program `cases`", path.display()));
+        }
+        compared += found.len() as u64;
+    }
+    Ok(compared)
 }

@@ -9,14 +9,14 @@ use native.Mathlib.Omega.{arith}
 use borrow.Author.Tests.{ne-eqb, eq-eqb}
 use lib.Dec.{eqb}
 use lib.ListN.{take}
-use Rattle.sets.specs.Lists.{range}
+use Rattle.sets.specs.Lists.{numbersFrom}
 use Rattle.sets.proofs.Lists.{table-at}
 use Rattle.cases.specs.File.{Transition}
 use Rattle.cases.specs.Case.{sameTransition, copies, copiesBefore}
 
 -- the first i elements of a list made of a range
-pub take-map-range : {B : Type 0} (f : ℕ → B) (s i m : ℕ) → i ≤ m → take i (map f (range s m)) ≡ map f (range s i)
-unfolding range
+pub take-map-range : {B : Type 0} (f : ℕ → B) (s i m : ℕ) → i ≤ m → take i (map f (numbersFrom s m)) ≡ map f (numbersFrom s i)
+unfolding numbersFrom
 take-map-range f s zero m h = refl
 take-map-range f s (suc i) zero h = absurd (omega arith)
 take-map-range f s (suc i) (suc m) h = ap (λ (l : List _). f s ∷ l) (take-map-range f (suc s) i m (omega arith))
@@ -38,16 +38,16 @@ module _ (a b x y : Transition) (p : x ≡ a) (q : y ≡ b) where
 
 module _ (record-at : ℕ → Transition) where
   -- Only the first i + 1 records matter, however many the table has.
-  pub copies-before : (i m : ℕ) → i < m → copiesBefore (map record-at (range 0 m)) i ≡ copies (record-at i) (map record-at (range 0 i))
+  pub copies-before : (i m : ℕ) → i < m → copiesBefore (map record-at (numbersFrom 0 m)) i ≡ copies (record-at i) (map record-at (numbersFrom 0 i))
   unfolding copiesBefore
   copies-before i m h = rw (table-at record-at m i _ h, take-map-range record-at 0 i m (omega arith))
 
-  pub copies-any : (i m : ℕ) → i < m → copiesBefore (map record-at (range 0 (i + 1))) i ≡ copiesBefore (map record-at (range 0 m)) i
+  pub copies-any : (i m : ℕ) → i < m → copiesBefore (map record-at (numbersFrom 0 (i + 1))) i ≡ copiesBefore (map record-at (numbersFrom 0 m)) i
   copies-any i m h = copies-before i (i + 1) (omega arith) ∙ sym (copies-before i m h)
 
   -- how many of the records from j on and before i equal record i
   abbrev pub copiesFrom : ℕ → ℕ → ℕ
-  copiesFrom i j = copies (record-at i) (map record-at (range j (i - j)))
+  copiesFrom i j = copies (record-at i) (map record-at (numbersFrom j (i - j)))
 
   -- What a search before record i keeps: none before j is equal.
   pub record NoneBefore (i j : ℕ) : Type 0 where
@@ -58,22 +58,22 @@ module _ (record-at : ℕ → Transition) where
   none-yet i = record { within = omega arith; same-left = refl }
 
   -- the number of copies is that from 0 on
-  counted : (i : ℕ) → copiesBefore (map record-at (range 0 (i + 1))) i ≡ copiesFrom i 0
+  counted : (i : ℕ) → copiesBefore (map record-at (numbersFrom 0 (i + 1))) i ≡ copiesFrom i 0
   counted i = rw (sub-zero i) (copies-before i (i + 1) (omega arith))
 
   -- record j is looked at
   looked-at : (i j : ℕ) → j < i → copiesFrom i j ≡ cond (sameTransition (record-at j) (record-at i)) 1 0 + copiesFrom i (j + 1)
-  unfolding copies range
+  unfolding copies numbersFrom
   looked-at i j h =
       let e : i - j ≡ suc (i - suc j) = omega arith in
       rw (e, add-one j)
 
   -- record j is equal: record i is not the first
   pub found : (i j : ℕ) → NoneBefore i j → j < i → sameTransition (record-at j) (record-at i) ≡ true
-      → false ≡ eqb (copiesBefore (map record-at (range 0 (i + 1))) i) 0
+      → false ≡ eqb (copiesBefore (map record-at (numbersFrom 0 (i + 1))) i) 0
   found i j n h e =
       let step : copiesFrom i j ≡ 1 + copiesFrom i (j + 1) = rw e at (looked-at i j h) in
-      sym (ne-eqb (copiesBefore (map record-at (range 0 (i + 1))) i) 0 (λ z. omega (arith, counted i)))
+      sym (ne-eqb (copiesBefore (map record-at (numbersFrom 0 (i + 1))) i) 0 (λ z. omega (arith, counted i)))
 
   -- record j differs
   pub none-more : (i j : ℕ) → NoneBefore i j → j < i → sameTransition (record-at j) (record-at i) ≡ false → NoneBefore i (j + 1)
@@ -82,9 +82,9 @@ module _ (record-at : ℕ → Transition) where
       record { within = omega arith; same-left = omega arith }
 
   -- all records before i differ
-  pub none-found : (i j : ℕ) → NoneBefore i j → i ≤ j → true ≡ eqb (copiesBefore (map record-at (range 0 (i + 1))) i) 0
-  unfolding copies range
+  pub none-found : (i j : ℕ) → NoneBefore i j → i ≤ j → true ≡ eqb (copiesBefore (map record-at (numbersFrom 0 (i + 1))) i) 0
+  unfolding copies numbersFrom
   none-found i j n h =
       let e : i - j ≡ 0 = omega arith in
       let none : copiesFrom i j ≡ 0 = rw e in
-      sym (eq-eqb (copiesBefore (map record-at (range 0 (i + 1))) i) 0 (omega (arith, counted i)))
+      sym (eq-eqb (copiesBefore (map record-at (numbersFrom 0 (i + 1))) i) 0 (omega (arith, counted i)))

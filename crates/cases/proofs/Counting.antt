@@ -12,9 +12,10 @@ use Rattle.cases.specs.Action.{Action}
 use Rattle.cases.specs.Formula.{Formula, nodes, binders}
 use Rattle.cases.specs.Prefix.{Node, arityIn, formulaArities, span, endOf, formulaAt}
 use Rattle.cases.specs.Conditions.{nodeAt, binderCount}
+use Rattle.cases.specs.internal.Tables.{made, formulaOperator, FormulaTable}
 use Rattle.cases.proofs.Spans.{span-none, span-length, span-add, end-next, exactly-whole, exactly-span, by-operands}
-use Rattle.cases.proofs.Trees.{made, arity-at}
-use Rattle.cases.proofs.TableTrees.{each-kind, formulaOperator, FormulaTable, formula-at, root}
+use Rattle.cases.proofs.Trees.{arity-at}
+use Rattle.cases.proofs.TableTrees.{each-kind, formula-at, root}
 
 -- the sum over the operands, of which there are at most two
 abbrev operandSum : ℕ → ℕ → ℕ → ℕ

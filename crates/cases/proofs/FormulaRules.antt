@@ -7,13 +7,13 @@ use native.Mathlib.Omega.{arith}
 use borrow.Author.Tests.{le-ltb, lt-ltb, eq-eqb, ne-eqb}
 use lib.Dec.{ltb}
 use lib.ListN.{length}
-use Rattle.sets.specs.Lists.{range, all}
+use Rattle.sets.specs.Lists.{numbersFrom, every}
 use Rattle.sets.proofs.Lists.{length-map-range}
 use Rattle.solver.specs.Limits.{blockLimit}
 use Rattle.cases.specs.Prefix.{Node, arityIn, formulaArities, exactly, endOf}
 use Rattle.cases.specs.File.{nodeIn}
-use Rattle.cases.specs.Conditions.{nodeOk, badFormula, isBinder, nodeAt, boundOk, badVariable, binderCount, blockCount, tooDeep}
-use Rattle.cases.specs.Checks.{nodesIn}
+use Rattle.cases.specs.Conditions.{nodeOk, badFormula, isBinder, nodeAt, boundOk, badVariable, binderCount, blockTotal, tooDeep}
+use Rattle.cases.specs.internal.Checks.{nodesIn}
 use Rattle.cases.proofs.Checking.{and-fails, range-done, range-next}
 use Rattle.cases.proofs.PrefixRules.{nodesFrom}
 
@@ -21,12 +21,12 @@ use Rattle.cases.proofs.PrefixRules.{nodesFrom}
 
 module _ (a : ℕ) (table : List Node) where
   -- a node's kind or argument is wrong
-  pub formula-fails : all (nodeOk a) table ≡ false → true ≡ badFormula a table
+  pub formula-fails : every (nodeOk a) table ≡ false → true ≡ badFormula a table
   unfolding badFormula
   formula-fails e = simp e
 
   -- none is: whether there is one formula decides
-  pub one-decides : all (nodeOk a) table ≡ true → (r : Bool) → r ≡ exactly 1 (map (arityIn formulaArities) table) → not r ≡ badFormula a table
+  pub one-decides : every (nodeOk a) table ≡ true → (r : Bool) → r ≡ exactly 1 (map (arityIn formulaArities) table) → not r ≡ badFormula a table
   unfolding badFormula
   one-decides e r w = simp (e, w)
 
@@ -62,7 +62,7 @@ unfolding nodesIn
 length-nodes part f = length-map-range (nodeIn part) 0 f
 
 -- whether every variable is bound
-pub bound-decides : (part : List ℕ) (f : ℕ) (r : Bool) → r ≡ all (boundOk (nodesIn part f)) (range 0 f) → not r ≡ badVariable (nodesIn part f)
+pub bound-decides : (part : List ℕ) (f : ℕ) (r : Bool) → r ≡ every (boundOk (nodesIn part f)) (numbersFrom 0 f) → not r ≡ badVariable (nodesIn part f)
 unfolding badVariable
 bound-decides part f r e = rw (length-nodes part f, e) refl
 
@@ -84,10 +84,10 @@ module _ (part : List ℕ) (k i : ℕ) where
 module _ (table : List Node) (count : ℕ) (is : count ≡ binderCount table) where
   -- the root is a binder
   pub root-binder : isBinder (nodeAt table 0) ≡ true → ltb blockLimit count ≡ tooDeep table
-  unfolding tooDeep blockCount
+  unfolding tooDeep blockTotal
   root-binder t = let e : 0 + binderCount table ≡ count = omega arith in rw (t, e) refl
 
   -- it is none
   pub root-other : isBinder (nodeAt table 0) ≡ false → ltb blockLimit (count + 1) ≡ tooDeep table
-  unfolding tooDeep blockCount
+  unfolding tooDeep blockTotal
   root-other f = let e : 1 + binderCount table ≡ count + 1 = omega arith in rw (f, e) refl

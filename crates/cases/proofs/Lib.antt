@@ -9,7 +9,9 @@ pub mod Copies
 pub mod Masks
 pub mod Checking
 pub mod PrefixRules
+pub mod LayoutRules
 pub mod ModelRules
 pub mod FormulaRules
+pub mod Openings
 pub mod ClosedMeaning
 pub mod Accepting

@@ -11,7 +11,7 @@ use lib.Bits.{bitAnd, bitOr}
 use lib.Dec.{T, eqb, ltb, leb, ltb→lt}
 use lib.ListN.{length, getD, set, drop, length-set, length-drop, length-map, drop-of-length-le, List·getD-map}
 use lib.Seq.{drop-cons, drop-drop, drop-length, getD-drop, getD-set-same, drop-set-lt}
-use Rattle.sets.specs.Lists.{range, all}
+use Rattle.sets.specs.Lists.{numbersFrom, every}
 use Rattle.sets.proofs.Lists.{drop-map, length-range, length-table, table-at, and-left, and-right, all-at}
 use Rattle.sets.proofs.Masks.{bitwise-and, bitwise-or, number-false, number-true, number-bitwise, number-not, number-one}
 use Rattle.cases.specs.Limits.{labelLimit, actionLimit}
@@ -19,14 +19,15 @@ use Rattle.cases.specs.Action.{Action, accepts}
 use Rattle.cases.specs.Prefix.{Node, arityIn, actionArities, wholeFormulas, trees, placeAction, actionAt}
 use Rattle.cases.specs.File.{nodeIn, labelCount, actionTable}
 use Rattle.cases.specs.Conditions.{nodeAt, actionOk, badActions}
-use Rattle.cases.specs.Masks.{maskOf, actionOf, WholeActions}
-use Rattle.cases.proofs.Trees.{first, made, placed, row-after}
-use Rattle.cases.proofs.TableTrees.{held, action-table, each-action-kind, actionOperator, placing-actions}
+use Rattle.cases.specs.internal.Masks.{maskOf, actionOf, WholeActions}
+use Rattle.cases.specs.internal.Tables.{made, actionOperator}
+use Rattle.cases.proofs.Trees.{first, placed, row-after}
+use Rattle.cases.proofs.TableTrees.{held, action-table, each-action-kind, placing-actions}
 
 -- ---- the mask of a formula by those of its operands
 
 abbrev labels : List ℕ
-labels = range 0 labelLimit
+labels = numbersFrom 0 labelLimit
 
 pub mask-false : 0 ≡ maskOf Action.False
 unfolding accepts
@@ -159,7 +160,7 @@ module _ (table : List Node) (good : WholeActions table) (ws : List ℕ) (at i :
 
 -- a nodes
 abbrev pub nodesIn : List ℕ → ℕ → List Node
-nodesIn part a = map (nodeIn part) (range 0 a)
+nodesIn part a = map (nodeIn part) (numbersFrom 0 a)
 
 module _ (part : List ℕ) (a : ℕ) (good : WholeActions (nodesIn part a)) where
   -- node i, as it is read
@@ -219,7 +220,7 @@ pub whole-actions : (b : List ℕ) → badActions b ≡ false → labelCount b �
 unfolding badActions
 whole-actions b e h =
     let t : List Node = actionTable b in
-    let oks : Bool = all (actionOk (labelCount b)) t in
+    let oks : Bool = every (actionOk (labelCount b)) t in
     let fits : Bool = wholeFormulas 0 (map (arityIn actionArities) t) in
     let each : T oks = and-left oks fits (held (oks && fits) (not-false (oks && fits) e)) in
     record {

@@ -9,19 +9,19 @@ use native.Mathlib.Omega.{arith}
 use borrow.Author.Tests.{eq-eqb}
 use lib.Dec.{T, eqb, eqb→eq, eqb-refl, T-not, not-T}
 use lib.ListN.{length, getD, take, replicate, length-replicate}
-use Rattle.sets.specs.Lists.{range, all, any}
-use Rattle.sets.specs.Set.{Set, has, Subset, same, start, Extremal}
+use Rattle.sets.specs.Lists.{numbersFrom, every, forSome}
+use Rattle.sets.specs.States.{States, has, Subset, same, start, Extremal}
 use Rattle.sets.specs.Loop.{Worked, iterate}
 use Rattle.sets.proofs.Lists.{length-map-range, getD-map-range, and-left, and-right, and-both, or-left, or-right, Implies, kept-implies}
 use Rattle.sets.proofs.Order.{before-eq, subset-antisym, extremal-map, extremal-one}
 use Rattle.sets.proofs.FixedPoint.{extremal, fixed-mono}
-use Rattle.solver.specs.Cells.{Valuation, bind}
-use Rattle.solver.proofs.Solving.{Sized, bind-sized, bind-mono}
+use Rattle.sets.specs.Valuation.{Valuation, bind, Sized}
+use Rattle.sets.proofs.Valuation.{bind-sized, bind-mono}
 use Rattle.cases.specs.Action.{Action}
-use Rattle.cases.specs.Formula.{Formula, False, True, And, Or, Box, Diamond, Variable, Fix}
+use Rattle.cases.specs.Formula.{Formula, False, True, And, Or, Box, Diamond, Variable, Fix, free}
 use Rattle.cases.specs.File.{Transition}
-use Rattle.cases.specs.Case.{sameTransition, copies, transitionAt, copiesBefore, keep, distinct}
-use Rattle.cases.specs.Meaning.{setOf, from, boxIn, diamondIn, Means}
+use Rattle.cases.specs.Case.{sameTransition, copies, transitionAt, copiesBefore, keep, distinct, Within}
+use Rattle.cases.specs.Meaning.{setOf, from, boxIn, diamondIn, Means, meaning}
 
 -- ---- any and all
 
@@ -30,75 +30,71 @@ contrary : (a b : Bool) → Implies a b → Implies (not b) (not a)
 contrary a b h t = not-T a (λ s. T-not b t (h s))
 
 -- all have p if none has not
-pub all-not : {A : Type 0} (p : A → Bool) (xs : List A) → all p xs ≡ not (any (λ x. not (p x)) xs)
-unfolding all any
+pub all-not : {A : Type 0} (p : A → Bool) (xs : List A) → every p xs ≡ not (forSome (λ x. not (p x)) xs)
+unfolding every forSome
 all-not p [] = refl
 all-not p (x ∷ xs) = go (p x) (all-not p xs)
   where
-    go : (b : Bool) → all p xs ≡ not (any (λ y. not (p y)) xs) → (b && all p xs) ≡ not (not b || any (λ y. not (p y)) xs)
+    go : (b : Bool) → every p xs ≡ not (forSome (λ y. not (p y)) xs) → (b && every p xs) ≡ not (not b || forSome (λ y. not (p y)) xs)
     go true e = e
     go false e = refl
 
 -- an element with p makes any true
-pub any-at : {A : Type 0} (p : A → Bool) (d : A) (xs : List A) (j : ℕ) → j < length xs → T (p (getD xs j d)) → T (any p xs)
-unfolding any
+pub any-at : {A : Type 0} (p : A → Bool) (d : A) (xs : List A) (j : ℕ) → j < length xs → T (p (getD xs j d)) → T (forSome p xs)
+unfolding forSome
 any-at p d [] j h t = absurd (omega arith)
-any-at p d (x ∷ xs) zero h t = or-left (p x) (any p xs) t
-any-at p d (x ∷ xs) (suc j) h t = or-right (p x) (any p xs) (any-at p d xs j (omega arith) t)
+any-at p d (x ∷ xs) zero h t = or-left (p x) (forSome p xs) t
+any-at p d (x ∷ xs) (suc j) h t = or-right (p x) (forSome p xs) (any-at p d xs j (omega arith) t)
 
 -- Element i has p, and none before it has.
 pub record First {A : Type 0} (p : A → Bool) (d : A) (xs : List A) : Type 0 where
   pub index : ℕ
   pub below : index < length xs
   pub holds : T (p (getD xs index d))
-  pub new : T (not (any p (take index xs)))
+  pub new : T (not (forSome p (take index xs)))
 
 -- where any is true there is a first element with p
-pub any-first : {A : Type 0} (p : A → Bool) (d : A) (xs : List A) → T (any p xs) → First p d xs
-unfolding any
+pub any-first : {A : Type 0} (p : A → Bool) (d : A) (xs : List A) → T (forSome p xs) → First p d xs
+unfolding forSome
 any-first p d [] t = absurd t
 any-first p d (x ∷ xs) t = go (p x) refl t (any-first p d xs)
   where
-    go : (b : Bool) → p x ≡ b → T (b || any p xs) → (T (any p xs) → First p d xs) → First p d (x ∷ xs)
+    go : (b : Bool) → p x ≡ b → T (b || forSome p xs) → (T (forSome p xs) → First p d xs) → First p d (x ∷ xs)
     go true e u next = record { index = 0; below = omega arith; holds = subst T (sym e) tt; new = tt }
     go false e u next =
         let f = next u in
         record { index = suc (f .index); below = omega (arith, f .below); holds = f .holds; new = rw e (f .new) }
 
 -- any of a list that is made from another
-any-map : {A B : Type 0} (p : B → Bool) (f : A → B) (xs : List A) → any p (map f xs) ≡ any (λ x. p (f x)) xs
-unfolding any
+any-map : {A B : Type 0} (p : B → Bool) (f : A → B) (xs : List A) → forSome p (map f xs) ≡ forSome (λ x. p (f x)) xs
+unfolding forSome
 any-map p f [] = refl
 any-map p f (x ∷ xs) = ap (λ b. p (f x) || b) (any-map p f xs)
 
 -- any of the elements that are kept
-any-keep : {A : Type 0} (p q : A → Bool) (xs : List A) → any p (keep q xs) ≡ any (λ x. q x && p x) xs
-unfolding any keep
+any-keep : {A : Type 0} (p q : A → Bool) (xs : List A) → forSome p (keep q xs) ≡ forSome (λ x. q x && p x) xs
+unfolding forSome keep
 any-keep p q [] = refl
 any-keep p q (x ∷ xs) = go (q x) (any-keep p q xs)
   where
-    go : (b : Bool) → any p (keep q xs) ≡ any (λ y. q y && p y) xs → any p (cond b (x ∷ keep q xs) (keep q xs)) ≡ ((b && p x) || any (λ y. q y && p y) xs)
+    go : (b : Bool) → forSome p (keep q xs) ≡ forSome (λ y. q y && p y) xs → forSome p (cond b (x ∷ keep q xs) (keep q xs)) ≡ ((b && p x) || forSome (λ y. q y && p y) xs)
     go true e = ap (λ b. p x || b) e
     go false e = e
 
 -- some number below n has p
-any-below : (p : ℕ → Bool) (n : ℕ) → T (any p (range 0 n)) → (j : ℕ) × (j < n) × T (p j)
+any-below : (p : ℕ → Bool) (n : ℕ) → T (forSome p (numbersFrom 0 n)) → (j : ℕ) × (j < n) × T (p j)
 any-below p n t =
-    let f = any-first (λ b. b) false (map p (range 0 n)) (rw (any-map (λ b. b) p (range 0 n)) t) in
+    let f = any-first (λ b. b) false (map p (numbersFrom 0 n)) (rw (any-map (λ b. b) p (numbersFrom 0 n)) t) in
     let h : f .index < n = omega (arith, f .below, length-map-range p 0 n) in
     (f .index, h, rw (getD-map-range p 0 n (f .index) false h, zero-add) at (f .holds))
 
 -- and the other way
-below-any : (p : ℕ → Bool) (n j : ℕ) → j < n → T (p j) → T (any p (range 0 n))
+below-any : (p : ℕ → Bool) (n j : ℕ) → j < n → T (p j) → T (forSome p (numbersFrom 0 n))
 below-any p n j h t =
-    rw (any-map (λ b. b) p (range 0 n)) at
-    (any-at (λ b. b) false (map p (range 0 n)) j (omega (arith, length-map-range p 0 n)) (rw (getD-map-range p 0 n j false h, zero-add) t))
+    rw (any-map (λ b. b) p (numbersFrom 0 n)) at
+    (any-at (λ b. b) false (map p (numbersFrom 0 n)) j (omega (arith, length-map-range p 0 n)) (rw (getD-map-range p 0 n j false h, zero-add) t))
 
 -- ---- members of a list of transitions
-
--- Each member of ts is one of us.
-abbrev pub Within : List Transition → List Transition → Type 0
-Within ts us = (t : Transition) → T (any (sameTransition t) ts) → T (any (sameTransition t) us)
 
 -- each list has its own members
 pub within-refl : (ts : List Transition) → Within ts ts
@@ -124,30 +120,30 @@ unfolding sameTransition
 same-self t = rw (eq-eqb (t .source) (t .source) refl, eq-eqb (t .label) (t .label) refl, eq-eqb (t .target) (t .target) refl) tt
 
 -- a member with p makes any true
-member-any : (p : Transition → Bool) (t : Transition) → T (p t) → (ts : List Transition) → T (any (sameTransition t) ts) → T (any p ts)
+member-any : (p : Transition → Bool) (t : Transition) → T (p t) → (ts : List Transition) → T (forSome (sameTransition t) ts) → T (forSome p ts)
 member-any p t h ts m =
     let f = any-first (sameTransition t) t ts m in
     any-at p t ts (f .index) (f .below) (subst (λ u. T (p u)) (same-equal t (getD ts (f .index) t) (f .holds)) h)
 
 -- So any grows with the property and the members; all grows with the property, and with fewer members.
-pub any-within : (ts us : List Transition) → Within ts us → (p q : Transition → Bool) → ((t : Transition) → Implies (p t) (q t)) → Implies (any p ts) (any q us)
+pub any-within : (ts us : List Transition) → Within ts us → (p q : Transition → Bool) → ((t : Transition) → Implies (p t) (q t)) → Implies (forSome p ts) (forSome q us)
 any-within ts us w p q h m =
     let d : Transition = transition 0 0 0 in
     let f = any-first p d ts m in
     let t : Transition = getD ts (f .index) d in
     member-any q t (h t (f .holds)) us (w t (any-at (sameTransition t) d ts (f .index) (f .below) (same-self t)))
 
-pub all-within : (ts us : List Transition) → Within us ts → (p q : Transition → Bool) → ((t : Transition) → Implies (p t) (q t)) → Implies (all p ts) (all q us)
+pub all-within : (ts us : List Transition) → Within us ts → (p q : Transition → Bool) → ((t : Transition) → Implies (p t) (q t)) → Implies (every p ts) (every q us)
 all-within ts us w p q h =
     rw (all-not p ts, all-not q us)
-    (contrary (any (λ t. not (q t)) us) (any (λ t. not (p t)) ts)
+    (contrary (forSome (λ t. not (q t)) us) (forSome (λ t. not (p t)) ts)
     (any-within us ts w (λ t. not (q t)) (λ t. not (p t)) (λ t. contrary (p t) (q t) (h t))))
 
 -- ---- distinct transitions
 
 -- where x is no member, no record equals it
-copies-none : (x : Transition) (ys : List Transition) → T (not (any (sameTransition x) ys)) → copies x ys ≡ 0
-unfolding copies any
+copies-none : (x : Transition) (ys : List Transition) → T (not (forSome (sameTransition x) ys)) → copies x ys ≡ 0
+unfolding copies forSome
 copies-none x [] h = refl
 copies-none x (y ∷ ys) h = go (sameTransition y x) refl (copies-none x ys (contrary later (here || later) (or-right here later) h))
   where
@@ -155,7 +151,7 @@ copies-none x (y ∷ ys) h = go (sameTransition y x) refl (copies-none x ys (con
     here = sameTransition x y
 
     later : Bool
-    later = any (sameTransition x) ys
+    later = forSome (sameTransition x) ys
 
     go : (b : Bool) → sameTransition y x ≡ b → copies x ys ≡ 0 → cond b 1 0 + copies x ys ≡ 0
     go true e none =
@@ -165,11 +161,11 @@ copies-none x (y ∷ ys) h = go (sameTransition y x) refl (copies-none x ys (con
 
 -- a member of the distinct transitions is a record that is the first of its kind
 distinct-any : (p : Transition → Bool) (ts : List Transition)
-    → any p (distinct ts) ≡ any (λ i. eqb (copiesBefore ts i) 0 && p (transitionAt ts i)) (range 0 (length ts))
+    → forSome p (distinct ts) ≡ forSome (λ i. eqb (copiesBefore ts i) 0 && p (transitionAt ts i)) (numbersFrom 0 (length ts))
 unfolding distinct
 distinct-any p ts =
-    any-map p (transitionAt ts) (keep (λ i. eqb (copiesBefore ts i) 0) (range 0 (length ts)))
-    ∙ any-keep (λ i. p (transitionAt ts i)) (λ i. eqb (copiesBefore ts i) 0) (range 0 (length ts))
+    any-map p (transitionAt ts) (keep (λ i. eqb (copiesBefore ts i) 0) (numbersFrom 0 (length ts)))
+    ∙ any-keep (λ i. p (transitionAt ts i)) (λ i. eqb (copiesBefore ts i) 0) (numbersFrom 0 (length ts))
 
 -- The distinct transitions have the members of all.
 pub within-distinct : (ts : List Transition) → Within ts (distinct ts)
@@ -190,24 +186,13 @@ distinct-within ts t m =
 -- ---- the meaning as a function
 
 module _ (n : ℕ) (ts : List Transition) where
-  -- A binder's set is worked out from the empty (mu) or full (nu) set on, in at most n + 1 turns.
-  unfoldable pub meaning : Formula → Valuation → Set
-  meaning False ρ = replicate n false
-  meaning True ρ = replicate n true
-  meaning (And a b) ρ = setOf n (λ s. has (meaning a ρ) s && has (meaning b ρ) s)
-  meaning (Or a b) ρ = setOf n (λ s. has (meaning a ρ) s || has (meaning b ρ) s)
-  meaning (Box α a) ρ = setOf n (boxIn n ts α (meaning a ρ))
-  meaning (Diamond α a) ρ = setOf n (diamondIn n ts α (meaning a ρ))
-  meaning (Variable i) ρ = ρ i
-  meaning (Fix sign i a) ρ = iterate (suc n) (λ v. (meaning a (bind ρ i v), 0)) (start n sign) .0
-
   -- one turn at the binder of variable i
-  abbrev pub bodyOf : ℕ → Formula → Valuation → Set → Worked
-  bodyOf i a ρ v = (meaning a (bind ρ i v), 0)
+  abbrev pub bodyOf : ℕ → Formula → Valuation → States → Worked
+  bodyOf i a ρ v = (meaning n ts a (bind ρ i v), 0)
 
 -- a loop of steps that keep the number of states keeps it
-iterate-sized : (n : ℕ) (f : Set → Worked) → ((v : Set) → length v ≡ n → length (f v .0) ≡ n)
-    → (m : ℕ) (v : Set) → length v ≡ n → length (iterate m f v .0) ≡ n
+iterate-sized : (n : ℕ) (f : States → Worked) → ((v : States) → length v ≡ n → length (f v .0) ≡ n)
+    → (m : ℕ) (v : States) → length v ≡ n → length (iterate m f v .0) ≡ n
 unfolding iterate
 iterate-sized n f h zero v o = o
 iterate-sized n f h (suc m) v o = go (same (f v .0) v) refl (iterate-sized n f h m (f v .0) (h v o))
@@ -231,17 +216,6 @@ meaning-sized n ts (Fix sign i a) ρ r =
 
 -- ---- the meaning grows
 
--- whether variable i occurs outside of its binders
-unfoldable pub free : ℕ → Formula → Bool
-free i False = false
-free i True = false
-free i (And a b) = free i a || free i b
-free i (Or a b) = free i a || free i b
-free i (Box α a) = free i a
-free i (Diamond α a) = free i a
-free i (Variable j) = eqb i j
-free i (Fix sign j a) = not (eqb i j) && free i a
-
 -- a set of the states with a property grows with the property
 map-mono : {A : Type 0} (f g : A → Bool) → ((x : A) → Implies (f x) (g x)) → (xs : List A) → Subset (map f xs) (map g xs)
 map-mono f g h [] s t = t
@@ -250,28 +224,28 @@ map-mono f g h (x ∷ xs) (suc s) t = map-mono f g h xs s t
 
 -- Sets joined state by state grow with both.
 join-mono : (n : ℕ) (op : Bool → Bool → Bool) → ((a b c d : Bool) → Implies a c → Implies b d → Implies (op a b) (op c d))
-    → (x y v w : Set) → Subset x v → Subset y w → Subset (setOf n (λ s. op (has x s) (has y s))) (setOf n (λ s. op (has v s) (has w s)))
+    → (x y v w : States) → Subset x v → Subset y w → Subset (setOf n (λ s. op (has x s) (has y s))) (setOf n (λ s. op (has v s) (has w s)))
 join-mono n op mono x y v w g h =
-    map-mono (λ s. op (has x s) (has y s)) (λ s. op (has v s) (has w s)) (λ s. mono (has x s) (has y s) (has v s) (has w s) (g s) (h s)) (range 0 n)
+    map-mono (λ s. op (has x s) (has y s)) (λ s. op (has v s) (has w s)) (λ s. mono (has x s) (has y s) (has v s) (has w s) (g s) (h s)) (numbersFrom 0 n)
 
 -- Box and diamond grow with the set, and look only at which transitions there are.
-module _ (n : ℕ) (ts us : List Transition) (there : Within ts us) (back : Within us ts) (α : Action) (x y : Set) (h : Subset x y) where
+module _ (n : ℕ) (ts us : List Transition) (there : Within ts us) (back : Within us ts) (α : Action) (x y : States) (h : Subset x y) where
   box-mono : Subset (setOf n (boxIn n ts α x)) (setOf n (boxIn n us α y))
   box-mono = map-mono (boxIn n ts α x) (boxIn n us α y) (λ s.
       all-within ts us back (λ t. not (from s α t) || has x (t .target)) (λ t. not (from s α t) || has y (t .target)) (λ t.
-      kept-implies .or (not (from s α t)) (has x (t .target)) (not (from s α t)) (has y (t .target)) (λ g. g) (h (t .target)))) (range 0 n)
+      kept-implies .or (not (from s α t)) (has x (t .target)) (not (from s α t)) (has y (t .target)) (λ g. g) (h (t .target)))) (numbersFrom 0 n)
 
   diamond-mono : Subset (setOf n (diamondIn n ts α x)) (setOf n (diamondIn n us α y))
   diamond-mono = map-mono (diamondIn n ts α x) (diamondIn n us α y) (λ s.
       any-within ts us there (λ t. from s α t && has x (t .target)) (λ t. from s α t && has y (t .target)) (λ t.
-      kept-implies .and (from s α t) (has x (t .target)) (from s α t) (has y (t .target)) (λ g. g) (h (t .target)))) (range 0 n)
+      kept-implies .and (from s α t) (has x (t .target)) (from s α t) (has y (t .target)) (λ g. g) (h (t .target)))) (numbersFrom 0 n)
 
 -- The sets of the free variables of a grow from ρ to σ.
 abbrev pub Below : Formula → Valuation → Valuation → Type 0
 Below a ρ σ = (i : ℕ) → T (free i a) → Subset (ρ i) (σ i)
 
 -- at a binder the variable's set may grow too
-bind-below : (sign : Bool) (i : ℕ) (a : Formula) (ρ σ : Valuation) → Below (Fix sign i a) ρ σ → (v w : Set) → Subset v w → Below a (bind ρ i v) (bind σ i w)
+bind-below : (sign : Bool) (i : ℕ) (a : Formula) (ρ σ : Valuation) → Below (Fix sign i a) ρ σ → (v w : States) → Subset v w → Below a (bind ρ i v) (bind σ i w)
 unfolding free bind
 bind-below sign i a ρ σ h v w g j t = go (eqb j i) (λ u. h j (and-both (not (eqb j i)) (free j a) u t))
   where
@@ -338,19 +312,19 @@ means-members n ts us there back a ρ r = meaning-same n a ts us there back ρ �
 -- ---- the meaning is what the definition says
 
 -- w is the only set with the property P.
-pub record Only (P : Set → Type 0) (w : Set) : Type 0 where
+pub record Only (P : States → Type 0) (w : States) : Type 0 where
   pub holds : P w
-  pub one : (v : Set) → P v → v ≡ w
+  pub one : (v : States) → P v → v ≡ w
 
 -- what is equal to a set, or worked out from one or two sets that are the only ones
-only-equal : (x : Set) → Only (λ v. v ≡ x) x
+only-equal : (x : States) → Only (λ v. v ≡ x) x
 only-equal x = record { holds = refl; one = λ v e. e }
 
-only-from : {P : Set → Type 0} {x : Set} (f : Set → Set) → Only P x → Only (λ v. (y : Set) × P y × (v ≡ f y)) (f x)
+only-from : {P : States → Type 0} {x : States} (f : States → States) → Only P x → Only (λ v. (y : States) × P y × (v ≡ f y)) (f x)
 only-from {x = x} f p = record { holds = (x, p .holds, refl); one = λ v m. m .2 ∙ ap f (p .one (m .0) (m .1)) }
 
-only-join : {P Q : Set → Type 0} {x y : Set} (f : Set → Set → Set) → Only P x → Only Q y
-    → Only (λ v. (u : Set) × (w : Set) × P u × Q w × (v ≡ f u w)) (f x y)
+only-join : {P Q : States → Type 0} {x y : States} (f : States → States → States) → Only P x → Only Q y
+    → Only (λ v. (u : States) × (w : States) × P u × Q w × (v ≡ f u w)) (f x y)
 only-join {x = x} {y = y} f p q = record {
   holds = (x, y, p .holds, q .holds, refl);
   one = λ v m. m .4 ∙ ap₂ f (p .one (m .0) (m .2)) (q .one (m .1) (m .3));
@@ -359,7 +333,7 @@ only-join {x = x} {y = y} f p q = record {
 module _ (n : ℕ) (ts : List Transition) where
   -- a binder's set, where the body's meaning is known for every set: the iteration stops at the least or greatest fixed point
   only-fix : (sign : Bool) (i : ℕ) (a : Formula) (ρ : Valuation) → Sized n ρ
-      → ((u : Set) → length u ≡ n → Only (Means n ts a (bind ρ i u)) (meaning n ts a (bind ρ i u)))
+      → ((u : States) → length u ≡ n → Only (Means n ts a (bind ρ i u)) (meaning n ts a (bind ρ i u)))
       → Only (Extremal n sign (λ u. Means n ts a (bind ρ i u) u)) (iterate (suc n) (bodyOf n ts i a ρ) (start n sign) .0)
   only-fix sign i a ρ r body = record { holds = least; one = λ v m. extremal-one m least }
     where
@@ -388,9 +362,9 @@ module _ (n : ℕ) (ts : List Transition) where
   means-exists a ρ r = means-only a ρ r .holds
 
   -- is one,
-  pub means-unique : (a : Formula) (ρ : Valuation) → Sized n ρ → (v : Set) → Means n ts a ρ v → v ≡ meaning n ts a ρ
+  pub means-unique : (a : Formula) (ρ : Valuation) → Sized n ρ → (v : States) → Means n ts a ρ v → v ≡ meaning n ts a ρ
   means-unique a ρ r = means-only a ρ r .one
 
   -- and has n states.
-  pub means-sized : (a : Formula) (ρ : Valuation) → Sized n ρ → (v : Set) → Means n ts a ρ v → length v ≡ n
+  pub means-sized : (a : Formula) (ρ : Valuation) → Sized n ρ → (v : States) → Means n ts a ρ v → length v ≡ n
   means-sized a ρ r v m = ap length (means-unique a ρ r v m) ∙ meaning-sized n ts a ρ r

@@ -7,11 +7,11 @@ use native.Mathlib.Nat.{zero-add}
 use native.Mathlib.Omega.{arith}
 use lib.Dec.{eqb}
 use lib.ListN.{getD, drop}
-use Rattle.sets.specs.Lists.{range, all}
+use Rattle.sets.specs.Lists.{numbersFrom, every}
 use Rattle.sets.proofs.Lists.{getD-map-range, drop-map}
 use Rattle.cases.specs.Prefix.{Node, arityIn, actionArities, formulaArities, wholeFormulas, exactly, span}
 use Rattle.cases.specs.File.{nodeIn}
-use Rattle.cases.specs.Checks.{nodesIn}
+use Rattle.cases.specs.internal.Checks.{nodesIn}
 use Rattle.cases.proofs.Checking.{range-done, range-next, all-map}
 
 -- ---- arities
@@ -81,13 +81,13 @@ unfolding nodesIn
 node-in part k i d h = getD-map-range (nodeIn part) 0 k i d h ∙ ap (nodeIn part) (zero-add i)
 
 -- a test of all nodes of a part, by their numbers
-pub nodes-all : (p : Node → Bool) (part : List ℕ) (k : ℕ) → all p (nodesIn part k) ≡ all (λ i. p (nodeIn part i)) (range 0 k)
+pub nodes-all : (p : Node → Bool) (part : List ℕ) (k : ℕ) → every p (nodesIn part k) ≡ every (λ i. p (nodeIn part i)) (numbersFrom 0 k)
 unfolding nodesIn
-nodes-all p part k = all-map p (nodeIn part) (range 0 k)
+nodes-all p part k = all-map p (nodeIn part) (numbersFrom 0 k)
 
 -- the nodes of a part from node i on, and their arities
 abbrev pub nodesFrom : List ℕ → ℕ → ℕ → List Node
-nodesFrom part k i = map (nodeIn part) (drop i (range 0 k))
+nodesFrom part k i = map (nodeIn part) (drop i (numbersFrom 0 k))
 
 abbrev pub aritiesFrom : List ℕ → List ℕ → ℕ → ℕ → List ℕ
 aritiesFrom kinds part k i = map (arityIn kinds) (nodesFrom part k i)
@@ -95,7 +95,7 @@ aritiesFrom kinds part k i = map (arityIn kinds) (nodesFrom part k i)
 -- those from a node on
 pub from-node : (kinds part : List ℕ) (k i : ℕ) → drop i (map (arityIn kinds) (nodesIn part k)) ≡ aritiesFrom kinds part k i
 unfolding nodesIn
-from-node kinds part k i = drop-map (arityIn kinds) (map (nodeIn part) (range 0 k)) i ∙ ap (map (arityIn kinds)) (drop-map (nodeIn part) (range 0 k) i)
+from-node kinds part k i = drop-map (arityIn kinds) (map (nodeIn part) (numbersFrom 0 k)) i ∙ ap (map (arityIn kinds)) (drop-map (nodeIn part) (numbersFrom 0 k) i)
 
 module _ (kinds part : List ℕ) (k i : ℕ) where
   -- no node is left

@@ -9,15 +9,16 @@ use native.Mathlib.Omega.{arith}
 use borrow.Author.Tests.{not-false, eq-eqb}
 use lib.Dec.{T, eqb, ltb, ltb→lt, eqb-refl}
 use lib.ListN.{length, getD, length-map}
-use Rattle.sets.specs.Lists.{range, all, any}
+use Rattle.sets.specs.Lists.{numbersFrom, every, forSome}
 use Rattle.sets.proofs.Lists.{and-left, and-right, and-both, or-left, or-right, all-at, length-range}
 use Rattle.cases.specs.Action.{Action}
 use Rattle.cases.specs.Formula.{Formula}
 use Rattle.cases.specs.Prefix.{Node, arityIn, formulaArities, endOf, formulaAt}
 use Rattle.cases.specs.Conditions.{nodeAt, isBinder, boundOk, badVariable}
+use Rattle.cases.specs.internal.Tables.{made, formulaOperator, FormulaTable}
 use Rattle.cases.proofs.Spans.{exactly-whole, nested, by-operands}
-use Rattle.cases.proofs.Trees.{made, arity-at}
-use Rattle.cases.proofs.TableTrees.{holds, held, each-kind, formulaOperator, FormulaTable, formula-at, root}
+use Rattle.cases.proofs.Trees.{arity-at}
+use Rattle.cases.proofs.TableTrees.{holds, held, each-kind, formula-at, root}
 
 -- whether every variable's number is in a list of the binders around it
 unfoldable pub scoped : List ℕ → Formula → Bool
@@ -27,12 +28,12 @@ scoped around (Formula.And a b) = scoped around a && scoped around b
 scoped around (Formula.Or a b) = scoped around a && scoped around b
 scoped around (Formula.Box α a) = scoped around a
 scoped around (Formula.Diamond α a) = scoped around a
-scoped around (Formula.Variable i) = any (eqb i) around
+scoped around (Formula.Variable i) = forSome (eqb i) around
 scoped around (Formula.Fix sign i a) = scoped (i ∷ around) a
 
 -- a number of a range
-range-at : (i n s d : ℕ) → s < n → getD (range i n) s d ≡ i + s
-unfolding range
+range-at : (i n s d : ℕ) → s < n → getD (numbersFrom i n) s d ≡ i + s
+unfolding numbersFrom
 range-at i zero s d h = absurd (omega arith)
 range-at i (suc n) zero d h = omega arith
 range-at i (suc n) (suc s) d h = range-at (suc i) n s d (omega arith) ∙ omega arith
@@ -55,9 +56,9 @@ variable-bound t e i h k =
     let n : ℕ = length t in
     let binds : Bool = isBinder (nodeAt t j) in
     let ends : ℕ = endOf (map (arityIn formulaArities) t) j in
-    let short : i < length (range 0 n) = rw (length-range 0 n) h in
-    let each : T (boundOk t (getD (range 0 n) i 0)) = all-at (boundOk t) (range 0 n) i 0 short (held (all (boundOk t) (range 0 n)) (not-false (all (boundOk t) (range 0 n)) e)) in
-    let at-node : getD (range 0 n) i 0 ≡ i = range-at 0 n i 0 h ∙ zero-add i in
+    let short : i < length (numbersFrom 0 n) = rw (length-range 0 n) h in
+    let each : T (boundOk t (getD (numbersFrom 0 n) i 0)) = all-at (boundOk t) (numbersFrom 0 n) i 0 short (held (every (boundOk t) (numbersFrom 0 n)) (not-false (every (boundOk t) (numbersFrom 0 n)) e)) in
+    let at-node : getD (numbersFrom 0 n) i 0 ≡ i = range-at 0 n i 0 h ∙ zero-add i in
     let here : T (boundOk t i) = rw at-node at each in
     let three : T (binds && ltb j i && ltb i ends) = right-holds (eqb (nodeAt t i .kind) 6) (binds && ltb j i && ltb i ends) (eq-eqb _ _ k) here in
     let two : T (binds && ltb j i) = and-left (binds && ltb j i) (ltb i ends) three in
@@ -73,14 +74,14 @@ inner k i around = cond (eqb k 7 || eqb k 8) (i ∷ around) around
 
 -- A node's formula is scoped if its variable is bound and its operands' formulas are scoped.
 scoped-made : (action : ℕ → Action) (i arg : ℕ) (around : List ℕ) (f g : Formula) (k : ℕ) → k ≤ 8
-    → (k ≡ 6 → T (any (eqb arg) around))
+    → (k ≡ 6 → T (forSome (eqb arg) around))
     → (1 ≤ getD formulaArities k 0 → T (scoped (inner k i around) f))
     → (getD formulaArities k 0 ≡ 2 → T (scoped around g))
     → T (scoped around (made (formulaOperator action i arg k) f g))
 unfolding scoped
 scoped-made action i arg around f g =
     each-kind
-    (λ k. (k ≡ 6 → T (any (eqb arg) around)) → (1 ≤ getD formulaArities k 0 → T (scoped (inner k i around) f))
+    (λ k. (k ≡ 6 → T (forSome (eqb arg) around)) → (1 ≤ getD formulaArities k 0 → T (scoped (inner k i around) f))
     → (getD formulaArities k 0 ≡ 2 → T (scoped around g)) → T (scoped around (made (formulaOperator action i arg k) f g)))
     (λ v p q. tt) (λ v p q. tt)
     (λ v p q. and-both (scoped around f) (scoped around g) (p (omega arith)) (q refl))
@@ -95,15 +96,15 @@ binder-arity = each-kind (λ k. (eqb k 7 || eqb k 8) ≡ true → getD formulaAr
     (λ e. cc) (λ e. cc) (λ e. cc) (λ e. cc) (λ e. refl) (λ e. refl) (λ e. cc) (λ e. refl) (λ e. refl)
 
 -- a binder around stays around
-inner-keeps : (b : Bool) (i j : ℕ) (around : List ℕ) → T (any (eqb j) around) → T (any (eqb j) (cond b (i ∷ around) around))
-unfolding any
-inner-keeps true i j around h = or-right (eqb j i) (any (eqb j) around) h
+inner-keeps : (b : Bool) (i j : ℕ) (around : List ℕ) → T (forSome (eqb j) around) → T (forSome (eqb j) (cond b (i ∷ around) around))
+unfolding forSome
+inner-keeps true i j around h = or-right (eqb j i) (forSome (eqb j) around) h
 inner-keeps false i j around h = h
 
 -- a binder is around its operand
-inner-adds : (b : Bool) (i : ℕ) (around : List ℕ) → b ≡ true → T (any (eqb i) (cond b (i ∷ around) around))
-unfolding any
-inner-adds true i around e = or-left (eqb i i) (any (eqb i) around) (eqb-refl i)
+inner-adds : (b : Bool) (i : ℕ) (around : List ℕ) → b ≡ true → T (forSome (eqb i) (cond b (i ∷ around) around))
+unfolding forSome
+inner-adds true i around e = or-left (eqb i i) (forSome (eqb i) around) (eqb-refl i)
 inner-adds false i around e = absurd (let z : _≡_ {A = ℕ} 0 1 = cc in omega arith)
 
 module _ (action : ℕ → Action) (t : List Node) (table : FormulaTable t) (bound : badVariable t ≡ false) where
@@ -112,13 +113,13 @@ module _ (action : ℕ → Action) (t : List Node) (table : FormulaTable t) (bou
 
   -- a list has every binder whose subtree has node i as an inner node
   abbrev Around : List ℕ → ℕ → Type 0
-  Around around i = (j : ℕ) → j < i → isBinder (nodeAt t j) ≡ true → i < endOf ks j → T (any (eqb j) around)
+  Around around i = (j : ℕ) → j < i → isBinder (nodeAt t j) ≡ true → i < endOf ks j → T (forSome (eqb j) around)
 
   -- for the first operand
   around-first : (i : ℕ) (around : List ℕ) → Around around i → Around (inner (nodeAt t i .kind) i around) (i + 1)
   around-first i around h j l b e = by-order (eq-or-lt-of-le {n = j} {m = i} (omega arith))
     where
-      by-order : (j ≡ i) ⊎ (j < i) → T (any (eqb j) (inner (nodeAt t i .kind) i around))
+      by-order : (j ≡ i) ⊎ (j < i) → T (forSome (eqb j) (inner (nodeAt t i .kind) i around))
       by-order (inl same) = rw same (inner-adds (isBinder (nodeAt t i)) i around (rw same at b))
       by-order (inr less) = inner-keeps (isBinder (nodeAt t i)) i j around (h j less b (omega arith))
 
@@ -128,7 +129,7 @@ module _ (action : ℕ → Action) (t : List Node) (table : FormulaTable t) (bou
       let not-after : ¬ (i < j) = λ g. omega (arith, nested ks (i + 1) j (omega arith) l) in
       by-order (eq-or-lt-of-le {n = j} {m = i} (omega arith))
     where
-      by-order : (j ≡ i) ⊎ (j < i) → T (any (eqb j) around)
+      by-order : (j ≡ i) ⊎ (j < i) → T (forSome (eqb j) around)
       by-order (inl same) =
           let one : getD formulaArities (nodeAt t i .kind) 0 ≡ 1 = binder-arity (nodeAt t i .kind) (table .kinds i inside) (rw same at b) in
           absurd (omega (arith, arity-at formulaArities t i inside))

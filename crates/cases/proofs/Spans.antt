@@ -162,8 +162,6 @@ module _ (n : ℕ) (ks : List ℕ) (whole : wholeFormulas n ks ≡ true) (i : �
   first-node k = omega (arith, first-inside k, end-inside ks i (omega arith))
 
   -- whose subtree lies in the node's
-  pub first-ends : 1 ≤ getD ks i 0 → endOf ks (i + 1) ≤ endOf ks i
-  first-ends k = nested ks i (i + 1) (omega arith) (first-inside k)
 
   -- a node with two operands has the second after the first's subtree, in its own
   pub second-inside : getD ks i 0 ≡ 2 → (i + 1 < endOf ks (i + 1)) × (endOf ks (i + 1) < endOf ks i)
@@ -179,10 +177,7 @@ module _ (n : ℕ) (ks : List ℕ) (whole : wholeFormulas n ks ≡ true) (i : �
   -- the second operand is a node
   pub second-node : getD ks i 0 ≡ 2 → endOf ks (i + 1) < length ks
   second-node k = omega (arith, second-inside k .1, end-inside ks i (omega arith))
-
   -- whose subtree lies in the node's too
-  pub second-ends : getD ks i 0 ≡ 2 → endOf ks (endOf ks (i + 1)) ≤ endOf ks i
-  second-ends k = omega (arith, end-two ks i inside k)
 
 -- What holds of each node if it holds of its operands holds of every node.
 module _ (n : ℕ) (ks : List ℕ) (whole : wholeFormulas n ks ≡ true) (P : ℕ → Type 0)

@@ -7,15 +7,16 @@ use native.Mathlib.Omega.{arith}
 use borrow.Author.Tests.{leb-true, not-false}
 use lib.Dec.{T, leb}
 use lib.ListN.{length, getD}
-use Rattle.sets.specs.Lists.{all}
+use Rattle.sets.specs.Lists.{every}
 use Rattle.sets.proofs.Lists.{and-left, and-right, all-at}
 use Rattle.cases.specs.Action.{Action}
 use Rattle.cases.specs.Formula.{Formula}
 use Rattle.cases.specs.Prefix.{Node, arityIn, actionArities, formulaArities, wholeFormulas, exactly, endOf, placeAction, placeFormula, actionAt, formulaAt}
 use Rattle.cases.specs.Conditions.{nodeAt, nodeOk, actionOk, badActions, badFormula}
 use Rattle.cases.specs.File.{labelCount, actionTable}
+use Rattle.cases.specs.internal.Tables.{made, actionOperator, formulaOperator, ActionTable, FormulaTable}
 use Rattle.cases.proofs.Spans.{exactly-whole}
-use Rattle.cases.proofs.Trees.{Operator, constant, unary, binary, operands, made, replace, Placing, KindsTo, node-tree}
+use Rattle.cases.proofs.Trees.{operands, replace, Placing, node-tree}
 
 -- a test that holds is true
 pub holds : (b : Bool) → T b → b ≡ true
@@ -50,23 +51,6 @@ each-action-kind P p0 p1 p2 p3 p4 p5 p6 (suc (suc (suc (suc (suc zero))))) h = p
 each-action-kind P p0 p1 p2 p3 p4 p5 p6 (suc (suc (suc (suc (suc (suc zero)))))) h = p6
 each-action-kind P p0 p1 p2 p3 p4 p5 p6 (suc (suc (suc (suc (suc (suc (suc k))))))) h = absurd (omega arith)
 
--- what an action node with argument arg makes, by its kind
-abbrev pub actionOperator : ℕ → ℕ → Operator Action
-actionOperator arg k =
-    getD
-    (constant Action.False ∷ constant Action.True ∷ constant (Action.Label arg)
-    ∷ unary Action.Not ∷ binary Action.And ∷ binary Action.Or ∷ binary Action.Implies ∷ [])
-    k (constant Action.False)
-
--- what node i of a formula makes, with argument arg, by its kind
-abbrev pub formulaOperator : (ℕ → Action) → ℕ → ℕ → ℕ → Operator Formula
-formulaOperator action i arg k =
-    getD
-    (constant Formula.False ∷ constant Formula.True ∷ binary Formula.And ∷ binary Formula.Or
-    ∷ unary (Formula.Box (action arg)) ∷ unary (Formula.Diamond (action arg))
-    ∷ constant (Formula.Variable arg) ∷ unary (Formula.Fix false i) ∷ unary (Formula.Fix true i) ∷ [])
-    k (constant Formula.False)
-
 -- action nodes are placed by their operators
 unfoldable pub placing-actions : Placing placeAction actionArities 6
 placing-actions = record {
@@ -87,22 +71,12 @@ placing-formulas action = record {
       refl refl refl refl refl refl refl refl refl (x .kind);
 }
 
--- A table of whole action formulas, of known kinds.
-pub record ActionTable (t : List Node) : Type 0 where
-  pub kinds : KindsTo 6 t
-  pub whole : wholeFormulas 0 (map (arityIn actionArities) t) ≡ true
-
 -- The action formula at its node i, by the node's kind k.
 pub action-at : (t : List Node) → ActionTable t → (i k : ℕ) → i < length t → nodeAt t i .kind ≡ k
     → actionAt t i ≡ made (actionOperator (nodeAt t i .arg) k) (actionAt t (i + 1)) (actionAt t (endOf (map (arityIn actionArities) t) (i + 1)))
 unfolding actionAt placing-actions
 action-at t table i k h e =
     rw (← e) (node-tree Action.False placeAction actionArities 6 placing-actions t (table .kinds) 0 (table .whole) i h)
-
--- A table of one whole formula, of known kinds.
-pub record FormulaTable (t : List Node) : Type 0 where
-  pub kinds : KindsTo 8 t
-  pub whole : exactly 1 (map (arityIn formulaArities) t) ≡ true
 
 -- The formula at its node i, by the node's kind k.
 pub formula-at : (action : ℕ → Action) (t : List Node) → FormulaTable t → (i k : ℕ) → i < length t → nodeAt t i .kind ≡ k
@@ -134,7 +108,7 @@ action-kind l x false e h = absurd (rw e at h)
 pub formula-table : (a : ℕ) (t : List Node) → badFormula a t ≡ false → FormulaTable t
 unfolding badFormula
 formula-table a t e =
-    let oks : Bool = all (nodeOk a) t in
+    let oks : Bool = every (nodeOk a) t in
     let fits : Bool = exactly 1 (map (arityIn formulaArities) t) in
     let good : T (oks && fits) = held (oks && fits) (not-false (oks && fits) e) in
     record {
@@ -146,7 +120,7 @@ formula-table a t e =
 pub action-table : (b : List ℕ) → badActions b ≡ false → ActionTable (actionTable b)
 unfolding badActions
 action-table b e =
-    let oks : Bool = all (actionOk (labelCount b)) (actionTable b) in
+    let oks : Bool = every (actionOk (labelCount b)) (actionTable b) in
     let fits : Bool = wholeFormulas 0 (map (arityIn actionArities) (actionTable b)) in
     let good : T (oks && fits) = held (oks && fits) (not-false (oks && fits) e) in
     record {

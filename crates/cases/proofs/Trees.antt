@@ -13,17 +13,12 @@ use lib.Seq.{drop-cons, drop-drop, drop-nil, getD-drop}
 use Rattle.sets.proofs.Lists.{getD-map, drop-map}
 use Rattle.cases.specs.Prefix.{Node, arityIn, wholeFormulas, exactly, span, endOf, leaf, one, two, onto, top, trees}
 use Rattle.cases.specs.Conditions.{nodeAt}
+use Rattle.cases.specs.internal.Tables.{Operator, constant, unary, binary, made, KindsTo}
 use Rattle.cases.proofs.Spans.{operands-due}
 
 -- the arity of node i
 pub arity-at : (arities : List ℕ) (t : List Node) (i : ℕ) → i < length t → getD (map (arityIn arities) t) i 0 ≡ arityIn arities (nodeAt t i)
 arity-at arities t i h = getD-map (arityIn arities) t i (record { kind = 0; arg = 0 }) 0 h
-
--- What a node does: it makes a tree of none, one or two trees.
-pub data Operator (A : Type 0) : Type 0 where
-  constant : A → Operator A
-  unary : (A → A) → Operator A
-  binary : (A → A → A) → Operator A
 
 module _ {A : Type 0} where
   -- how many trees it takes
@@ -31,12 +26,6 @@ module _ {A : Type 0} where
   operands (constant a) = 0
   operands (unary f) = 1
   operands (binary f) = 2
-
-  -- the tree that it makes of the first trees
-  abbrev pub made : Operator A → A → A → A
-  made (constant a) p q = a
-  made (unary f) p q = f p
-  made (binary f) p q = f p q
 
   -- it replaces the trees that it takes by the one that it makes
   abbrev pub replace : Operator A → List A → Option (List A)
@@ -63,10 +52,6 @@ pub record Placing {A : Type 0} (place : ℕ → Node → List A → Option (Lis
   pub operator : ℕ → Node → Operator A
   pub places : (i : ℕ) (x : Node) → x .kind ≤ limit → place i x ≡ replace (operator i x)
   pub takes : (i : ℕ) (x : Node) → x .kind ≤ limit → operands (operator i x) ≡ arityIn arities x
-
--- every node's kind is in range
-abbrev pub KindsTo : ℕ → List Node → Type 0
-KindsTo limit t = (i : ℕ) → i < length t → nodeAt t i .kind ≤ limit
 
 module _ {A : Type 0} (d : A) (place : ℕ → Node → List A → Option (List A)) (arities : List ℕ) (limit : ℕ) (p : Placing place arities limit) where
   -- a node on top of enough trees

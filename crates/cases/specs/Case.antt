@@ -2,9 +2,9 @@
 use mathlib.Core.Bool.{Bool, cond, _&&_}
 use mathlib.Core.List.{List, [], _∷_, map}
 use Prim.Native.Nat.{ℕ, _+_}
-use lib.Dec.{eqb}
+use lib.Dec.{T, eqb}
 use lib.ListN.{length, getD, take}
-use Rattle.sets.specs.Lists.{range}
+use Rattle.sets.specs.Lists.{numbersFrom, forSome}
 use Rattle.cases.specs.Formula.{Formula}
 use Rattle.cases.specs.Prefix.{actionAt, formulaAt}
 use Rattle.cases.specs.File.{Transition, stateCount, labelCount, initialState, transitionTable, actionTable, formulaTable}
@@ -49,4 +49,8 @@ keep p (x ∷ xs) = cond (p x) (x ∷ keep p xs) (keep p xs)
 
 -- Equal records are one transition; distinct ones stand in order of first appearance.
 unfoldable pub distinct : List Transition → List Transition
-distinct ts = map (transitionAt ts) (keep (λ i. eqb (copiesBefore ts i) 0) (range 0 (length ts)))
+distinct ts = map (transitionAt ts) (keep (λ i. eqb (copiesBefore ts i) 0) (numbersFrom 0 (length ts)))
+
+-- each transition of ts is one of us
+abbrev pub Within : List Transition → List Transition → Type 0
+Within ts us = (t : Transition) → T (forSome (sameTransition t) ts) → T (forSome (sameTransition t) us)

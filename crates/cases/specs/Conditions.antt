@@ -1,58 +1,59 @@
--- Conditions 1 to 10 of a case, in order.
+-- The conditions of a case, in order.
 use mathlib.Core.Path.{_≡_}
 use mathlib.Core.Bool.{Bool, true, cond, not, _&&_, _||_}
 use mathlib.Core.List.{List, [], _∷_, _++_, map}
 use Prim.Native.Nat.{ℕ, _+_}
 use lib.Dec.{eqb, ltb, leb}
 use lib.ListN.{length, getD}
-use Rattle.sets.specs.Lists.{range, all, any}
+use Rattle.sets.specs.Lists.{numbersFrom, every}
 use Rattle.sets.specs.Size.{stateLimit}
 use Rattle.solver.specs.Limits.{blockLimit}
-use Rattle.solver.specs.Conditions.{between}
-use Rattle.solver.specs.Outcome.{firstOf}
+use Rattle.sets.specs.Refusals.{between, Conditions, firstOf}
 use Rattle.cases.specs.Limits.{labelLimit, transitionLimit, actionLimit, nodeLimit}
 use Rattle.cases.specs.Prefix.{Node, arityIn, actionArities, formulaArities, wholeFormulas, exactly, endOf}
-use Rattle.cases.specs.File.{u16, stateCount, transitionCount, labelCount, initialState, actionCount, nodeCount, transitionsAt, actionsAt, formulaStart, fileEnd, Transition, transitionTable, actionTable, formulaTable}
+use Rattle.cases.specs.File.{Header, headerSize, headerOf, version, stateCount, labelCount, initialState, actionCount}
+use Rattle.cases.specs.File.{transitionsStart, actionsStart, formulaStart, fileEnd, Transition, transitionTable, actionTable, formulaTable}
 
--- 1: under 20 bytes
+-- 1: fewer bytes than a header has
 unfoldable pub tooSmall : List ℕ → Bool
-tooSmall b = ltb (length b) 20
+tooSmall b = ltb (length b) headerSize
 
 -- 2: the version is not 1
 unfoldable pub otherVersion : List ℕ → Bool
-otherVersion b = not (eqb (u16 b 0) 1)
+otherVersion b = not (eqb (version b) 1)
 
 -- 3: a count outside its range
-unfoldable pub badCount : List ℕ → Bool
-badCount b = not (all (λ test. test)
-    (between 1 stateLimit (stateCount b)
-    ∷ between 0 transitionLimit (transitionCount b)
-    ∷ between 1 labelLimit (labelCount b)
-    ∷ between 0 actionLimit (actionCount b)
-    ∷ between 1 nodeLimit (nodeCount b)
+unfoldable pub badCount : Header → Bool
+badCount h = not (every (λ test. test)
+    (between 1 stateLimit (h .states)
+    ∷ between 0 transitionLimit (h .transitions)
+    ∷ between 1 labelLimit (h .labels)
+    ∷ between 0 actionLimit (h .actions)
+    ∷ between 1 nodeLimit (h .nodes)
     ∷ []))
 
 -- 4: an offset differs
-unfoldable pub badOffset : List ℕ → Bool
-badOffset b = not (eqb (u16 b 14) transitionsAt && eqb (u16 b 16) (actionsAt b) && eqb (u16 b 18) (formulaStart b))
+unfoldable pub badOffset : Header → Bool
+badOffset h =
+    not (eqb (h .«transitions_at») transitionsStart && eqb (h .«actions_at») (actionsStart h) && eqb (h .«formula_at») (formulaStart h))
 
 -- 5: the length differs
 unfoldable pub badLength : List ℕ → Bool
-badLength b = not (eqb (length b) (fileEnd b))
+badLength b = not (eqb (length b) (fileEnd (headerOf b)))
 
 -- 6: the initial state, a source or a target is not below n, or a label not below l
 abbrev pub transitionOk : ℕ → ℕ → Transition → Bool
 transitionOk n l t = ltb (t .source) n && ltb (t .label) l && ltb (t .target) n
 
 unfoldable pub badModel : List ℕ → Bool
-badModel b = not (ltb (initialState b) (stateCount b) && all (transitionOk (stateCount b) (labelCount b)) (transitionTable b))
+badModel b = not (ltb (initialState b) (stateCount b) && every (transitionOk (stateCount b) (labelCount b)) (transitionTable b))
 
 -- 7: an action node's kind or argument, or no whole formulas. The argument of a label (2) is a label, of any other kind 0.
 abbrev pub actionOk : ℕ → Node → Bool
 actionOk l x = leb (x .kind) 6 && cond (eqb (x .kind) 2) (ltb (x .arg) l) (eqb (x .arg) 0)
 
 unfoldable pub badActions : List ℕ → Bool
-badActions b = not (all (actionOk (labelCount b)) (actionTable b) && wholeFormulas 0 (map (arityIn actionArities) (actionTable b)))
+badActions b = not (every (actionOk (labelCount b)) (actionTable b) && wholeFormulas 0 (map (arityIn actionArities) (actionTable b)))
 
 -- 8: a formula node's kind or argument, or not one whole formula. A box (4) or diamond (5) has an action node, a variable (6) is
 -- exempt, and the argument of any other kind is 0. It looks at the formula table and the number of action nodes only.
@@ -60,7 +61,7 @@ abbrev pub nodeOk : ℕ → Node → Bool
 nodeOk a x = leb (x .kind) 8 && cond (eqb (x .kind) 6) true (cond (eqb (x .kind) 4 || eqb (x .kind) 5) (ltb (x .arg) a) (eqb (x .arg) 0))
 
 unfoldable pub badFormula : ℕ → List Node → Bool
-badFormula a table = not (all (nodeOk a) table && exactly 1 (map (arityIn formulaArities) table))
+badFormula a table = not (every (nodeOk a) table && exactly 1 (map (arityIn formulaArities) table))
 
 -- 9: a variable whose argument is not a mu (7) or nu (8) node with that variable in its subtree
 abbrev pub isBinder : Node → Bool
@@ -75,30 +76,37 @@ boundOk table i =
     not (eqb (nodeAt table i .kind) 6) || (isBinder (nodeAt table j) && ltb j i && ltb i (endOf (map (arityIn formulaArities) table) j))
 
 unfoldable pub badVariable : List Node → Bool
-badVariable table = not (all (boundOk table) (range 0 (length table)))
+badVariable table = not (every (boundOk table) (numbersFrom 0 (length table)))
 
 -- 10: more than six blocks. Blocks are the binders, and one more if the root is none.
 unfoldable pub binderCount : List Node → ℕ
 binderCount [] = 0
 binderCount (x ∷ xs) = cond (isBinder x) 1 0 + binderCount xs
 
-unfoldable pub blockCount : List Node → ℕ
-blockCount table = cond (isBinder (nodeAt table 0)) 0 1 + binderCount table
+unfoldable pub blockTotal : List Node → ℕ
+blockTotal table = cond (isBinder (nodeAt table 0)) 0 1 + binderCount table
 
 unfoldable pub tooDeep : List Node → Bool
-tooDeep table = ltb blockLimit (blockCount table)
+tooDeep table = ltb blockLimit (blockTotal table)
 
--- Conditions 1 to 7 are of the model and the action table, 8 to 10 of a formula table.
-unfoldable pub modelConditions : List ℕ → List (ℕ × Bool)
-modelConditions b =
-    (1, tooSmall b) ∷ (2, otherVersion b) ∷ (3, badCount b) ∷ (4, badOffset b) ∷ (5, badLength b) ∷ (6, badModel b) ∷ (7, badActions b) ∷ []
+-- Conditions 1 to 5 are of the layout, 6 and 7 of the model and the action table, 8 to 10 of a formula table by the number of action nodes.
+unfoldable pub layoutConditions : List ℕ → Conditions
+layoutConditions b =
+    (1, tooSmall b) ∷ (2, otherVersion b) ∷ (3, badCount (headerOf b)) ∷ (4, badOffset (headerOf b)) ∷ (5, badLength b) ∷ []
 
-unfoldable pub formulaConditions : ℕ → List Node → List (ℕ × Bool)
+unfoldable pub modelConditions : List ℕ → Conditions
+modelConditions b = (6, badModel b) ∷ (7, badActions b) ∷ []
+
+unfoldable pub formulaConditions : ℕ → List Node → Conditions
 formulaConditions a table = (8, badFormula a table) ∷ (9, badVariable table) ∷ (10, tooDeep table) ∷ []
+
+-- all of them, in the order in which they are looked at
+unfoldable pub caseConditions : List ℕ → Conditions
+caseConditions b = layoutConditions b ++ (modelConditions b ++ formulaConditions (actionCount b) (formulaTable b))
 
 -- the number of the first condition that holds, or 0
 unfoldable pub caseRefusal : List ℕ → ℕ
-caseRefusal b = firstOf (modelConditions b ++ formulaConditions (actionCount b) (formulaTable b))
+caseRefusal b = firstOf (caseConditions b)
 
 -- A case is accepted if no condition on its own bytes holds.
 abbrev pub Accepted : List ℕ → Type 0

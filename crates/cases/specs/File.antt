@@ -2,70 +2,78 @@
 use mathlib.Core.List.{List, map}
 use Prim.Native.Nat.{ℕ, _+_, _*_}
 use lib.ListN.{getD, drop}
-use Rattle.sets.specs.Lists.{range}
+use Rattle.sets.specs.Lists.{numbersFrom}
 use Rattle.cases.specs.Prefix.{Node}
-use Rattle.cases.specs.declared.Header.{Header}
+pub use Rattle.cases.specs.declared.Header.{Header}
 pub use Rattle.cases.specs.declared.Transition.{Transition}
 
 -- the 16-bit number at a place, low byte first
 unfoldable pub u16 : List ℕ → ℕ → ℕ
 u16 b at = getD b at 0 + 256 * getD b (at + 1) 0
 
--- The header has ten numbers: version, states, transitions, labels, initial state, action nodes, formula nodes, and the offsets of the tables.
+-- The header has ten numbers, and so many bytes.
+abbrev pub headerSize : ℕ
+headerSize = 20
+
+-- The first number is the version. Here and in `headerOf` alone it is said at which byte a number stands.
+abbrev pub version : List ℕ → ℕ
+version b = u16 b 0
+
+-- The others: states, transitions, labels, initial state, action nodes, formula nodes, and the offsets of the three tables. The code's names
+-- with a `_` stand in « ».
+abbrev pub headerOf : List ℕ → Header
+headerOf b = record {
+  states = u16 b 2;
+  transitions = u16 b 4;
+  labels = u16 b 6;
+  initial = u16 b 8;
+  actions = u16 b 10;
+  nodes = u16 b 12;
+  «transitions_at» = u16 b 14;
+  «actions_at» = u16 b 16;
+  «formula_at» = u16 b 18;
+}
+
 abbrev pub stateCount : List ℕ → ℕ
-stateCount b = u16 b 2
+stateCount b = headerOf b .states
 
 abbrev pub transitionCount : List ℕ → ℕ
-transitionCount b = u16 b 4
+transitionCount b = headerOf b .transitions
 
 abbrev pub labelCount : List ℕ → ℕ
-labelCount b = u16 b 6
+labelCount b = headerOf b .labels
 
 abbrev pub initialState : List ℕ → ℕ
-initialState b = u16 b 8
+initialState b = headerOf b .initial
 
 abbrev pub actionCount : List ℕ → ℕ
-actionCount b = u16 b 10
+actionCount b = headerOf b .actions
 
 abbrev pub nodeCount : List ℕ → ℕ
-nodeCount b = u16 b 12
+nodeCount b = headerOf b .nodes
 
--- where the tables stand: without gaps
-abbrev pub transitionsAt : ℕ
-transitionsAt = 20
+-- Where the tables have to stand by a header's counts: without gaps, a transition has 6 bytes and a node 4.
+abbrev pub transitionsStart : ℕ
+transitionsStart = headerSize
 
-abbrev pub actionsAt : List ℕ → ℕ
-actionsAt b = transitionsAt + 6 * transitionCount b
+abbrev pub actionsStart : Header → ℕ
+actionsStart h = transitionsStart + 6 * h .transitions
 
-abbrev pub formulaStart : List ℕ → ℕ
-formulaStart b = actionsAt b + 4 * actionCount b
+abbrev pub formulaStart : Header → ℕ
+formulaStart h = actionsStart h + 4 * h .actions
 
-abbrev pub fileEnd : List ℕ → ℕ
-fileEnd b = formulaStart b + 4 * nodeCount b
+abbrev pub fileEnd : Header → ℕ
+fileEnd h = formulaStart h + 4 * h .nodes
 
 -- Each table is read as the part of the file that starts at its offset.
 abbrev pub transitionPart : List ℕ → List ℕ
-transitionPart b = drop (u16 b 14) b
+transitionPart b = drop (headerOf b .«transitions_at») b
 
 abbrev pub actionPart : List ℕ → List ℕ
-actionPart b = drop (u16 b 16) b
+actionPart b = drop (headerOf b .«actions_at») b
 
 abbrev pub formulaPart : List ℕ → List ℕ
-formulaPart b = drop (u16 b 18) b
-
--- the header's numbers as the code holds them
-abbrev pub headerOf : List ℕ → Header
-headerOf b = record {
-  states = stateCount b;
-  transitions = transitionCount b;
-  labels = labelCount b;
-  initial = initialState b;
-  actions = actionCount b;
-  nodes = nodeCount b;
-  first = u16 b 14;
-  second = u16 b 16;
-  third = u16 b 18;
-}
+formulaPart b = drop (headerOf b .«formula_at») b
 
 -- a transition is source, label, target
 abbrev pub transitionIn : List ℕ → ℕ → Transition
@@ -76,10 +84,10 @@ abbrev pub nodeIn : List ℕ → ℕ → Node
 nodeIn part i = record { kind = u16 part (4 * i); arg = u16 part (4 * i + 2) }
 
 unfoldable pub transitionTable : List ℕ → List Transition
-transitionTable b = map (transitionIn (transitionPart b)) (range 0 (transitionCount b))
+transitionTable b = map (transitionIn (transitionPart b)) (numbersFrom 0 (transitionCount b))
 
 unfoldable pub actionTable : List ℕ → List Node
-actionTable b = map (nodeIn (actionPart b)) (range 0 (actionCount b))
+actionTable b = map (nodeIn (actionPart b)) (numbersFrom 0 (actionCount b))
 
 unfoldable pub formulaTable : List ℕ → List Node
-formulaTable b = map (nodeIn (formulaPart b)) (range 0 (nodeCount b))
+formulaTable b = map (nodeIn (formulaPart b)) (numbersFrom 0 (nodeCount b))

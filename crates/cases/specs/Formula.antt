@@ -1,6 +1,7 @@
 -- Formulas of the modal mu-calculus in positive form.
-use mathlib.Core.Bool.{Bool, true, false}
+use mathlib.Core.Bool.{Bool, false, not, _&&_, _||_}
 use Prim.Native.Nat.{ℕ, _+_}
+use lib.Dec.{eqb}
 use Rattle.cases.specs.Action.{Action}
 
 -- A binder has its sign (false mu, true nu) and its node number; a variable has its binder's node number.
@@ -32,3 +33,14 @@ binders (Box α a) = binders a
 binders (Diamond α a) = binders a
 binders (Variable i) = 0
 binders (Fix sign i a) = 1 + binders a
+
+-- whether variable i occurs outside of its binders
+unfoldable pub free : ℕ → Formula → Bool
+free i False = false
+free i True = false
+free i (And a b) = free i a || free i b
+free i (Or a b) = free i a || free i b
+free i (Box α a) = free i a
+free i (Diamond α a) = free i a
+free i (Variable j) = eqb i j
+free i (Fix sign j a) = not (eqb i j) && free i a

@@ -6,7 +6,7 @@ pub mod Prefix
 pub mod File
 pub mod Case
 pub mod Conditions
+pub mod Opening
 pub mod Meaning
-pub mod Masks
-pub mod Checks
-pub mod Examples
+pub mod internal
+pub mod examples

@@ -67,7 +67,7 @@ module _ {A : Type 0} where
   top d (some []) = d
   top d (some (a ∷ st)) = a
 
-  -- the trees of a table whose first node is node i; `place i x` puts node i with number and argument x onto the trees after it
+  -- the trees of a table whose first node is node i; `place i x` puts node i, x by its kind and argument, onto the trees after it
   unfoldable pub trees : (ℕ → Node → List A → Option (List A)) → ℕ → List Node → Option (List A)
   trees place i [] = some []
   trees place i (x ∷ xs) = onto (trees place (suc i) xs) (place i x)

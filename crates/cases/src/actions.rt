@@ -6,12 +6,12 @@ ghost use mathlib.Core.Path.{_≡_};
 ghost use mathlib.Core.List.{map};
 ghost use Prim.Native.Nat.{_+_, _*_, _<_, _≤_};
 ghost use lib.ListN.{length, getD};
-ghost use Rattle.sets.specs.Lists.{range};
+ghost use Rattle.sets.specs.Lists.{numbersFrom};
 ghost use Rattle.cases.specs.Limits.{labelLimit, actionLimit};
 ghost use Rattle.cases.specs.Action.{Action};
 ghost use Rattle.cases.specs.Prefix.{actionAt};
 ghost use Rattle.cases.specs.File.{nodeIn};
-ghost use Rattle.cases.specs.Masks.{maskOf, actionOf, WholeActions};
+ghost use Rattle.cases.specs.internal.Masks.{maskOf, actionOf, WholeActions};
 
 // The mask of a node, where x and y are the masks that stand next after it.
 fn mask_of(kind: usize, arg: usize, x: u64, y: u64) -> u64
@@ -52,8 +52,8 @@ fn mask_at(masks: &[u64], at: usize) -> u64
 // The labels that the action formula at node j accepts: bit x says whether label x is accepted. The nodes are read from the last one down,
 // and the masks of the formulas that start at node i or after it stand from `at` on.
 pub fn accepted_labels(part: &[u8], a: usize, j: usize) -> u64
-    requires { ⌜ (4 * a ≤ length (now part)) × (a ≤ actionLimit) × (j < a) × WholeActions (map (nodeIn (now part)) (range 0 a)) ⌝ }
-    ensures { λ r. ⌜ r ≡ maskOf (actionAt (map (nodeIn (now (part .entry))) (range 0 a)) j) ⌝ }
+    requires { ⌜ (4 * a ≤ length (now part)) × (a ≤ actionLimit) × (j < a) × WholeActions (map (nodeIn (now part)) (numbersFrom 0 a)) ⌝ }
+    ensures { λ r. ⌜ r ≡ maskOf (actionAt (map (nodeIn (now (part .entry))) (numbersFrom 0 a)) j) ⌝ }
 {
     let mut masks = [0u64; ACTIONS];
     let mut at = ACTIONS;

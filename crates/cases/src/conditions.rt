@@ -1,26 +1,32 @@
-// Conditions 1 to 10.
+// Opening a case: its conditions, by what they look at.
+use crate::Cause;
+use crate::Header;
 use crate::Node;
+use crate::Opened;
 use crate::Transition;
 use crate::file::HEADER;
+use crate::file::actions_start;
+use crate::file::file_end;
+use crate::file::formula_start;
 use crate::file::header;
 use crate::file::node_at;
-use crate::file::number_at;
 use crate::file::transition_at;
+use crate::file::version;
 ghost use mathlib.Core.Path.{_≡_};
 ghost use mathlib.Core.Bool.{cond, not};
 ghost use mathlib.Core.List.{map};
 ghost use Prim.Native.Nat.{_-_, _*_, _≤_, _<_};
 ghost use lib.ListN.{length, getD, drop};
-ghost use Rattle.sets.specs.Lists.{range, all};
-ghost use Rattle.solver.specs.Conditions.{between};
-ghost use Rattle.solver.specs.Outcome.{firstOf};
+ghost use Rattle.sets.specs.Lists.{numbersFrom, every};
+ghost use Rattle.sets.specs.Refusals.{between, firstOf};
 ghost use Rattle.cases.specs.Limits.{actionLimit, nodeLimit};
 ghost use Rattle.cases.specs.Prefix.{arityIn, actionArities, formulaArities, wholeFormulas, exactly, endOf};
 ghost use Rattle.cases.specs.File.{headerOf};
 ghost use Rattle.cases.specs.Conditions.{badCount, badOffset, badLength, badModel, badActions, badFormula, badVariable, tooDeep};
 ghost use Rattle.cases.specs.Conditions.{transitionOk, actionOk, nodeOk, boundOk, isBinder, binderCount};
-ghost use Rattle.cases.specs.Conditions.{modelConditions, formulaConditions, caseRefusal};
-ghost use Rattle.cases.specs.Checks.{transitionsIn, nodesIn, fits, Counts, Laid, Holds};
+ghost use Rattle.cases.specs.Conditions.{layoutConditions, modelConditions, formulaConditions, caseRefusal};
+ghost use Rattle.cases.specs.Opening.{caseNumber, Opens};
+ghost use Rattle.cases.specs.internal.Checks.{transitionsIn, nodesIn, fits, Counts, Laid, Holds};
 
 // Whether a count is below `low` or above `high`.
 fn outside(low: usize, high: usize, count: usize) -> bool
@@ -32,12 +38,10 @@ fn outside(low: usize, high: usize, count: usize) -> bool
     high < count
 }
 
-// Condition 3, of a case with a header.
-fn bad_count(case: &[u8]) -> bool
-    requires { ⌜ 20 ≤ length (now case) ⌝ }
-    ensures { λ r. ⌜ r ≡ badCount (now (case .entry)) ⌝ }
+// Condition 3.
+fn bad_count(h: Header) -> bool
+    ensures { λ r. ⌜ r ≡ badCount h ⌝ }
 {
-    let h = header(case);
     if outside(1, sets::STATES, h.states) {
         return true;
     }
@@ -54,27 +58,48 @@ fn bad_count(case: &[u8]) -> bool
 }
 
 // Condition 4, where the counts are in range.
-fn bad_offset(case: &[u8]) -> bool
-    requires { ⌜ 20 ≤ length (now case) ⌝ ∗ ⌜ Counts (headerOf (now case)) ⌝ }
-    ensures { λ r. ⌜ r ≡ badOffset (now (case .entry)) ⌝ }
+fn bad_offset(h: Header) -> bool
+    requires { ⌜ Counts h ⌝ }
+    ensures { λ r. ⌜ r ≡ badOffset h ⌝ }
 {
-    let h = header(case);
-    if h.first != HEADER {
+    if h.transitions_at != HEADER {
         return true;
     }
-    if h.second != HEADER + 6 * h.transitions {
+    if h.actions_at != actions_start(h) {
         return true;
     }
-    h.third != HEADER + 6 * h.transitions + 4 * h.actions
+    h.formula_at != formula_start(h)
 }
 
 // Condition 5, where the counts are in range.
-fn bad_length(case: &[u8]) -> bool
-    requires { ⌜ 20 ≤ length (now case) ⌝ ∗ ⌜ Counts (headerOf (now case)) ⌝ }
+fn bad_length(case: &[u8], h: Header) -> bool
+    requires { ⌜ Counts h ⌝ ∗ ⌜ h ≡ headerOf (now case) ⌝ }
     ensures { λ r. ⌜ r ≡ badLength (now (case .entry)) ⌝ }
 {
+    case.len() != file_end(h)
+}
+
+// The layout: the header, or the first of conditions 1 to 5 that holds.
+fn check_layout(case: &[u8]) -> Opened
+    ensures { λ r. ⌜ Opens (firstOf (layoutConditions (now (case .entry)))) (headerOf (now (case .entry))) r ⌝ }
+{
+    if case.len() < HEADER {
+        return Opened::Refused(Cause::Small);
+    }
+    if version(case) != 1 {
+        return Opened::Refused(Cause::Version);
+    }
     let h = header(case);
-    case.len() != HEADER + 6 * h.transitions + 4 * h.actions + 4 * h.nodes
+    if bad_count(h) {
+        return Opened::Refused(Cause::Count);
+    }
+    if bad_offset(h) {
+        return Opened::Refused(Cause::Offset);
+    }
+    if bad_length(case, h) {
+        return Opened::Refused(Cause::Length);
+    }
+    Opened::Accepted(h)
 }
 
 // Whether the ends of a transition are below n, and its label below l.
@@ -93,7 +118,7 @@ fn transition_holds(t: Transition, n: usize, l: usize) -> bool
 // Whether that holds of each of the m transitions of a part.
 fn transitions_hold(part: &[u8], m: usize, n: usize, l: usize) -> bool
     requires { ⌜ 6 * m ≤ length (now part) ⌝ }
-    ensures { λ r. ⌜ r ≡ all (transitionOk n l) (transitionsIn (now (part .entry)) m) ⌝ }
+    ensures { λ r. ⌜ r ≡ every (transitionOk n l) (transitionsIn (now (part .entry)) m) ⌝ }
 {
     let mut i = 0;
     while i < m {
@@ -105,17 +130,16 @@ fn transitions_hold(part: &[u8], m: usize, n: usize, l: usize) -> bool
     true
 }
 
-// Condition 6, where 1 to 5 do not hold.
-fn bad_model(case: &[u8]) -> bool
-    requires { ⌜ Laid (now case) ⌝ }
+// Condition 6.
+fn bad_model(case: &[u8], h: Header) -> bool
+    requires { ⌜ Laid (now case) h ⌝ }
     ensures { λ r. ⌜ r ≡ badModel (now (case .entry)) ⌝ }
 {
-    let h = header(case);
     if h.states <= h.initial {
         return true;
     }
-    let first = h.first;
-    !transitions_hold(&case[first..], h.transitions, h.states, h.labels)
+    let records = h.transitions_at;
+    !transitions_hold(&case[records..], h.transitions, h.states, h.labels)
 }
 
 // One less, or 0.
@@ -189,7 +213,7 @@ fn node_fits(x: Node, bound: usize, formula: bool) -> bool
 // Whether that holds of each of the k nodes of a part.
 fn all_fit(part: &[u8], k: usize, bound: usize, formula: bool) -> bool
     requires { ⌜ 4 * k ≤ length (now part) ⌝ }
-    ensures { λ r. ⌜ r ≡ all (fits formula bound) (nodesIn (now (part .entry)) k) ⌝ }
+    ensures { λ r. ⌜ r ≡ every (fits formula bound) (nodesIn (now (part .entry)) k) ⌝ }
 {
     let mut i = 0;
     while i < k {
@@ -216,45 +240,30 @@ fn actions_whole(part: &[u8], a: usize) -> bool
     due == 0
 }
 
-// Condition 7, where 1 to 5 do not hold.
-fn bad_actions(case: &[u8]) -> bool
-    requires { ⌜ Laid (now case) ⌝ }
+// Condition 7.
+fn bad_actions(case: &[u8], h: Header) -> bool
+    requires { ⌜ Laid (now case) h ⌝ }
     ensures { λ r. ⌜ r ≡ badActions (now (case .entry)) ⌝ }
 {
-    let h = header(case);
-    let second = h.second;
-    if !all_fit(&case[second..], h.actions, h.labels, false) {
+    let actions = h.actions_at;
+    if !all_fit(&case[actions..], h.actions, h.labels, false) {
         return true;
     }
-    !actions_whole(&case[second..], h.actions)
+    !actions_whole(&case[actions..], h.actions)
 }
 
-// The first of conditions 1 to 7 that holds, or 0.
-fn model_refusal(case: &[u8]) -> u8
-    ensures { λ r. ⌜ r ≡ firstOf (modelConditions (now (case .entry))) ⌝ }
+// The model and the action table: the header, or the first of conditions 6 and 7 that holds.
+fn check_model(case: &[u8], h: Header) -> Opened
+    requires { ⌜ Laid (now case) h ⌝ }
+    ensures { λ r. ⌜ Opens (firstOf (modelConditions (now (case .entry)))) h r ⌝ }
 {
-    if case.len() < HEADER {
-        return 1;
+    if bad_model(case, h) {
+        return Opened::Refused(Cause::Model);
     }
-    if number_at(case, 0) != 1 {
-        return 2;
+    if bad_actions(case, h) {
+        return Opened::Refused(Cause::Actions);
     }
-    if bad_count(case) {
-        return 3;
-    }
-    if bad_offset(case) {
-        return 4;
-    }
-    if bad_length(case) {
-        return 5;
-    }
-    if bad_model(case) {
-        return 6;
-    }
-    if bad_actions(case) {
-        return 7;
-    }
-    0
+    Opened::Accepted(h)
 }
 
 // How many operands a formula kind has.
@@ -360,7 +369,7 @@ fn variable_bound(part: &[u8], f: usize, i: usize) -> bool
 // Whether every variable stands in the subtree of its binder.
 fn variables_bound(part: &[u8], f: usize) -> bool
     requires { ⌜ Holds nodeLimit (now part) f ⌝ }
-    ensures { λ r. ⌜ r ≡ all (boundOk (nodesIn (now (part .entry)) f)) (range 0 f) ⌝ }
+    ensures { λ r. ⌜ r ≡ every (boundOk (nodesIn (now (part .entry)) f)) (numbersFrom 0 f) ⌝ }
 {
     let mut i = 0;
     while i < f {
@@ -416,32 +425,53 @@ fn too_deep(part: &[u8], f: usize) -> bool
     solver::BLOCKS < count + 1
 }
 
-// The first of conditions 8 to 10 that holds of the f nodes of a part, or 0.
-fn formula_refusal(actions: usize, part: &[u8], f: usize) -> u8
-    requires { ⌜ Holds nodeLimit (now part) f ⌝ ∗ ⌜ 1 ≤ f ⌝ }
-    ensures { λ r. ⌜ r ≡ firstOf (formulaConditions actions (nodesIn (now (part .entry)) f)) ⌝ }
+// The formula part: the header, or the first of conditions 8 to 10 that holds.
+fn check_formula(part: &[u8], h: Header) -> Opened
+    requires { ⌜ Holds nodeLimit (now part) (h .nodes) ⌝ ∗ ⌜ 1 ≤ h .nodes ⌝ }
+    ensures { λ r. ⌜ Opens (firstOf (formulaConditions (h .actions) (nodesIn (now (part .entry)) (h .nodes)))) h r ⌝ }
 {
-    if bad_formula(actions, part, f) {
-        return 8;
+    if bad_formula(h.actions, part, h.nodes) {
+        return Opened::Refused(Cause::Formula);
     }
-    if bad_variable(part, f) {
-        return 9;
+    if bad_variable(part, h.nodes) {
+        return Opened::Refused(Cause::Variable);
     }
-    if too_deep(part, f) {
-        return 10;
+    if too_deep(part, h.nodes) {
+        return Opened::Refused(Cause::Depth);
     }
-    0
+    Opened::Accepted(h)
 }
 
-// The first of conditions 1 to 10 that holds of a case, or 0.
-pub fn refusal(case: &[u8]) -> u8
-    ensures { λ r. ⌜ r ≡ caseRefusal (now (case .entry)) ⌝ }
+// Opens a case: its header, or the first condition that holds.
+pub fn open(case: &[u8]) -> Opened
+    ensures { λ r. ⌜ Opens (caseRefusal (now (case .entry))) (headerOf (now (case .entry))) r ⌝ }
 {
-    let first = model_refusal(case);
-    if first != 0 {
-        return first;
+    let laid = check_layout(case);
+    let Opened::Accepted(h) = laid else {
+        return laid;
+    };
+    let model = check_model(case, h);
+    let Opened::Accepted(_) = model else {
+        return model;
+    };
+    let formula = h.formula_at;
+    check_formula(&case[formula..], h)
+}
+
+// The number of a cause.
+pub fn number_of(cause: Cause) -> u8
+    ensures { λ r. ⌜ r ≡ caseNumber cause ⌝ }
+{
+    match cause {
+        Cause::Small => 1,
+        Cause::Version => 2,
+        Cause::Count => 3,
+        Cause::Offset => 4,
+        Cause::Length => 5,
+        Cause::Model => 6,
+        Cause::Actions => 7,
+        Cause::Formula => 8,
+        Cause::Variable => 9,
+        Cause::Depth => 10,
     }
-    let h = header(case);
-    let third = h.third;
-    formula_refusal(h.actions, &case[third..], h.nodes)
 }

@@ -5,7 +5,8 @@ use crate::Transition;
 ghost use mathlib.Core.Path.{_≡_};
 ghost use Prim.Native.Nat.{_+_, _*_, _^_, _<_, _≤_};
 ghost use lib.ListN.{length};
-ghost use Rattle.cases.specs.File.{u16, headerOf, transitionIn, nodeIn};
+ghost use Rattle.cases.specs.File.{u16, headerSize, version, headerOf, actionsStart, formulaStart, fileEnd, transitionIn, nodeIn};
+ghost use Rattle.cases.specs.internal.Checks.{Counts};
 
 // How many bytes the header has.
 pub const HEADER: usize = 20;
@@ -24,9 +25,17 @@ pub fn number_at(part: &[u8], at: usize) -> usize
     wide(part[at]) + 256 * wide(part[at + 1])
 }
 
-// The numbers of the header, but for the version.
+// The version.
+pub fn version(case: &[u8]) -> usize
+    requires { ⌜ headerSize ≤ length (now case) ⌝ }
+    ensures { λ r. ⌜ r ≡ version (now (case .entry)) ⌝ }
+{
+    number_at(case, 0)
+}
+
+// The other numbers of the header.
 pub fn header(case: &[u8]) -> Header
-    requires { ⌜ 20 ≤ length (now case) ⌝ }
+    requires { ⌜ headerSize ≤ length (now case) ⌝ }
     ensures { λ r. ⌜ r ≡ headerOf (now (case .entry)) ⌝ }
 {
     Header {
@@ -36,10 +45,34 @@ pub fn header(case: &[u8]) -> Header
         initial: number_at(case, 8),
         actions: number_at(case, 10),
         nodes: number_at(case, 12),
-        first: number_at(case, 14),
-        second: number_at(case, 16),
-        third: number_at(case, 18),
+        transitions_at: number_at(case, 14),
+        actions_at: number_at(case, 16),
+        formula_at: number_at(case, 18),
     }
+}
+
+// Where the action nodes have to stand, by the counts.
+pub fn actions_start(h: Header) -> usize
+    requires { ⌜ Counts h ⌝ }
+    ensures { λ r. ⌜ r ≡ actionsStart h ⌝ }
+{
+    HEADER + 6 * h.transitions
+}
+
+// Where the formula nodes have to stand.
+pub fn formula_start(h: Header) -> usize
+    requires { ⌜ Counts h ⌝ }
+    ensures { λ r. ⌜ r ≡ formulaStart h ⌝ }
+{
+    actions_start(h) + 4 * h.actions
+}
+
+// Where the file has to end.
+pub fn file_end(h: Header) -> usize
+    requires { ⌜ Counts h ⌝ }
+    ensures { λ r. ⌜ r ≡ fileEnd h ⌝ }
+{
+    formula_start(h) + 4 * h.nodes
 }
 
 // Transition i of the transition part.

@@ -7,9 +7,9 @@ mod transitions;
 pub use actions::accepted_labels;
 pub use conditions::binders;
 pub use conditions::is_binder;
-pub use conditions::refusal;
+pub use conditions::number_of;
+pub use conditions::open;
 pub use conditions::subtree_end;
-pub use file::header as header_of;
 pub use file::node_at;
 pub use file::number_at;
 pub use file::transition_at;
@@ -34,9 +34,9 @@ pub struct Header {
     pub initial: usize,
     pub actions: usize,
     pub nodes: usize,
-    pub first: usize,
-    pub second: usize,
-    pub third: usize,
+    pub transitions_at: usize,
+    pub actions_at: usize,
+    pub formula_at: usize,
 }
 
 // A transition: source, label, target.
@@ -50,4 +50,24 @@ pub struct Transition {
 pub struct Node {
     pub kind: usize,
     pub arg: usize,
+}
+
+// Why a case is refused.
+pub enum Cause {
+    Small,
+    Version,
+    Count,
+    Offset,
+    Length,
+    Model,
+    Actions,
+    Formula,
+    Variable,
+    Depth,
+}
+
+// What opening a case finds.
+pub enum Opened {
+    Accepted(Header),
+    Refused(Cause),
 }

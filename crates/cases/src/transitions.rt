@@ -5,7 +5,7 @@ ghost use mathlib.Core.List.{map};
 ghost use Prim.Native.Nat.{_+_, _*_, _≤_};
 ghost use lib.Dec.{eqb};
 ghost use lib.ListN.{length};
-ghost use Rattle.sets.specs.Lists.{range};
+ghost use Rattle.sets.specs.Lists.{numbersFrom};
 ghost use Rattle.cases.specs.File.{transitionIn};
 ghost use Rattle.cases.specs.Case.{sameTransition, copiesBefore};
 
@@ -28,7 +28,7 @@ fn same_at(part: &[u8], j: usize, i: usize) -> bool
 // Whether no record before record i of the transition part equals it.
 pub fn is_first(part: &[u8], i: usize) -> bool
     requires { ⌜ 6 * i + 6 ≤ length (now part) ⌝ }
-    ensures { λ r. ⌜ r ≡ eqb (copiesBefore (map (transitionIn (now (part .entry))) (range 0 (i + 1))) i) 0 ⌝ }
+    ensures { λ r. ⌜ r ≡ eqb (copiesBefore (map (transitionIn (now (part .entry))) (numbersFrom 0 (i + 1))) i) 0 ⌝ }
 {
     for j in 0..i {
         if same_at(part, j, i) {

@@ -1,26 +1,31 @@
--- The numbers that a call from C answers.
+-- What the calls for C promise: the four numbers of an outcome, the length of the file that was written, and the lent places as the calls leave them.
 use mathlib.Core.Path.{_≡_}
+use mathlib.Core.List.{List}
 use Prim.Native.Nat.{ℕ}
-use Rattle.solver.specs.Outcome.{Outcome, refused}
-use Rattle.translate.specs.Translating.{number}
-use Rattle.translate.specs.declared.Written.{Written}
+use lib.ListN.{length}
+use Rattle.sets.specs.Refusals.{Outcome, refused, byRefusal}
+use Rattle.solver.specs.Outcome.{Answered}
+use Rattle.translate.specs.Translating.{file, translateRefusal, fileAfter}
+use Rattle.routes.specs.Route.{direct, Lent, marksOnly, Ran, EquationRan}
 use Rattle.exports.specs.declared.Numbers.{Numbers}
 
--- the outcome that numbers stand for
+-- the outcome that the first four numbers stand for
 unfoldable pub exported : Numbers → Outcome
 exported n = record { refusal = n .refusal; verdict = n .verdict; count = n .count; rounds = n .rounds }
 
--- what a translation says in numbers, but for the length of its file
-abbrev pub translated : Written → Outcome
-translated w = refused (number w)
+pub record TranslateSays (b before : List ℕ) (n : Numbers) (after : List ℕ) : Type 0 where
+  pub numbers : exported n ≡ refused (translateRefusal b (length before))
+  pub length-is : n .length ≡ byRefusal (translateRefusal b (length before)) (length (file b)) 0
+  pub bytes : after ≡ fileAfter b before
 
--- an answer with no file
-abbrev pub no-file : {A : Type 0} → A → ℕ
-no-file answer = 0
+pub record SolveSays (e work marks : List ℕ) (limit : ℕ) (n : Numbers) (work′ marks′ : List ℕ) : Type 0 where
+  pub answered : Answered e work marks limit (exported n) work′ marks′
+  pub length-is : n .length ≡ 0
 
--- The numbers are those of an answer that keeps the promise of the call: its outcome, and the length of its file.
-pub record Exports {Answer : Type 0} (outcome : Answer → Outcome) (size : Answer → ℕ) (promise : Answer → Type 0) (n : Numbers) : Type 0 where
-  pub answer : Answer
-  pub kept : promise answer
-  pub numbers : exported n ≡ outcome answer
-  pub length : n .length ≡ size answer
+pub record DirectSays (b marks : List ℕ) (limit : ℕ) (n : Numbers) (marks′ : List ℕ) : Type 0 where
+  pub ran : Ran direct b (marksOnly marks) limit (exported n) marks′
+  pub length-is : n .length ≡ 0
+
+pub record EquationSays (b : List ℕ) (l : Lent) (limit : ℕ) (n : Numbers) (file′ work′ marks′ : List ℕ) : Type 0 where
+  pub ran : EquationRan b l limit (exported n) file′ work′ marks′
+  pub length-is : n .length ≡ 0

@@ -3,11 +3,13 @@ use routes::Answer;
 use routes::numbers_of;
 use routes::solving_answer;
 use translate::Written;
+use translate::number_of;
 ghost use mathlib.Core.Path.{_≡_};
-ghost use Rattle.solver.specs.Outcome.{Answered, outcome as Solver·outcome};
-ghost use Rattle.translate.specs.Translating.{Translated, size};
-ghost use Rattle.routes.specs.Route.{Directed, Routed, outcome};
-ghost use Rattle.exports.specs.Exported.{exported, translated, no-file, Exports};
+ghost use Rattle.sets.specs.Refusals.{refused};
+ghost use Rattle.translate.specs.Translating.{writtenNumber, writtenLength};
+ghost use Rattle.routes.specs.Route.{outcome, lent};
+ghost use Rattle.exports.specs.Exported.{TranslateSays, SolveSays, DirectSays, EquationSays};
+ghost use Rattle.exports.specs.internal.Saying.{Says};
 
 // The refusal number (0 if none), the verdict as 1 or 0, the count of marked states, the rounds, and the length of the file that was
 // written. What a call does not answer is 0, and so are all but the first after a refusal.
@@ -22,7 +24,7 @@ pub struct Numbers {
 
 // The numbers of a route's answer.
 fn answered(answer: Answer) -> Numbers
-    ensures { λ r. ⌜ (exported r ≡ outcome answer) × (r .length ≡ 0) ⌝ }
+    ensures { λ r. ⌜ Says r (outcome answer) 0 ⌝ }
 {
     let numbers = numbers_of(answer);
     Numbers {
@@ -36,7 +38,7 @@ fn answered(answer: Answer) -> Numbers
 
 // The numbers of a translation.
 fn written(answer: Written) -> Numbers
-    ensures { λ r. ⌜ (exported r ≡ translated answer) × (r .length ≡ size answer) ⌝ }
+    ensures { λ r. ⌜ Says r (refused (writtenNumber answer)) (writtenLength answer) ⌝ }
 {
     match answer {
         Written::File(length) => Numbers {
@@ -46,8 +48,8 @@ fn written(answer: Written) -> Numbers
             rounds: 0,
             length: length as u64,
         },
-        Written::Refused(k) => Numbers {
-            refusal: k as u64,
+        Written::Refused(cause) => Numbers {
+            refusal: number_of(cause) as u64,
             verdict: 0,
             count: 0,
             rounds: 0,
@@ -58,7 +60,7 @@ fn written(answer: Written) -> Numbers
 
 #[no_mangle]
 pub extern "C" fn bithrowy_translate(case: &[u8], file: &mut [u8]) -> Numbers
-    ensures { λ r. ⌜ Exports translated size (λ a. Translated (now (case .entry)) (now (file .entry)) a (now (file .exit))) r ⌝ }
+    ensures { λ r. ⌜ TranslateSays (now (case .entry)) (now (file .entry)) r (now (file .exit)) ⌝ }
 {
     written(translate::translate(case, file))
 }
@@ -70,15 +72,14 @@ pub extern "C" fn bithrowy_solve(
     marks: &mut [u64],
     limit: u64,
 ) -> Numbers
-    ensures { λ r. ⌜ Exports Solver·outcome no-file
-        (λ a. Answered (now (file .entry)) (now (work .entry)) (now (marks .entry)) limit a (now (work .exit)) (now (marks .exit))) r ⌝ }
+    ensures { λ r. ⌜ SolveSays (now (file .entry)) (now (work .entry)) (now (marks .entry)) limit r (now (work .exit)) (now (marks .exit)) ⌝ }
 {
     answered(solving_answer(solver::solve(file, work, marks, limit)))
 }
 
 #[no_mangle]
 pub extern "C" fn bithrowy_direct(case: &[u8], marks: &mut [u64], limit: u64) -> Numbers
-    ensures { λ r. ⌜ Exports outcome no-file (λ a. Directed (now (case .entry)) (now (marks .entry)) limit a (now (marks .exit))) r ⌝ }
+    ensures { λ r. ⌜ DirectSays (now (case .entry)) (now (marks .entry)) limit r (now (marks .exit)) ⌝ }
 {
     answered(routes::direct(case, marks, limit))
 }
@@ -91,8 +92,8 @@ pub extern "C" fn bithrowy_equation(
     marks: &mut [u64],
     limit: u64,
 ) -> Numbers
-    ensures { λ r. ⌜ Exports outcome no-file (λ a. Routed (now (case .entry)) (now (file .entry)) (now (work .entry)) (now (marks .entry)) limit a
-        (now (file .exit)) (now (work .exit)) (now (marks .exit))) r ⌝ }
+    ensures { λ r. ⌜ EquationSays (now (case .entry)) (lent (now (file .entry)) (now (work .entry)) (now (marks .entry))) limit r
+        (now (file .exit)) (now (work .exit)) (now (marks .exit)) ⌝ }
 {
     answered(routes::equation(case, file, work, marks, limit))
 }

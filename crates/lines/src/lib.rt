@@ -10,7 +10,7 @@ ghost use Rattle.sets.specs.Size.{wordCount};
 ghost use Rattle.solver.specs.Limits.{cellLimit};
 ghost use Rattle.solver.specs.Outcome.{solveOutcome};
 ghost use Rattle.routes.specs.Route.{direct, equation, outcomeOf, shown};
-ghost use Rattle.routes.specs.Examples.{lends};
+ghost use Rattle.routes.specs.Program.{programLimit, programMemory};
 
 const LIMIT: u64 = 1_000_000;
 
@@ -18,7 +18,7 @@ const FILE: usize = 65_536;
 
 // The numbers of the equation route, with fresh memory.
 pub fn by_equation(case: &[u8]) -> Numbers
-    ensures { λ r. ⌜ shown r ≡ outcomeOf equation (now (case .entry)) lends 1_000_000 ⌝ }
+    ensures { λ r. ⌜ shown r ≡ outcomeOf equation (now (case .entry)) programMemory programLimit ⌝ }
 {
     let mut file = [0u8; FILE];
     let mut work = [0u8; CELLS];
@@ -28,7 +28,7 @@ pub fn by_equation(case: &[u8]) -> Numbers
 
 // The numbers of direct, with fresh memory.
 pub fn by_direct(case: &[u8]) -> Numbers
-    ensures { λ r. ⌜ shown r ≡ outcomeOf direct (now (case .entry)) lends 1_000_000 ⌝ }
+    ensures { λ r. ⌜ shown r ≡ outcomeOf direct (now (case .entry)) programMemory programLimit ⌝ }
 {
     let mut marks = [0u64; WORDS];
     numbers_of(routes::direct(case, &mut marks, LIMIT))
@@ -36,7 +36,7 @@ pub fn by_direct(case: &[u8]) -> Numbers
 
 // The numbers of solving an equation file, with fresh memory.
 pub fn by_file(file: &[u8]) -> Numbers
-    ensures { λ r. ⌜ shown r ≡ solveOutcome (now (file .entry)) cellLimit wordCount 1_000_000 ⌝ }
+    ensures { λ r. ⌜ shown r ≡ solveOutcome (now (file .entry)) cellLimit wordCount programLimit ⌝ }
 {
     let mut work = [0u8; CELLS];
     let mut marks = [0u64; WORDS];

@@ -10,31 +10,31 @@ use lib.Dec.{eqb}
 use lib.ListN.{length, getD, set, take, length-replicate, List·getD-eq-default}
 use lib.Seq.{getD-set-same, getD-set-other, set-set}
 use Rattle.sets.specs.Size.{wordCount}
-use Rattle.sets.specs.Set.{Set, start}
-use Rattle.sets.specs.Loop.{Step, Run}
+use Rattle.sets.specs.States.{States, start}
+use Rattle.sets.specs.Loop.{Step, Loop, itself}
 use Rattle.sets.specs.Words.{words}
 use Rattle.sets.proofs.Lists.{false-true}
 use Rattle.sets.proofs.Turns.{Left, turn, stops-here, goes-on}
 use Rattle.sets.proofs.Words.{words-length, words-inj}
-use Rattle.solver.specs.Cells.{Valuation, bind}
-use Rattle.solver.proofs.Solving.{bind-sized}
+use Rattle.sets.specs.Valuation.{Valuation, bind}
+use Rattle.sets.proofs.Valuation.{bind-sized}
 use Rattle.cases.specs.Action.{Action}
 use Rattle.cases.specs.declared.Header.{Header}
 use Rattle.cases.specs.declared.Node.{Node}
 use Rattle.cases.specs.declared.Transition.{Transition}
 use Rattle.cases.specs.Prefix.{arityIn, formulaArities, formulaAt}
 use Rattle.cases.specs.Conditions.{nodeAt, isBinder, binderCount}
-use Rattle.cases.specs.Checks.{transitionsIn, nodesIn}
+use Rattle.cases.specs.internal.Checks.{transitionsIn, nodesIn}
 use Rattle.cases.proofs.Spans.{end-one}
 use Rattle.routes.specs.Direct.{Direct}
-use Rattle.routes.specs.Evaluating.{value, Masks, Shown, Asks, KindAt, Evaluated}
+use Rattle.routes.specs.internal.Evaluating.{value, Masks, Shown, Asks, KindAt, Evaluated}
 use Rattle.routes.specs.declared.Value.{Value}
 use Rattle.routes.proofs.DirectLaws.{direct-sized}
 use Rattle.routes.proofs.NodeLaws.{Binder, apart, by-kind, inside, in-arities, operand, block-of, arity, ruled-by}
 use Rattle.routes.proofs.EvaluateLaws.{all-spent}
 
 -- a row that is the words of a set is one of the rows
-row-inside : (rows : List (List ℕ)) (k : ℕ) (v : Set) → getD rows k [] ≡ words wordCount v → k < length rows
+row-inside : (rows : List (List ℕ)) (k : ℕ) (v : States) → getD rows k [] ≡ words wordCount v → k < length rows
 row-inside rows k v e = go (decLt k (length rows))
   where
     go : Dec (k < length rows) → k < length rows
@@ -45,7 +45,7 @@ row-inside rows k v e = go (decLt k (length rows))
 
 -- the rows show the valuation with v for binder i if the words of v are put into i's row
 shown-bind : {n : ℕ} {t : List Node} {rows : List (List ℕ)} {ρ : Valuation} → Shown n t rows ρ → (i : ℕ) → Binder t i
-    → {k : ℕ} → k ≡ binderCount (take i t) → (v : Set) {held : List ℕ} → length v ≡ n → held ≡ words wordCount v
+    → {k : ℕ} → k ≡ binderCount (take i t) → (v : States) {held : List ℕ} → length v ≡ n → held ≡ words wordCount v
     → Shown n t (set rows k held) (bind ρ i v)
 unfolding bind
 shown-bind {n} {t} {rows} {ρ} s i b {k} e v {held} z w =
@@ -60,12 +60,12 @@ shown-bind {n} {t} {rows} {ρ} s i b {k} e v {held} z w =
         (s .row j h is)
 
 -- one turn of the loop of binder `at`: its body is worked out
-abbrev body : Header → List ℕ → List ℕ → ℕ → (ℕ → Action) → Valuation → Step
-body h records formula at action ρ u =
+abbrev body : Header → List ℕ → List ℕ → ℕ → (ℕ → Action) → Valuation → Step States
+body h records formula at action ρ = itself λ u.
     Direct (h .states) (transitionsIn records (h .transitions)) (formulaAt action (nodesIn formula (h .nodes)) (at + 1)) (bind ρ at u)
 
 -- words that hold a set of n states
-abbrev pub Holding : ℕ → List ℕ → Set → Type 0
+abbrev pub Holding : ℕ → List ℕ → States → Type 0
 Holding n held v = (length v ≡ n) × (held ≡ words wordCount v)
 
 -- At the loop's head, with the words `held` after `before` rounds: what is left of the binder's run. The inner rows are the rows but for its own.
@@ -74,9 +74,9 @@ pub record Going (h : Header) (records formula labels : List ℕ) (rows : List (
   pub others : (row : List ℕ) → set inner block row ≡ set rows block row
   pub low : used ≤ before
   pub high : before ≤ limit
-  pub left : (action : ℕ → Action) (ρ : Valuation) (v : Set) (r : ℕ)
+  pub left : (action : ℕ → Action) (ρ : Valuation) (v : States) (r : ℕ)
       → Masks action (nodesIn formula (h .nodes)) labels → Shown (h .states) (nodesIn formula (h .nodes)) rows ρ
-      → Run (body h records formula at action ρ) (start (h .states) (eqb kind 8)) v r
+      → Loop (body h records formula at action ρ) (start (h .states) (eqb kind 8)) v r
       → Left (body h records formula at action ρ) (Holding (h .states) held) v before (used + r)
 
 -- it begins
@@ -88,7 +88,7 @@ begins {h} {kind = kind} l e = record {
   low = omega arith;
   high = l;
   left = λ action ρ v r m s run.
-      record { now = start (h .states) (eqb kind 8); held = (length-replicate (h .states) (eqb kind 8), e); rest = r; run = run; sum = refl };
+      record { now = start (h .states) (eqb kind 8); known = (length-replicate (h .states) (eqb kind 8), e); rest = r; run = run; sum = refl };
 }
 
 module _ {h : Header} {records formula labels blocks : List ℕ} {at used limit : ℕ} (q : Asks h records formula labels blocks at used limit)
@@ -121,27 +121,27 @@ module _ {h : Header} {records formula labels blocks : List ℕ} {at used limit 
   binder-body l = operand q (omega (arith, one-operand)) l
 
   -- its set is that where the loop over its body stops
-  binder-rule : (action : ℕ → Action) (ρ : Valuation) (v : Set) (r : ℕ) → Direct n ts (formulaAt action t at) ρ v r
-      → Run (body h records formula at action ρ) (start n (eqb kind 8)) v r
+  binder-rule : (action : ℕ → Action) (ρ : Valuation) (v : States) (r : ℕ) → Direct n ts (formulaAt action t at) ρ v r
+      → Loop (body h records formula at action ρ) (start n (eqb kind 8)) v r
   unfolding Direct
   binder-rule action ρ v r =
-      ruled-by q k action ρ v r (λ m. Run (body h records formula at action ρ) (start n (eqb m 8)) v r) refl (λ d. d) (λ d. d)
+      ruled-by q k action ρ v r (λ m. Loop (body h records formula at action ρ) (start n (eqb m 8)) v r) refl (λ d. d) (λ d. d)
 
   module _ {block : ℕ} (b : block ≡ getD blocks at 0) {rows : List (List ℕ)} {held : List ℕ} {before : ℕ} {inner : List (List ℕ)}
       (g : Going h records formula labels rows at kind used limit block held before inner) {one : Value}
       (turned : Evaluated h records formula labels (set inner block held) (at + 1) before limit one) where
     -- the rows of the turn show the set held
-    shows : (action : ℕ → Action) (ρ : Valuation) {u : Set} {total : ℕ} → Shown n t rows ρ
+    shows : (action : ℕ → Action) (ρ : Valuation) {u : States} {total : ℕ} → Shown n t rows ρ
         → (l : Left (body h records formula at action ρ) (Holding n held) u before total) → Shown n t (set inner block held) (bind ρ at (l .now))
     shows action ρ s l =
-        rw (g .others held) (shown-bind s at own-binder (block-of q own-binder b) (l .now) (l .held .0) (l .held .1))
+        rw (g .others held) (shown-bind s at own-binder (block-of q own-binder b) (l .now) (l .known .0) (l .known .1))
 
     -- the rounds are spent in the body,
     pub body-spent : one .spent ≡ true → Evaluated h records formula labels rows at used limit one
     body-spent e = all-spent e (λ action ρ v r d.
         let l = g .left action ρ v r (d .0) (d .1) (binder-rule action ρ v r (d .2)) in
         let x = turn (l .run) in
-        omega (arith, turned .over e action (bind ρ at (l .now)) (x .next) (x .took) (d .0, shows action ρ (d .1) l, x .step), x .less, l .sum))
+        omega (arith, turned .over e action (bind ρ at (l .now)) (x .next) (x .took) (d .0, shows action ρ (d .1) l, x .step .1), x .less, l .sum))
 
     module _ (e : one .spent ≡ false) where
       -- or none is left for this one,
@@ -150,18 +150,18 @@ module _ {h : Header} {records formula labels blocks : List ℕ} {at used limit 
       round-spent m = all-spent refl (λ action ρ v r d.
           let l = g .left action ρ v r (d .0) (d .1) (binder-rule action ρ v r (d .2)) in
           let x = turn (l .run) in
-          omega (arith, turned .right e action (bind ρ at (l .now)) (x .next) (x .took) (d .0, shows action ρ (d .1) l, x .step) .0, x .less, l .sum))
+          omega (arith, turned .right e action (bind ρ at (l .now)) (x .next) (x .took) (d .0, shows action ρ (d .1) l, x .step .1) .0, x .less, l .sum))
 
       -- or the body's set is there.
-      found : (action : ℕ → Action) (ρ : Valuation) {u : Set} {total : ℕ} → Masks action t labels → Shown n t rows ρ
-          → (l : Left (body h records formula at action ρ) (Holding n held) u before total) (w : Set) (r : ℕ) → body h records formula at action ρ (l .now) w r
+      found : (action : ℕ → Action) (ρ : Valuation) {u : States} {total : ℕ} → Masks action t labels → Shown n t rows ρ
+          → (l : Left (body h records formula at action ρ) (Holding n held) u before total) (a w : States) (r : ℕ) → body h records formula at action ρ (l .now) a w r
           → (length w ≡ n) × (one .set ≡ words wordCount w) × (r ≡ one .rounds - before)
-      found action ρ m s l w r d =
-          let y = turned .right e action (bind ρ at (l .now)) w r (m, shows action ρ s l, d) in
-          (direct-sized n ts _ (bind ρ at (l .now)) (shows action ρ s l .sized) w r d, y .1, omega (arith, y .0))
+      found action ρ m s l a w r d =
+          let y = turned .right e action (bind ρ at (l .now)) w r (m, shows action ρ s l, d .1) in
+          (direct-sized n ts _ (bind ρ at (l .now)) (shows action ρ s l .sized) w r (d .1), y .1, omega (arith, y .0))
 
       -- sets with equal words are equal
-      same : (v w : Set) → length v ≡ n → length w ≡ n → words wordCount v ≡ words wordCount w → v ≡ w
+      same : (v w : States) → length v ≡ n → length w ≡ n → words wordCount v ≡ words wordCount w → v ≡ w
       same v w y z = words-inj wordCount v w (y ∙ sym z) (omega (arith, q .parts .model .few-states))
 
       -- It is the set held: the loop stops.
@@ -174,10 +174,11 @@ module _ {h : Header} {records formula labels blocks : List ℕ} {at used limit 
         ends = λ o. turned .ends e ∙ sym (end-one ks at (in-arities q) one-operand);
         right = λ o action ρ v r d.
             let l = g .left action ρ v r (d .0) (d .1) (binder-rule action ρ v r (d .2)) in
-            let x = stops-here (λ w c f.
-            let y = found action ρ (d .0) (d .1) l w c f in
-            (same w (l .now) (y .0) (l .held .0) (sym (y .1) ∙ is ∙ l .held .1), y .2)) (l .run) in
-            (omega (arith, x .1, l .sum, turned .low e), is ∙ l .held .1 ∙ ap (words wordCount) (sym (x .0)));
+            let x = stops-here (λ a w c f.
+            let y = found action ρ (d .0) (d .1) l a w c f in
+            same w (l .now) (y .0) (l .known .0) (sym (y .1) ∙ is ∙ l .known .1)) (l .run) in
+            let y = found action ρ (d .0) (d .1) l v (l .now) (x .took) (x .step) in
+            (omega (arith, y .2, x .sum, l .sum, turned .low e), is ∙ l .known .1 ∙ ap (words wordCount) (sym (x .step .0)));
       }
 
       -- It is another: the loop goes on from there.
@@ -189,10 +190,7 @@ module _ {h : Header} {records formula labels blocks : List ℕ} {at used limit 
         high = omega arith;
         left = λ action ρ v r masks s run.
             let l = g .left action ρ v r masks s run in
-            let x = turn (l .run) in
-            let y = found action ρ masks s l (x .next) (x .took) (x .step) in
-            let z = goes-on (λ p. other (y .1 ∙ ap (words wordCount) p ∙ sym (l .held .1))) (λ w c f.
-            let f = found action ρ masks s l w c f in
-            (same w (x .next) (f .0) (y .0) (sym (f .1) ∙ y .1), f .2)) (l .run) in
-            record { now = x .next; held = (y .0, y .1); rest = z .0; run = z .1; sum = omega (arith, z .2, l .sum, turned .low e) };
+            let x = goes-on (λ a w c f p. other (found action ρ masks s l a w c f .1 ∙ ap (words wordCount) p ∙ sym (l .known .1))) (l .run) in
+            let y = found action ρ masks s l (x .held) (x .next) (x .took) (x .step) in
+            record { now = x .next; known = (y .0, y .1); rest = x .rest; run = x .run; sum = omega (arith, y .2, x .sum, l .sum, turned .low e) };
       }

@@ -11,7 +11,8 @@ use Rattle.cases.specs.File.{actionTable, formulaTable}
 use Rattle.cases.specs.Case.{caseOf}
 use Rattle.cases.specs.Conditions as conditions
 use Rattle.cases.specs.Conditions.{Accepted}
-use Rattle.cases.proofs.TableTrees.{FormulaTable, formula-table}
+use Rattle.cases.specs.internal.Tables.{FormulaTable}
+use Rattle.cases.proofs.TableTrees.{formula-table}
 use Rattle.cases.proofs.Counting.{binders-all}
 use Rattle.cases.proofs.Accepting.{passed}
 use Rattle.translate.specs.Translating.{file}
@@ -20,7 +21,7 @@ use Rattle.translate.proofs.AcceptedCases.{fit, blocks-all}
 
 -- The formula has no more binders than the file has blocks.
 pub blocks-formula : (b : List ℕ) → Accepted b → binders (caseOf b .formula) ≤ blockCount (file b)
-unfolding caseOf conditions.blockCount
+unfolding caseOf conditions.blockTotal
 blocks-formula b ok =
     let t : List Node = formulaTable b in
     let action : ℕ → Action = actionAt (actionTable b) in

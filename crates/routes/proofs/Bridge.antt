@@ -9,22 +9,27 @@ use borrow.Author.Tests.{eqb-true, eqb-false}
 use lib.Dec.{T, eqb, ltb, eqb-refl}
 use lib.ListN.{length, getD, length-append, length-replicate, List·getD-append}
 use lib.Seq.{getD-append-add}
-use Rattle.sets.specs.Lists.{all}
-use Rattle.sets.specs.Set.{Set, has, start}
+use Rattle.sets.specs.Lists.{every}
+use Rattle.sets.specs.States.{States, has, start}
 use Rattle.sets.proofs.Lists.{and-both, or-left, or-right}
-use Rattle.solver.specs.Cells.{Cell, Ordered, Valuation, bind}
-use Rattle.solver.specs.File.{Block, Inside}
+use Rattle.solver.specs.Cells.{Cell}
+use Rattle.solver.specs.internal.Forms.{Ordered}
+use Rattle.sets.specs.Valuation.{Valuation, bind, Sized}
+use Rattle.solver.specs.File.{Block}
+use Rattle.solver.specs.internal.Forms.{Inside}
 use Rattle.solver.specs.Rounds.{solved}
-use Rattle.solver.proofs.Solving.{Sized, bind-same, bind-other, bind-sized, inside-rest, turn, solved-below}
-use Rattle.cases.specs.Formula.{Formula, False, True, And, Or, Box, Diamond, Variable, Fix, nodes}
+use Rattle.sets.proofs.Valuation.{bind-same, bind-other, bind-sized}
+use Rattle.solver.proofs.Solving.{inside-rest, turn, solved-below}
+use Rattle.cases.specs.Formula.{Formula, False, True, And, Or, Box, Diamond, Variable, Fix, nodes, free}
 use Rattle.cases.specs.declared.Transition.{Transition}
-use Rattle.cases.specs.Meaning.{setOf, boxIn, diamondIn}
-use Rattle.cases.proofs.MeaningLaws.{meaning, bodyOf, free, meaning-sized, means-scope}
+use Rattle.cases.specs.Meaning.{setOf, boxIn, diamondIn, meaning}
+use Rattle.cases.proofs.MeaningLaws.{bodyOf, meaning-sized, means-scope}
 use Rattle.translate.specs.Whole.{binderNodes}
 use Rattle.translate.specs.Cells.{cellsFrom, blocksFrom}
 use Rattle.translate.proofs.AllLaws.{all-second}
 use Rattle.translate.proofs.Counts.{length-blocks}
-use Rattle.translate.proofs.Unfold.{Stands, and-operands, or-operands, box-operand, diamond-operand, fix-operand, cells-ordered}
+use Rattle.translate.specs.Nodes.{Stands}
+use Rattle.translate.proofs.Unfold.{and-operands, or-operands, box-operand, diamond-operand, fix-operand, cells-ordered}
 use Rattle.routes.proofs.Shallow.{shallow, node-set}
 use Rattle.routes.proofs.SolvedBlocks.{first-set, Later, later}
 use Rattle.routes.proofs.IterateLaws.{iterate-same}
@@ -42,15 +47,15 @@ numbered-second block k is js h m g =
     ap block (sym (getD-append-add is js m 0)) ∙ h (length is + m) (simp length-append (omega arith)) ∙ omega arith
 
 -- The formula a stands at node 0, and cs are its cells.
-module _ (n : ℕ) (states : 0 < n) (ts : List Transition) (low : T (all (λ t. ltb (t .target) n) ts)) (block : ℕ → ℕ) (a : Formula) where
+module _ (n : ℕ) (states : 0 < n) (ts : List Transition) (low : T (every (λ t. ltb (t .target) n) ts)) (block : ℕ → ℕ) (a : Formula) where
   abbrev cs : List Cell
   cs = cellsFrom n ts block a 0
 
   -- a formula's set by the sets of blocks, and by those of variables
-  abbrev set : Formula → Valuation → Set
+  abbrev set : Formula → Valuation → States
   set = shallow n ts block
 
-  abbrev mean : Formula → Valuation → Set
+  abbrev mean : Formula → Valuation → States
   mean = meaning n ts
 
   -- each variable has the set of its block
@@ -73,7 +78,7 @@ module _ (n : ℕ) (states : 0 < n) (ts : List Transition) (low : T (all (λ t. 
       → set x (solved n cs (blocksFrom n x i ++ bs) k ρ .0) ≡ mean x (ofBlocks ρ)
 
   -- two operands: the second one's blocks follow the first one's, whose sets it does not see
-  two : (x y : Formula) → Bridged x → Bridged y → (f : Set → Set → Set) (i k : ℕ) (bs : List Block)
+  two : (x y : Formula) → Bridged x → Bridged y → (f : States → States → States) (i k : ℕ) (bs : List Block)
       → Stands a (i + 1) x × Stands a (i + 1 + nodes x) y
       → Numbered block k (binderNodes x ++ binderNodes y) → ((j : ℕ) → T (free j x || free j y) → block j < k)
       → Inside n (length cs) ((blocksFrom n x (i + 1) ++ blocksFrom n y (i + 1 + nodes x)) ++ bs) → (ρ : Valuation) → Sized n ρ
@@ -154,7 +159,7 @@ module _ (n : ℕ) (states : 0 < n) (ts : List Transition) (low : T (all (λ t. 
         inside = inside-rest n (length cs) b ds (w .inside);
       }
 
-      turned : (u : Set) → length u ≡ n → turn n cs b ds k ρ u .0 ≡ mean x (bind (ofBlocks ρ) v u)
+      turned : (u : States) → length u ≡ n → turn n cs b ds k ρ u .0 ≡ mean x (bind (ofBlocks ρ) v u)
       turned u l = node-set n states ts low block a τ x (fix-operand a (w .stands)) (ap length same ∙ meaning-sized n ts x inner sized) ∙ same ∙ seen
         where
           τ : Valuation
@@ -188,10 +193,10 @@ module _ (n : ℕ) (states : 0 < n) (ts : List Transition) (low : T (all (λ t. 
       two x y (bridge x) (bridge y) (λ u v. setOf n (λ s. has u s || has v s)) i k bs
       (or-operands a (w .stands)) (w .numbered) (w .bound) (w .inside) ρ o _ refl
   bridge (Box α x) i k bs w ρ o =
-      ap (λ (u : Set). setOf n (boxIn n ts α u)) (bridge x (i + 1) k bs
+      ap (λ (u : States). setOf n (boxIn n ts α u)) (bridge x (i + 1) k bs
       (record { stands = box-operand a (w .stands); numbered = w .numbered; bound = w .bound; inside = w .inside }) ρ o)
   bridge (Diamond α x) i k bs w ρ o =
-      ap (λ (u : Set). setOf n (diamondIn n ts α u)) (bridge x (i + 1) k bs
+      ap (λ (u : States). setOf n (diamondIn n ts α u)) (bridge x (i + 1) k bs
       (record { stands = diamond-operand a (w .stands); numbered = w .numbered; bound = w .bound; inside = w .inside }) ρ o)
   bridge (Variable j) i k bs w ρ o = solved-below n cs bs k ρ (block j) (w .bound j (eqb-refl j))
   bridge (Fix sign j x) i k bs w ρ o = one sign j x (bridge x) i k bs w ρ o

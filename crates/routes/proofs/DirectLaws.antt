@@ -7,44 +7,50 @@ use native.Mathlib.Nat.{add-zero, add-suc, pow-le-pow-right, mul-le-mul-left}
 use native.Mathlib.Numerals.{one-add}
 use native.Mathlib.Omega.{arith}
 use lib.ListN.{length, length-replicate}
-use Rattle.sets.specs.Set.{Set, Subset, start}
-use Rattle.sets.specs.Loop.{Worked}
-use Rattle.sets.proofs.FixedPoint.{step-set, run-one, run-map, cost, stops}
-use Rattle.solver.specs.Cells.{Valuation, bind}
+use Rattle.sets.specs.States.{States, Subset, start}
+use Rattle.sets.specs.Loop.{itself, Worked}
+use Rattle.sets.proofs.FixedPoint.{step-set, loop-one, loop-map, cost, stops}
+use Rattle.sets.specs.Valuation.{Valuation, bind, Sized}
 use Rattle.solver.specs.Rounds.{powers}
-use Rattle.solver.proofs.Solving.{Sized, bind-sized, bind-mono, powers-suc}
+use Rattle.sets.proofs.Valuation.{bind-sized, bind-mono}
+use Rattle.solver.proofs.Solving.{powers-suc}
 use Rattle.cases.specs.Formula.{Formula, False, True, And, Or, Box, Diamond, Variable, Fix, binders}
 use Rattle.cases.specs.declared.Transition.{Transition}
-use Rattle.cases.specs.Meaning.{setOf, boxIn, diamondIn}
-use Rattle.cases.proofs.MeaningLaws.{meaning, bodyOf, meaning-sized, meaning-mono}
+use Rattle.cases.specs.Meaning.{setOf, boxIn, diamondIn, meaning}
+use Rattle.cases.proofs.MeaningLaws.{bodyOf, meaning-sized, meaning-mono}
 use Rattle.routes.specs.Direct.{FromTwo, FromOne, meet, join, Direct, worked}
 use Rattle.routes.proofs.IterateLaws.{iterate-same}
 
 -- ---- outcomes from those of the operands
 
 -- two outcomes give one
-both : {P Q : Set → ℕ → Type 0} (op : Set → Set → Set) (x y : Worked) → P (x .0) (x .1) → Q (y .0) (y .1)
+both : {P Q : States → ℕ → Type 0} (op : States → States → States) (x y : Worked) → P (x .0) (x .1) → Q (y .0) (y .1)
     → FromTwo P Q op (op (x .0) (y .0)) (x .1 + y .1)
 both op x y d e = record { left = x .0; right = y .0; before = x .1; after = y .1; first = d; second = e; set = refl; sum = refl }
 
 -- a rule with one outcome at most
-abbrev One : (Set → ℕ → Type 0) → Type 0
-One P = (v w : Set) (r q : ℕ) → P v r → P w q → (v ≡ w) × (r ≡ q)
+abbrev One : (States → ℕ → Type 0) → Type 0
+One P = (v w : States) (r q : ℕ) → P v r → P w q → (v ≡ w) × (r ≡ q)
 
 -- a given set with no round is one outcome, and operands with one outcome each give one
-one-equal : (x : Set) → One (λ v r. (v ≡ x) × (r ≡ 0))
+one-equal : (x : States) → One (λ v r. (v ≡ x) × (r ≡ 0))
 one-equal x v w r q d e = (d .0 ∙ sym (e .0), d .1 ∙ sym (e .1))
 
-one-from : {P : Set → ℕ → Type 0} (op : Set → Set) → One P → One (FromOne P op)
+one-from : {P : States → ℕ → Type 0} (op : States → States) → One P → One (FromOne P op)
 one-from op h v w r q d e =
     let x = h (d .operand) (e .operand) r q (d .first) (e .first) in
     (d .set ∙ ap op (x .0) ∙ sym (e .set), x .1)
 
-one-join : {P Q : Set → ℕ → Type 0} (op : Set → Set → Set) → One P → One Q → One (FromTwo P Q op)
+one-join : {P Q : States → ℕ → Type 0} (op : States → States → States) → One P → One Q → One (FromTwo P Q op)
 one-join op h k v w r q d e =
     let x = h (d .left) (e .left) (d .before) (e .before) (d .first) (e .first) in
     let y = k (d .right) (e .right) (d .after) (e .after) (d .second) (e .second) in
     (d .set ∙ ap₂ op (x .0) (y .0) ∙ sym (e .set), omega (arith, d .sum, e .sum, x .1, y .1))
+
+-- a turn that holds the set itself, where working out has one outcome
+one-itself : {F : States → States → ℕ → Type 0} → ((u : States) → One (F u)) → (v a b x y : States) (r q : ℕ)
+    → itself F v a x r → itself F v b y q → (a ≡ b) × (x ≡ y) × (r ≡ q)
+one-itself h v a b x y r q d e = let m = h v x y r q (d .1) (e .1) in (d .0 ∙ sym (e .0), m .0, m .1)
 
 -- ---- the bound's sums of powers
 
@@ -64,7 +70,7 @@ powers-add n d (suc e) =
 
 module _ (n : ℕ) (ts : List Transition) where
   -- The rule has one outcome.
-  pub direct-one : (a : Formula) (ρ : Valuation) (v w : Set) (r q : ℕ) → Direct n ts a ρ v r → Direct n ts a ρ w q → (v ≡ w) × (r ≡ q)
+  pub direct-one : (a : Formula) (ρ : Valuation) (v w : States) (r q : ℕ) → Direct n ts a ρ v r → Direct n ts a ρ w q → (v ≡ w) × (r ≡ q)
   unfolding Direct
   direct-one False ρ = one-equal _
   direct-one True ρ = one-equal _
@@ -73,7 +79,7 @@ module _ (n : ℕ) (ts : List Transition) where
   direct-one (Box α a) ρ = one-from (λ x. setOf n (boxIn n ts α x)) (direct-one a ρ)
   direct-one (Diamond α a) ρ = one-from (λ x. setOf n (diamondIn n ts α x)) (direct-one a ρ)
   direct-one (Variable i) ρ = one-equal (ρ i)
-  direct-one (Fix sign i a) ρ = λ v w r q. run-one (λ u. direct-one a (bind ρ i u))
+  direct-one (Fix sign i a) ρ = λ v w r q. loop-one (one-itself (λ u. direct-one a (bind ρ i u)))
 
   -- ---- what is worked out
 
@@ -84,8 +90,8 @@ module _ (n : ℕ) (ts : List Transition) where
   worked-meaning True ρ = refl
   worked-meaning (And a b) ρ = ap₂ (meet n) (worked-meaning a ρ) (worked-meaning b ρ)
   worked-meaning (Or a b) ρ = ap₂ (join n) (worked-meaning a ρ) (worked-meaning b ρ)
-  worked-meaning (Box α a) ρ = ap (λ (x : Set). setOf n (boxIn n ts α x)) (worked-meaning a ρ)
-  worked-meaning (Diamond α a) ρ = ap (λ (x : Set). setOf n (diamondIn n ts α x)) (worked-meaning a ρ)
+  worked-meaning (Box α a) ρ = ap (λ (x : States). setOf n (boxIn n ts α x)) (worked-meaning a ρ)
+  worked-meaning (Diamond α a) ρ = ap (λ (x : States). setOf n (diamondIn n ts α x)) (worked-meaning a ρ)
   worked-meaning (Variable i) ρ = refl
   worked-meaning (Fix sign i a) ρ =
       iterate-same (λ v. Unit {0}) (λ v. worked n ts a (bind ρ i v)) (bodyOf n ts i a ρ) (λ v u. u) (λ v u. worked-meaning a (bind ρ i v)) (suc n) (start n sign) tt
@@ -117,16 +123,17 @@ module _ (n : ℕ) (ts : List Transition) where
 
   -- a binder's loop, where the body's outcome is known for every set of n states
   fix-exists : (sign : Bool) (i : ℕ) (a : Formula) (ρ : Valuation) → Sized n ρ
-      → ((u : Set) → length u ≡ n → Direct n ts a (bind ρ i u) (worked n ts a (bind ρ i u) .0) (worked n ts a (bind ρ i u) .1))
+      → ((u : States) → length u ≡ n → Direct n ts a (bind ρ i u) (worked n ts a (bind ρ i u) .0) (worked n ts a (bind ρ i u) .1))
       → Direct n ts (Fix sign i a) ρ (worked n ts (Fix sign i a) ρ .0) (worked n ts (Fix sign i a) ρ .1)
   unfolding Direct worked
   fix-exists sign i a ρ z body =
-      run-map n (λ v w r o e. ap length (sym (step-set e)) ∙ sized v o)
-      (λ v w r o e. subst (λ (x : Worked). Direct n ts a (bind ρ i v) (x .0) (x .1)) e (body v o)) (length-replicate n sign)
+      loop-map n (λ v u w r o e. ap length (sym (step-set (e .1))) ∙ sized v o)
+      (λ v u w r o e. (e .0, subst (λ (x : Worked). Direct n ts a (bind ρ i v) (x .0) (x .1)) (e .1) (body v o))) (length-replicate n sign)
       (stops n sign (λ v. worked n ts a (bind ρ i v)) sized
-      (λ v w o l h. worked-mono a (bind ρ i v) (bind ρ i w) (bind-sized ρ i v z o) (bind-sized ρ i w z l) (bind-mono ρ ρ i v w (λ k s t. t) h)))
+      (λ v w o l h. worked-mono a (bind ρ i v) (bind ρ i w) (bind-sized ρ i v z o) (bind-sized ρ i w z l) (bind-mono ρ ρ i v w (λ k s t. t) h))
+      (λ v. v))
     where
-      sized : (v : Set) → length v ≡ n → length (worked n ts a (bind ρ i v) .0) ≡ n
+      sized : (v : States) → length v ≡ n → length (worked n ts a (bind ρ i v) .0) ≡ n
       sized v o = worked-sized a (bind ρ i v) (bind-sized ρ i v z o)
 
   -- The rule gives what is worked out, in sets and in rounds.
@@ -142,5 +149,5 @@ module _ (n : ℕ) (ts : List Transition) where
   direct-exists (Fix sign i a) ρ z = fix-exists sign i a ρ z (λ u o. direct-exists a (bind ρ i u) (bind-sized ρ i u z o))
 
   -- So each outcome has n states.
-  pub direct-sized : (a : Formula) (ρ : Valuation) → Sized n ρ → (v : Set) (r : ℕ) → Direct n ts a ρ v r → length v ≡ n
+  pub direct-sized : (a : Formula) (ρ : Valuation) → Sized n ρ → (v : States) (r : ℕ) → Direct n ts a ρ v r → length v ≡ n
   direct-sized a ρ z v r d = ap length (direct-one a ρ v _ r _ d (direct-exists a ρ z) .0) ∙ worked-sized a ρ z

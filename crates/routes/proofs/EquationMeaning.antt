@@ -7,20 +7,20 @@ use native.Mathlib.Nat.{zero-add}
 use native.Mathlib.Omega.{arith}
 use lib.Dec.{T, ltb}
 use lib.ListN.{length-replicate}
-use Rattle.sets.specs.Lists.{all}
-use Rattle.solver.specs.Cells.{Valuation, none}
-use Rattle.solver.specs.File.{Inside}
+use Rattle.sets.specs.Lists.{every}
+use Rattle.sets.specs.Valuation.{Valuation, none, Sized}
+use Rattle.solver.specs.internal.Forms.{Inside}
 use Rattle.solver.specs.Rounds.{Reached, solved}
 use Rattle.solver.specs.Outcome.{run}
-use Rattle.solver.proofs.Solving.{Sized}
-use Rattle.cases.specs.Formula.{Formula, nodes}
+use Rattle.cases.specs.Formula.{Formula, nodes, free}
 use Rattle.cases.specs.declared.Transition.{Transition}
 use Rattle.cases.specs.Case.{Case, caseOf, distinct}
 use Rattle.cases.specs.Conditions.{Accepted}
+use Rattle.cases.specs.Meaning.{meaning}
 use Rattle.cases.proofs.TableTrees.{formula-table}
 use Rattle.cases.proofs.Accepting.{passed}
 use Rattle.cases.proofs.ClosedMeaning.{none-free}
-use Rattle.cases.proofs.MeaningLaws.{meaning, free, within-distinct, distinct-within, means-members}
+use Rattle.cases.proofs.MeaningLaws.{within-distinct, distinct-within, means-members}
 use Rattle.translate.specs.Whole.{whole, binderNodes, blockIn}
 use Rattle.translate.specs.Cells.{cellsFrom, blocksFrom}
 use Rattle.translate.specs.Bytes.{systemOf}
@@ -35,7 +35,7 @@ use Rattle.routes.proofs.Bridge.{Placed, bridge}
 use Rattle.routes.proofs.WholeMeaning.{none-free-whole, root-set, whole-meaning}
 
 -- A formula without free variables, whose binders' numbers increase, is placed in itself.
-module _ (n : ℕ) (states : 0 < n) (ts : List Transition) (low : T (all (λ t. ltb (t .target) n) ts)) (a : Formula) where
+module _ (n : ℕ) (states : 0 < n) (ts : List Transition) (low : T (every (λ t. ltb (t .target) n) ts)) (a : Formula) where
   whole-placed : T (increasing (binderNodes a)) → ((i : ℕ) → T (free i a) → ⊥) → Placed n states ts low (blockIn a) a a 0 0 []
   unfolding blockIn Inside
   whole-placed up closed = record {

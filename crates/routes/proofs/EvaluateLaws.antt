@@ -7,11 +7,11 @@ use native.Mathlib.Omega.{arith}
 use lib.Dec.{eqb}
 use lib.ListN.{length, getD}
 use Rattle.sets.specs.Size.{wordCount}
-use Rattle.sets.specs.Set.{Set, has, start}
-use Rattle.sets.specs.Lists.{range}
+use Rattle.sets.specs.States.{States, has, start}
+use Rattle.sets.specs.Lists.{numbersFrom}
 use Rattle.sets.specs.Words.{words}
 use Rattle.sets.proofs.Lists.{false-true}
-use Rattle.solver.specs.Cells.{Valuation}
+use Rattle.sets.specs.Valuation.{Valuation}
 use Rattle.cases.specs.Action.{Action}
 use Rattle.cases.specs.declared.Header.{Header}
 use Rattle.cases.specs.declared.Node.{Node}
@@ -19,12 +19,12 @@ use Rattle.cases.specs.declared.Transition.{Transition}
 use Rattle.cases.specs.File.{nodeIn}
 use Rattle.cases.specs.Prefix.{arityIn, formulaArities, endOf, formulaAt}
 use Rattle.cases.specs.Conditions.{nodeAt}
-use Rattle.cases.specs.Masks.{maskOf}
+use Rattle.cases.specs.internal.Masks.{maskOf}
 use Rattle.cases.specs.Meaning.{setOf}
-use Rattle.cases.specs.Checks.{transitionsIn, nodesIn}
+use Rattle.cases.specs.internal.Checks.{transitionsIn, nodesIn}
 use Rattle.cases.proofs.Spans.{end-leaf, end-one, end-two, second-node, second-inside}
 use Rattle.routes.specs.Direct.{FromTwo, FromOne, Direct}
-use Rattle.routes.specs.Evaluating.{value, modalIn, Asks, KindAt, Rule, Evaluated}
+use Rattle.routes.specs.internal.Evaluating.{value, modalIn, Asks, KindAt, Rule, Evaluated}
 use Rattle.routes.specs.declared.Value.{Value}
 use Rattle.routes.proofs.DirectLaws.{direct-sized}
 use Rattle.routes.proofs.NodeLaws.{by-kind, whole, inside, in-arities, node-read, kind-at, asks, operand, arity, ruled, ruled-by}
@@ -32,7 +32,7 @@ use Rattle.routes.proofs.NodeLaws.{Binder, binder-of, block-of}
 
 -- the answer where the rounds are spent
 pub all-spent : {h : Header} {records formula labels : List ℕ} {rows : List (List ℕ)} {at used limit : ℕ} {o : Value} → o .spent ≡ true
-    → ((action : ℕ → Action) (ρ : Valuation) (v : Set) (r : ℕ) → Rule h records formula labels rows at used limit action ρ v r → limit < used + r)
+    → ((action : ℕ → Action) (ρ : Valuation) (v : States) (r : ℕ) → Rule h records formula labels rows at used limit action ρ v r → limit < used + r)
     → Evaluated h records formula labels rows at used limit o
 all-spent {o = o} e f = record { over = λ s. f; low = λ s. never s; high = λ s. never s; ends = λ s. never s; right = λ s. never s }
   where
@@ -97,7 +97,7 @@ module _ {h : Header} {records formula labels blocks : List ℕ} {at used limit 
     two-operands = arity q k ∙ by-kind (λ m. getD formulaArities m 0 ≡ 2) k refl refl refl
 
     -- its set is that of both operands
-    pair-rule : (action : ℕ → Action) (ρ : Valuation) (v : Set) (r : ℕ) → Direct n ts (formulaAt action t at) ρ v r
+    pair-rule : (action : ℕ → Action) (ρ : Valuation) (v : States) (r : ℕ) → Direct n ts (formulaAt action t at) ρ v r
         → FromTwo (Direct n ts (formulaAt action t (at + 1)) ρ) (Direct n ts (formulaAt action t (endOf ks (at + 1))) ρ)
         (λ x y. setOf n (λ s. cond (eqb kind 3) (has x s || has y s) (has x s && has y s))) v r
     unfolding Direct
@@ -128,7 +128,7 @@ module _ {h : Header} {records formula labels blocks : List ℕ} {at used limit 
         pair-after = omega (arith, first .ends e, second-inside 1 ks (whole q) at (in-arities q) two-operands .0)
 
         -- and is the formula's right operand
-        second-rule : (action : ℕ → Action) (ρ : Valuation) (v : Set) (r : ℕ) → Direct n ts (formulaAt action t (endOf ks (at + 1))) ρ v r
+        second-rule : (action : ℕ → Action) (ρ : Valuation) (v : States) (r : ℕ) → Direct n ts (formulaAt action t (endOf ks (at + 1))) ρ v r
             → Direct n ts (formulaAt action t (one .next)) ρ v r
         second-rule action ρ v r d = rw (first .ends e) d
 
@@ -146,8 +146,8 @@ module _ {h : Header} {records formula labels blocks : List ℕ} {at used limit 
 
           -- or both sets are there, and their words are put together
           pub pair-done : two .spent ≡ false → {set : List ℕ}
-              → ((n : ℕ) (v w : Set) → length v ≡ n → length w ≡ n → one .set ≡ words wordCount v → two .set ≡ words wordCount w
-              → set ≡ words wordCount (map (λ s. cond (eqb kind 3) (has v s || has w s) (has v s && has w s)) (range 0 n)))
+              → ((n : ℕ) (v w : States) → length v ≡ n → length w ≡ n → one .set ≡ words wordCount v → two .set ≡ words wordCount w
+              → set ≡ words wordCount (map (λ s. cond (eqb kind 3) (has v s || has w s) (has v s && has w s)) (numbersFrom 0 n)))
               → Evaluated h records formula labels rows at used limit (value set (two .next) (two .rounds) false)
           pair-done s {set} both = record {
             over = λ o. absurd (false-true o);
@@ -172,7 +172,7 @@ module _ {h : Header} {records formula labels blocks : List ℕ} {at used limit 
     one-operand = arity q k ∙ by-kind (λ m. getD formulaArities m 0 ≡ 1) k refl refl refl
 
     -- its set is that of its operand
-    modal-rule : (action : ℕ → Action) (ρ : Valuation) (v : Set) (r : ℕ) → Direct n ts (formulaAt action t at) ρ v r
+    modal-rule : (action : ℕ → Action) (ρ : Valuation) (v : States) (r : ℕ) → Direct n ts (formulaAt action t at) ρ v r
         → FromOne (Direct n ts (formulaAt action t (at + 1)) ρ) (λ x. setOf n (modalIn (eqb kind 5) n ts (action (nodeAt t at .arg)) x)) v r
     unfolding Direct
     modal-rule action ρ v r =
@@ -193,7 +193,7 @@ module _ {h : Header} {records formula labels blocks : List ℕ} {at used limit 
 
       -- or its set is there, and the states are found
       pub modal-done : one .spent ≡ false → {set : List ℕ}
-          → ((α : Action) (v : Set) → getD labels at 0 ≡ maskOf α → length v ≡ n → one .set ≡ words wordCount v
+          → ((α : Action) (v : States) → getD labels at 0 ≡ maskOf α → length v ≡ n → one .set ≡ words wordCount v
           → set ≡ words wordCount (setOf n (modalIn (eqb kind 5) n ts α v)))
           → Evaluated h records formula labels rows at used limit (value set (one .next) (one .rounds) false)
       modal-done e {set} found = record {

@@ -2,12 +2,12 @@
 use mathlib.Core.Path.{_≡_, refl}
 use mathlib.Core.Bool.{Bool, true, false}
 use Prim.Native.Nat.{ℕ, zero, suc}
-use Rattle.sets.specs.Set.{Set, same}
+use Rattle.sets.specs.States.{States, same}
 use Rattle.sets.specs.Loop.{Worked, iterate}
 
 -- Loops whose turns give the same sets, whatever the rounds, stop at the same set. It is enough that they do on the sets that a loop comes by.
-pub iterate-same : (P : Set → Type 0) (f g : Set → Worked) → ((v : Set) → P v → P (g v .0)) → ((v : Set) → P v → f v .0 ≡ g v .0)
-    → (m : ℕ) (v : Set) → P v → iterate m f v .0 ≡ iterate m g v .0
+pub iterate-same : (P : States → Type 0) (f g : States → Worked) → ((v : States) → P v → P (g v .0)) → ((v : States) → P v → f v .0 ≡ g v .0)
+    → (m : ℕ) (v : States) → P v → iterate m f v .0 ≡ iterate m g v .0
 unfolding iterate
 iterate-same P f g keeps h zero v p = refl
 iterate-same P f g keeps h (suc m) v p = go (same (g v .0) v) refl (iterate-same P f g keeps h m (g v .0) (keeps v p))

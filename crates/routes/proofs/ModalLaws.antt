@@ -10,35 +10,35 @@ use lib.Dec.{T, eqb, ltb, ltb→lt}
 use lib.ListN.{length, getD, set, length-set}
 use lib.Seq.{ext-getD, getD-set-same, getD-set-other}
 use Rattle.sets.specs.Size.{wordCount, stateLimit}
-use Rattle.sets.specs.Lists.{range, any}
-use Rattle.sets.specs.Set.{Set, has, start}
+use Rattle.sets.specs.Lists.{numbersFrom, forSome}
+use Rattle.sets.specs.States.{States, has, start}
 use Rattle.sets.specs.Words.{words, marked}
 use Rattle.sets.proofs.Lists.{length-table, table-at, and-left, and-right, and-false, all-at}
 use Rattle.sets.proofs.Words.{marked-words}
 use Rattle.cases.specs.Limits.{labelLimit}
 use Rattle.cases.specs.Action.{Action, accepts}
-use Rattle.cases.specs.Masks.{maskOf}
+use Rattle.cases.specs.internal.Masks.{maskOf}
 use Rattle.cases.specs.declared.Transition.{Transition}
 use Rattle.cases.specs.File.{transitionIn}
-use Rattle.cases.specs.Checks.{transitionsIn}
+use Rattle.cases.specs.internal.Checks.{transitionsIn}
 use Rattle.cases.specs.Conditions.{transitionOk}
 use Rattle.cases.specs.Meaning.{setOf, from, boxIn, diamondIn}
 use Rattle.cases.proofs.TableTrees.{held}
 use Rattle.cases.proofs.MeaningLaws.{all-not}
 use Rattle.translate.proofs.ShapeLaws.{mask-bit, mark-low, map-range-more}
-use Rattle.routes.specs.Evaluating.{Records}
+use Rattle.routes.specs.internal.Evaluating.{Records}
 
 -- ---- one transition
 
 -- the transition has an accepted label, and its target is in the set exactly if `inside`
-abbrev pub leadsTo : Action → Set → Bool → Transition → Bool
+abbrev pub leadsTo : Action → States → Bool → Transition → Bool
 leadsTo α v inside t = accepts eqb α (t .label) && Bool·beq (has v (t .target)) inside
 
 -- bit x of the mask, as the code reads it, says whether label x is accepted
 bit-accepts : (labels : ℕ) (α : Action) (x : ℕ) → labels ≡ maskOf α → x < labelLimit → eqb (labels / 2 ^ x % 2) 1 ≡ accepts eqb α x
 bit-accepts labels α x e h = sym (mark-low labels x h) ∙ ap (λ (k : ℕ). marked (k ∷ []) x) e ∙ mask-bit α x h
 
-module _ (t : Transition) (labels : ℕ) (inside : Bool) (α : Action) (v : Set) (low : t .label < labelLimit) (e : labels ≡ maskOf α) where
+module _ (t : Transition) (labels : ℕ) (inside : Bool) (α : Action) (v : States) (low : t .label < labelLimit) (e : labels ≡ maskOf α) where
   -- its label is not one of the mask
   pub leads-not : ¬ (labels / 2 ^ (t .label) % 2 ≡ 1) → false ≡ leadsTo α v inside t
   leads-not n = rw (← bit-accepts labels α (t .label) e low, ne-eqb _ _ n)
@@ -65,20 +65,20 @@ in-range {part} {m} {n} {l} r i h t e =
 -- ---- the states with a transition that leads there
 
 -- the transition does, and from s
-abbrev pub leadsFrom : Action → Set → Bool → ℕ → Transition → Bool
+abbrev pub leadsFrom : Action → States → Bool → ℕ → Transition → Bool
 leadsFrom α v inside s t = from s α t && Bool·beq (has v (t .target)) inside
 
 -- those of n states
-abbrev pub sourcesOf : ℕ → Action → Set → Bool → List Transition → Set
-sourcesOf n α v inside ts = setOf n (λ s. any (leadsFrom α v inside s) ts)
+abbrev pub sourcesOf : ℕ → Action → States → Bool → List Transition → States
+sourcesOf n α v inside ts = setOf n (λ s. forSome (leadsFrom α v inside s) ts)
 
 -- any of one element more
-any-more : {A : Type 0} (p : A → Bool) (xs : List A) (x : A) → any p (xs ++ (x ∷ [])) ≡ (p x || any p xs)
-unfolding any
+any-more : {A : Type 0} (p : A → Bool) (xs : List A) (x : A) → forSome p (xs ++ (x ∷ [])) ≡ (p x || forSome p xs)
+unfolding forSome
 any-more p [] x = refl
 any-more p (y ∷ xs) x = ap (λ b. p y || b) (any-more p xs x) ∙ swap (p y) (p x)
   where
-    swap : (a b : Bool) → (a || (b || any p xs)) ≡ (b || (a || any p xs))
+    swap : (a b : Bool) → (a || (b || forSome p xs)) ≡ (b || (a || forSome p xs))
     swap true true = refl
     swap true false = refl
     swap false b = refl
@@ -99,19 +99,19 @@ set-if n f a h true =
     at s k (no d) = rw (ne-eqb a s (λ e. d (sym e)), getD-set-other (setOf n f) a s true false d, table-at f n s false k)
 
 -- the set of a property that no state has is empty
-none-has : (i k : ℕ) → start k false ≡ map (λ s. false) (range i k)
-unfolding range
+none-has : (i k : ℕ) → start k false ≡ map (λ s. false) (numbersFrom i k)
+unfolding numbersFrom
 none-has i zero = refl
-none-has i (suc k) = ap (λ (w : Set). false ∷ w) (none-has (suc i) k)
+none-has i (suc k) = ap (λ (w : States). false ∷ w) (none-has (suc i) k)
 
-module _ (n : ℕ) (α : Action) (v : Set) where
+module _ (n : ℕ) (α : Action) (v : States) where
   -- they are of n states
   pub sources-length : (inside : Bool) (ts : List Transition) → length (sourcesOf n α v inside ts) ≡ n
-  sources-length inside ts = length-table (λ s. any (leadsFrom α v inside s) ts) n
+  sources-length inside ts = length-table (λ s. forSome (leadsFrom α v inside s) ts) n
 
   -- no transition
   pub sources-none : (inside : Bool) (part : List ℕ) → start n false ≡ sourcesOf n α v inside (transitionsIn part 0)
-  unfolding any transitionsIn range
+  unfolding forSome transitionsIn numbersFrom
   sources-none inside part = none-has 0 n
 
   -- one transition more
@@ -132,13 +132,13 @@ module _ (n : ℕ) (α : Action) (v : Set) where
       ts = transitionsIn part i
 
       before : ℕ → Bool
-      before s = any (leadsFrom α v inside s) ts
+      before s = forSome (leadsFrom α v inside s) ts
 
   -- a diamond: the states with one into the set
   pub diamond-sources : (ts : List Transition) → setOf n (diamondIn n ts α v) ≡ sourcesOf n α v true ts
   diamond-sources ts =
       ap (λ (f : ℕ → Bool). setOf n f) (fun-ext λ s.
-      ap (λ (p : Transition → Bool). any p ts) (fun-ext λ t. ap (λ b. from s α t && b) (is (has v (t .target)))))
+      ap (λ (p : Transition → Bool). forSome p ts) (fun-ext λ t. ap (λ b. from s α t && b) (is (has v (t .target)))))
     where
       is : (b : Bool) → b ≡ Bool·beq b true
       is true = refl
@@ -149,8 +149,8 @@ module _ (n : ℕ) (α : Action) (v : Set) where
   box-sources ts =
       ap (λ (f : ℕ → Bool). setOf n f) (fun-ext λ s.
       all-not (λ t. not (from s α t) || has v (t .target)) ts
-      ∙ ap (λ (p : Transition → Bool). not (any p ts)) (fun-ext λ t. out (from s α t) (has v (t .target))))
-      ∙ sym (map-map not (λ s. any (leadsFrom α v false s) ts) (range 0 n))
+      ∙ ap (λ (p : Transition → Bool). not (forSome p ts)) (fun-ext λ t. out (from s α t) (has v (t .target))))
+      ∙ sym (map-map not (λ s. forSome (leadsFrom α v false s) ts) (numbersFrom 0 n))
     where
       out : (a b : Bool) → not (not a || b) ≡ (a && Bool·beq b false)
       out true true = refl

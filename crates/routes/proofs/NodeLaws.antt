@@ -8,9 +8,9 @@ use native.Mathlib.Decide.{ℕ-discrete}
 use borrow.Author.Tests.{ltb-true, ltb-false}
 use lib.Dec.{ltb}
 use lib.ListN.{length, getD, take, length-map}
-use Rattle.sets.specs.Set.{Set}
+use Rattle.sets.specs.States.{States}
 use Rattle.solver.specs.Limits.{blockLimit}
-use Rattle.solver.specs.Cells.{Valuation}
+use Rattle.sets.specs.Valuation.{Valuation}
 use Rattle.cases.specs.Action.{Action}
 use Rattle.cases.specs.Formula.{Formula}
 use Rattle.cases.specs.declared.Header.{Header}
@@ -18,15 +18,16 @@ use Rattle.cases.specs.declared.Node.{Node}
 use Rattle.cases.specs.File.{nodeIn}
 use Rattle.cases.specs.Prefix.{arityIn, formulaArities, wholeFormulas, endOf, formulaAt}
 use Rattle.cases.specs.Conditions.{nodeAt, isBinder, binderCount}
-use Rattle.cases.specs.Checks.{transitionsIn, nodesIn}
+use Rattle.cases.specs.internal.Checks.{transitionsIn, nodesIn}
+use Rattle.cases.specs.internal.Tables.{made, formulaOperator, FormulaTable}
 use Rattle.cases.proofs.PrefixRules.{node-in}
 use Rattle.cases.proofs.Spans.{exactly-whole, first-node}
-use Rattle.cases.proofs.Trees.{made, arity-at}
-use Rattle.cases.proofs.TableTrees.{formulaOperator, FormulaTable, formula-table, formula-at}
+use Rattle.cases.proofs.Trees.{arity-at}
+use Rattle.cases.proofs.TableTrees.{formula-table, formula-at}
 use Rattle.cases.proofs.Scopes.{variable-bound}
 use Rattle.cases.proofs.FormulaRules.{length-nodes}
 use Rattle.routes.specs.Direct.{Direct}
-use Rattle.routes.specs.Evaluating.{Asks, KindAt}
+use Rattle.routes.specs.internal.Evaluating.{Asks, KindAt}
 use Rattle.routes.proofs.TableLaws.{more-binders, binders-before}
 
 -- what holds of two kinds holds of a kind that is one of them
@@ -62,7 +63,7 @@ module _ {h : Header} {records formula labels blocks : List ℕ} {at used limit 
   abbrev ks : List ℕ
   ks = map (arityIn formulaArities) t
 
-  abbrev Works : Formula → Valuation → Set → ℕ → Type 0
+  abbrev Works : Formula → Valuation → States → ℕ → Type 0
   Works = Direct (h .states) (transitionsIn records (h .transitions))
 
   -- what node `at` makes of its operands if its kind is k
@@ -131,10 +132,10 @@ module _ {h : Header} {records formula labels blocks : List ℕ} {at used limit 
     arity = arity-at formulaArities t at inside ∙ ap (λ (m : ℕ). getD formulaArities m 0) (sym (k .are))
 
     -- the rule of what it makes,
-    pub ruled : (action : ℕ → Action) (ρ : Valuation) (v : Set) (r : ℕ) → Works (formulaAt action t at) ρ v r → Works (made-at action kind) ρ v r
+    pub ruled : (action : ℕ → Action) (ρ : Valuation) (v : States) (r : ℕ) → Works (formulaAt action t at) ρ v r → Works (made-at action kind) ρ v r
     ruled action ρ v r = subst (λ (a : Formula). Works a ρ v r) (formula-at action t formed at kind inside (sym (k .are)))
 
     -- which of two it is
-    pub ruled-by : (action : ℕ → Action) (ρ : Valuation) (v : Set) (r : ℕ) (P : ℕ → Type 0) → high ≡ low + 1
+    pub ruled-by : (action : ℕ → Action) (ρ : Valuation) (v : States) (r : ℕ) (P : ℕ → Type 0) → high ≡ low + 1
         → (Works (made-at action low) ρ v r → P low) → (Works (made-at action high) ρ v r → P high) → Works (formulaAt action t at) ρ v r → P kind
     ruled-by action ρ v r P e f g d = by-kind (λ m. Works (made-at action m) ρ v r → P m) k e f g (ruled action ρ v r d)

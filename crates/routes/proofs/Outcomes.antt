@@ -5,21 +5,20 @@ use mathlib.Core.List.{List}
 use Prim.Native.Nat.{ℕ, suc, _≤_}
 use native.Mathlib.Nat.{le-trans}
 use lib.ListN.{length-replicate}
-use Rattle.sets.specs.Set.{Set}
-use Rattle.solver.specs.Cells.{Valuation, none}
+use Rattle.sets.specs.States.{States}
+use Rattle.sets.specs.Valuation.{Valuation, none, Sized}
 use Rattle.solver.specs.File.{blockCount}
 use Rattle.solver.specs.Rounds.{powers}
 use Rattle.solver.specs.Outcome.{run}
 use Rattle.solver.specs.Outcome as Solver
-use Rattle.solver.proofs.Solving.{Sized}
 use Rattle.solver.proofs.Starts.{own-solves, own-rounds, own-bound}
 use Rattle.cases.specs.Case.{Case, caseOf}
 use Rattle.cases.specs.Conditions.{Accepted}
-use Rattle.cases.specs.Meaning.{Means}
+use Rattle.cases.specs.Meaning.{Means, meaning}
 use Rattle.cases.proofs.TableTrees.{formula-table}
 use Rattle.cases.proofs.Accepting.{passed}
 use Rattle.cases.proofs.ClosedMeaning as closed
-use Rattle.cases.proofs.MeaningLaws.{meaning, means-exists, means-unique}
+use Rattle.cases.proofs.MeaningLaws.{means-exists, means-unique}
 use Rattle.translate.specs.Translating.{file}
 use Rattle.translate.proofs.Promises.{well-formed, read-back}
 use Rattle.routes.specs.Route.{Route, direct, equation, OwnRounds, runOf}
@@ -42,7 +41,7 @@ module _ (b : List ℕ) where
 
   module _ (accepted : Accepted b) where
     -- of an accepted case it is one
-    pub one-meaning : (ρ σ : Valuation) → Sized (c .states) ρ → Sized (c .states) σ → (v w : Set)
+    pub one-meaning : (ρ σ : Valuation) → Sized (c .states) ρ → Sized (c .states) σ → (v w : States)
         → Means (c .states) (c .transitions) (c .formula) ρ v → Means (c .states) (c .transitions) (c .formula) σ w → v ≡ w
     unfolding caseOf
     one-meaning =
@@ -72,7 +71,7 @@ module _ (b : List ℕ) where
     pub runs-alike : (R R′ : Route) → runOf R c .0 ≡ runOf R′ c .0
     runs-alike R R′ = run-meaning R (none (c .states)) (none-sized (c .states)) ∙ sym (run-meaning R′ (none (c .states)) (none-sized (c .states)))
 
-    pub run-means : (R : Route) (ρ : Valuation) → Sized (c .states) ρ → (v : Set) → Means (c .states) (c .transitions) (c .formula) ρ v → v ≡ runOf R c .0
+    pub run-means : (R : Route) (ρ : Valuation) → Sized (c .states) ρ → (v : States) → Means (c .states) (c .transitions) (c .formula) ρ v → v ≡ runOf R c .0
     run-means R ρ s v m = means-unique (c .states) (c .transitions) (c .formula) ρ s v m ∙ sym (run-meaning R ρ s)
 
     -- Its rounds are at most m + m ^ 2 + .. + m ^ d, for m = n + 1 and the d blocks of the file.

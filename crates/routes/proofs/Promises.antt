@@ -1,145 +1,159 @@
--- The promises of both routes, as theorems about their definitions: b is the case file, any list of bytes, and numbers have no bound.
--- By their contracts, Directed and Routed of specs/Route.antt, the calls answer outcomeOf and leave marksAfter, fileAfter and workAfter.
-use mathlib.Core.Path.{_≡_, refl, sym, _∙_}
+-- The promises of both routes, of whatever keeps their contracts: Ran and EquationRan of specs/Route.antt. b is the case file, any list of
+-- bytes; l is what is lent, as it is before the call; o is the outcome of what a call answers, and marks′, file′ and work′ are what it leaves.
+-- Numbers have no bound.
+use mathlib.Core.Path.{_≡_, refl, sym, ap, _∙_}
 use mathlib.Core.Logic.{_↔_, _⊎_, inl, inr, by-cases}
-use mathlib.Core.List.{List, _++_}
+use mathlib.Core.List.{List, _++_, map, List·Memᴰ}
+use mathlib.Core.Bool.{Bool}
 use Prim.Native.Nat.{ℕ, suc, _≤_, _<_}
 use native.Mathlib.Omega.{arith}
 use native.Mathlib.Decide.{ℕ-discrete}
-use borrow.Author.Tests.{ne-eqb}
 use lib.ListN.{length, take, drop}
+use Rattle.sets.specs.Lists.{every}
 use Rattle.sets.specs.Size.{wordCount}
-use Rattle.sets.specs.Set.{Set}
-use Rattle.solver.specs.Cells.{Valuation}
-use Rattle.solver.specs.File.{blockCount}
+use Rattle.sets.specs.States.{States}
+use Rattle.sets.specs.Words.{bit, Marks}
+use Rattle.sets.specs.Valuation.{Valuation, Sized}
+use Rattle.sets.specs.Refusals.{numbersOf, NoneHolds, FirstHolds, refused, Outcome, GivesMarks, Spent}
+use Rattle.sets.proofs.Refusals.{apart, member, first-holds, first-answered, none-first, refusing}
+use Rattle.sets.proofs.Words.{take-words, shows}
+use Rattle.solver.specs.Cells.{Values}
+use Rattle.solver.specs.File.{stateCount, blockCount, cellCount, cells}
 use Rattle.solver.specs.Rounds.{powers}
-use Rattle.solver.specs.Outcome.{refused, firstOf, solveWork}
-use Rattle.solver.proofs.Promises.{Marks, shows}
-use Rattle.solver.proofs.Refusals.{refusing}
-use Rattle.solver.proofs.Solving.{Sized}
-use Rattle.cases.specs.Case.{Case, caseOf}
-use Rattle.cases.specs.Conditions.{Accepted}
-use Rattle.cases.specs.Meaning.{Means}
+use Rattle.solver.specs.Standard.{StandardSolution}
+use Rattle.solver.specs.Outcome.{Scratch}
+use Rattle.solver.proofs.Starts.{own-values}
+use Rattle.translate.proofs.Promises.{well-formed}
+use Rattle.cases.specs.Case.{caseOf}
+use Rattle.cases.specs.Conditions.{layoutConditions, modelConditions, formulaConditions, caseConditions, Accepted}
+use Rattle.cases.specs.Meaning.{MeansIn}
 use Rattle.cases.proofs.MeaningLaws.{means-sized}
-use Rattle.translate.specs.Translating.{file, refusalIn}
-use Rattle.translate.proofs.Promises.{written-when}
-use Rattle.routes.specs.Route.{Route, Lent, OwnRounds, runOf, refusalOf, routeReport, outcomeOf, marksAfter, fileAfter, workAfter, conditionsOf, Enough, GivesMarks, Spent}
-use Rattle.routes.proofs.RouteLaws.{number-is, given, reported, written, refuses, kept, spent-number, gives-number, spent-over, take-words, first-number, in-table, unwritten-when}
+use Rattle.translate.specs.Translating.{file, fileAfter}
+use Rattle.translate.proofs.Translations.{unrefused}
+use Rattle.routes.specs.Route.{Route, equation, Lent, OwnRounds, runOf, routeReport, runConditions, routeConditions, Enough, workAfter, Ran, EquationRan}
+use Rattle.routes.proofs.RouteLaws.{number-ran, reported, written, refused-with, kept, given, spent-over, spent-accepted, spent-number, gives-number}
 use Rattle.routes.proofs.Outcomes.{meaning-of, one-meaning, own-exists, own-one, runs-alike, run-means, run-bound}
 
--- v is what the case's formula means, where ρ gives sets of n states to variables. None of them is free in an accepted case.
-abbrev pub MeansIn : Case → Valuation → Set → Type 0
-MeansIn c ρ v = Sized (c .states) ρ × Means (c .states) (c .transitions) (c .formula) ρ v
-
--- ---- Demand 3, of an accepted case
+-- ---- Demand 3, of an accepted case with enough memory
 module _ (b : List ℕ) (accepted : Accepted b) where
-  abbrev c : Case
-  c = caseOf b
-
   -- The formula has a meaning, and no other.
-  pub meaning-exists : (ρ : Valuation) → Sized (c .states) ρ → (v : Set) × MeansIn c ρ v
+  pub meaning-exists : (ρ : Valuation) → Sized (caseOf b .states) ρ → (v : States) × MeansIn (caseOf b) ρ v
   meaning-exists ρ s = (_, (s, meaning-of b ρ s))
 
-  pub meaning-unique : (ρ σ : Valuation) (v w : Set) → MeansIn c ρ v → MeansIn c σ w → v ≡ w
+  pub meaning-unique : (ρ σ : Valuation) (v w : States) → MeansIn (caseOf b) ρ v → MeansIn (caseOf b) σ w → v ≡ w
   meaning-unique ρ σ v w x y = one-meaning b accepted ρ σ (x .0) (y .0) v w (x .1) (y .1)
 
   -- A route has own rounds, and one number of them.
-  pub rounds-exist : (R : Route) → (r : ℕ) × OwnRounds R c r
-  rounds-exist R = (runOf R c .1, own-exists b accepted R)
+  pub rounds-exist : (R : Route) → (r : ℕ) × OwnRounds R (caseOf b) r
+  rounds-exist R = (runOf R (caseOf b) .1, own-exists b accepted R)
 
-  pub rounds-unique : (R : Route) (r q : ℕ) → OwnRounds R c r → OwnRounds R c q → r ≡ q
+  pub rounds-unique : (R : Route) (r q : ℕ) → OwnRounds R (caseOf b) r → OwnRounds R (caseOf b) q → r ≡ q
   rounds-unique R r q o p = own-one b accepted R r o ∙ sym (own-one b accepted R q p)
 
-  module _ (R : Route) (l : Lent) (enough : Enough R b l) (r : ℕ) (own : OwnRounds R c r) (limit : ℕ) where
-    -- (a) With enough memory a route is spent exactly if its own rounds exceed the limit.
-    pub spent-iff : Spent R b l limit ↔ limit < r
-    spent-iff = rw (own-one b accepted R r own) (spent-number R b l limit accepted enough)
+  module _ {R : Route} {l : Lent} {limit : ℕ} {o : Outcome} {marks′ : List ℕ} (ran : Ran R b l limit o marks′)
+      (enough : Enough R (caseOf b) l) (r : ℕ) (own : OwnRounds R (caseOf b) r) where
+    -- (a) A route is spent exactly if its own rounds exceed the limit.
+    pub spent-iff : Spent o ↔ limit < r
+    spent-iff = rw (own-one b accepted R r own, number-ran (ran .by)) (spent-number R b l limit accepted enough)
 
-    -- Otherwise it gives marks,
-    pub gives-iff : GivesMarks R b l limit ↔ r ≤ limit
-    gives-iff = rw (own-one b accepted R r own) (gives-number R b l limit accepted enough)
+    -- (b) Otherwise it gives marks, and reports exactly those rounds, with verdict and count of the formula's meaning.
+    pub gives-iff : GivesMarks o ↔ r ≤ limit
+    gives-iff = rw (own-one b accepted R r own, number-ran (ran .by)) (gives-number R b l limit accepted enough)
 
-    -- (b) and reports exactly those rounds, with verdict and count of the formula's meaning.
-    pub reports : r ≤ limit → (ρ : Valuation) (v : Set) → MeansIn c ρ v → outcomeOf R b l limit ≡ routeReport c v r
-    reports h ρ v m =
-        rw (run-means b accepted R ρ (m .0) v (m .1), own-one b accepted R r own)
-        (reported R b l limit (sym (number-is R b l limit) ∙ gives-iff .1 h))
-
-  -- (f) A limit of m + m ^ 2 + .. + m ^ d, for m = n + 1 and the d blocks of the equation file, is never spent.
-  pub never-spent : (R : Route) (l : Lent) (limit : ℕ) → powers (suc (c .states)) (blockCount (file b)) ≤ limit → ¬ Spent R b l limit
-  never-spent R l limit h s =
-      let low = spent-over R b l limit accepted (sym (number-is R b l limit) ∙ s) in
-      omega (arith, run-bound b accepted R)
+    pub reports : r ≤ limit → (ρ : Valuation) (v : States) → MeansIn (caseOf b) ρ v → o ≡ routeReport (caseOf b) v r
+    reports h ρ v m = rw (run-means b accepted R ρ (m .0) v (m .1), own-one b accepted R r own) (reported (ran .by) (gives-iff .1 h))
 
 -- (c) Where a route gives marks, a state is marked exactly if it lies in the formula's meaning, no bit from n up is 1, and the words behind
 -- are as lent.
-pub marks-mean : (R : Route) (b : List ℕ) (l : Lent) (marks : List ℕ) (limit : ℕ) → GivesMarks R b l limit
-    → (ρ : Valuation) (v : Set) → MeansIn (caseOf b) ρ v → Marks (caseOf b .states) v marks (marksAfter R b l marks limit)
-marks-mean R b l marks limit g ρ v m =
-    let z = sym (number-is R b l limit) ∙ g in
-    let ok = given R b l limit z .0 in
-    rw (written R b l limit marks z, ← run-means b ok R ρ (m .0) v (m .1)) (shows v marks _ refl (means-sized _ _ _ ρ (m .0) v (m .1)))
+module _ {R : Route} {b : List ℕ} {l : Lent} {limit : ℕ} {o : Outcome} {marks′ : List ℕ} (ran : Ran R b l limit o marks′) where
+  accepted-run : GivesMarks o → Accepted b
+  accepted-run g = given R b l limit (sym (number-ran (ran .by)) ∙ g) .0
 
--- (d) Any two runs that give marks, by either route and at whatever limits and lent memory, are alike in marks, verdict and count.
-pub alike : (R R′ : Route) (b : List ℕ) (l l′ : Lent) (marks marks′ : List ℕ) (limit limit′ : ℕ) → GivesMarks R b l limit → GivesMarks R′ b l′ limit′
-    → (take wordCount (marksAfter R b l marks limit) ≡ take wordCount (marksAfter R′ b l′ marks′ limit′))
-    × (outcomeOf R b l limit .verdict ≡ outcomeOf R′ b l′ limit′ .verdict) × (outcomeOf R b l limit .count ≡ outcomeOf R′ b l′ limit′ .count)
-unfolding routeReport
-alike R R′ b l l′ marks marks′ limit limit′ g g′ =
-    let z = sym (number-is R b l limit) ∙ g in
-    let z′ = sym (number-is R′ b l′ limit′) ∙ g′ in
-    let same = runs-alike b (given R b l limit z .0) R R′ in (
-      rw (written R b l limit marks z, written R′ b l′ limit′ marks′ z′, take-words, take-words, same),
-      rw (reported R b l limit z, reported R′ b l′ limit′ z′, same),
-      rw (reported R b l limit z, reported R′ b l′ limit′ z′, same),
-    )
+  pub marks-mean : GivesMarks o → (ρ : Valuation) (v : States) → MeansIn (caseOf b) ρ v → Marks (caseOf b .states) v (l .marks) marks′
+  marks-mean g ρ v m =
+      rw (written (ran .by) g, ← run-means b (accepted-run g) R ρ (m .0) v (m .1)) (shows v (l .marks) _ refl (means-sized _ _ _ ρ (m .0) v (m .1)))
 
--- (e) What gives marks at a limit gives the same marks and report at each larger one.
-pub larger : (R : Route) (b : List ℕ) (l : Lent) (limit more : ℕ) → limit ≤ more → GivesMarks R b l limit
-    → (outcomeOf R b l more ≡ outcomeOf R b l limit) × ((marks : List ℕ) → marksAfter R b l marks more ≡ marksAfter R b l marks limit)
-larger R b l limit more h g =
-    let z = sym (number-is R b l limit) ∙ g in
-    let (ok, enough, low) = given R b l limit z in
-    let y = sym (number-is R b l more) ∙ gives-number R b l more ok enough .1 (omega arith) in
-    (reported R b l more y ∙ sym (reported R b l limit z), λ marks. written R b l more marks y ∙ sym (written R b l limit marks z))
+  -- (d) Any two runs that give marks, by either route and at whatever limits and lent memory, are alike in marks, verdict and count.
+  pub alike : {R′ : Route} {l′ : Lent} {limit′ : ℕ} {o′ : Outcome} {marks″ : List ℕ} → Ran R′ b l′ limit′ o′ marks″ → GivesMarks o → GivesMarks o′
+      → (take wordCount marks′ ≡ take wordCount marks″) × (o .verdict ≡ o′ .verdict) × (o .count ≡ o′ .count)
+  unfolding routeReport
+  alike {R′} ran′ g g′ =
+      let same = runs-alike b (accepted-run g) R R′ in (
+        rw (written (ran .by) g, written (ran′ .by) g′, take-words wordCount (runOf R (caseOf b) .0), take-words wordCount (runOf R′ (caseOf b) .0), same),
+        rw (reported (ran .by) g, reported (ran′ .by) g′, same),
+        rw (reported (ran .by) g, reported (ran′ .by) g′, same),
+      )
 
--- ---- Demand 1, of any bytes
+  -- (e) What gives marks at a limit gives the same marks and report at each larger one, with whatever memory that is enough.
+  pub larger : {l′ : Lent} {more : ℕ} {o′ : Outcome} {marks″ : List ℕ} → Ran R b l′ more o′ marks″ → Enough R (caseOf b) l′ → limit ≤ more → GivesMarks o
+      → (o′ ≡ o) × (marks″ ≡ take wordCount marks′ ++ drop wordCount (l′ .marks))
+  larger {l′} {more} {o′} ran′ enough h g =
+      let (ok, _, low) = given R b l limit (sym (number-ran (ran .by)) ∙ g) in
+      let g′ : GivesMarks o′ = number-ran (ran′ .by) ∙ gives-number R b l′ more ok enough .1 (omega arith) in
+      let words-are = ap (take wordCount) (written (ran .by) g) ∙ take-words wordCount (runOf R (caseOf b) .0) _ in
+      (reported (ran′ .by) g′ ∙ sym (reported (ran .by) g), written (ran′ .by) g′ ∙ ap (λ (ws : List ℕ). ws ++ drop wordCount (l′ .marks)) (sym words-are))
 
--- One answer: the report, or one number of the table, 11 and 12 never, with zeros for verdict, count and rounds.
-pub one-answer : (R : Route) (b : List ℕ) (l : Lent) (limit : ℕ)
-    → (outcomeOf R b l limit ≡ routeReport (caseOf b) (runOf R (caseOf b) .0) (runOf R (caseOf b) .1))
-    ⊎ ((k : ℕ) × (1 ≤ k) × (k ≤ 14) × ¬ (k ≡ 11) × ¬ (k ≡ 12) × (outcomeOf R b l limit ≡ refused k))
-one-answer R b l limit = by-cases (ℕ-discrete (refusalOf R b l limit) 0)
-    (λ z. inl (reported R b l limit z))
-    (λ d. let x = in-table R b l limit in inr (_, omega arith, x .0, x .1, x .2, refuses R b l limit d))
+  -- (f) A limit of m + m ^ 2 + .. + m ^ d, for m = n + 1 and the d blocks of the equation file, is never spent.
+  pub never-spent : powers (suc (caseOf b .states)) (blockCount (file b)) ≤ limit → ¬ Spent o
+  never-spent h s =
+      let z = sym (number-ran (ran .by)) ∙ s in
+      omega (arith, spent-over R b l limit z, run-bound b (spent-accepted R b l limit z) R)
 
-pub never-11-12 : (R : Route) (b : List ℕ) (l : Lent) (limit : ℕ) → ¬ (outcomeOf R b l limit .refusal ≡ 11) × ¬ (outcomeOf R b l limit .refusal ≡ 12)
-never-11-12 R b l limit = let x = in-table R b l limit in (λ e. x .1 (sym (number-is R b l limit) ∙ e), λ e. x .2 (sym (number-is R b l limit) ∙ e))
+  -- ---- Demand 1, of any bytes
 
--- The number is that of the first condition that holds, of 1 to 10, then 13, then 14; 0 says that none does.
-pub first-condition : (R : Route) (b : List ℕ) (l : Lent) (limit : ℕ) → outcomeOf R b l limit .refusal ≡ firstOf (conditionsOf R b l limit)
-first-condition R b l limit = number-is R b l limit ∙ first-number R b l limit
+  -- One answer: the report, or one number of the conditions, with zeros for verdict, count and rounds.
+  pub one-answer : (o ≡ routeReport (caseOf b) (runOf R (caseOf b) .0) (runOf R (caseOf b) .1))
+      ⊎ ((k : ℕ) × List·Memᴰ k (numbersOf (routeConditions R b l limit)) × (o ≡ refused k))
+  one-answer = by-cases (ℕ-discrete (o .refusal) 0)
+      (λ g. inl (reported (ran .by) g))
+      (λ d. inr (_, member (routeConditions R b l limit) (λ z. d (number-ran (ran .by) ∙ z)), refused-with (ran .by) d))
 
--- A refusal leaves the marks as they were.
-pub marks-kept : (R : Route) (b : List ℕ) (l : Lent) (marks : List ℕ) (limit : ℕ) → ¬ GivesMarks R b l limit → marksAfter R b l marks limit ≡ marks
-marks-kept R b l marks limit d = kept R b l limit marks (λ z. d (number-is R b l limit ∙ z))
+  -- The number is that of the first condition that holds, of 1 to 10, then 13, then 14; a report says that none does.
+  pub first-condition : (k : ℕ) → ¬ (k ≡ 0) → o .refusal ≡ k ↔ FirstHolds (routeConditions R b l limit) k
+  first-condition k d = (
+    λ h. let z = sym (number-ran (ran .by)) ∙ h in rw z at (first-holds (routeConditions R b l limit) (λ y. d (sym z ∙ y))),
+    λ f. number-ran (ran .by) ∙ first-answered (routeConditions R b l limit) k f,
+  )
 
--- The equation route writes the file of an accepted case where there is room for it, whatever solve then answers; otherwise it changes nothing.
-pub file-written : (b buffer : List ℕ) → Accepted b → length (file b) ≤ length buffer → fileAfter b buffer ≡ file b ++ drop (length (file b)) buffer
-unfolding fileAfter
-file-written b buffer ok h = rw (written-when b (length buffer) ok h)
+  pub no-condition : GivesMarks o ↔ NoneHolds (routeConditions R b l limit)
+  unfolding routeConditions runConditions caseConditions layoutConditions modelConditions formulaConditions every
+  no-condition = rw (number-ran (ran .by)) (none-first (routeConditions R b l limit) tt)
 
-pub file-kept : (b buffer : List ℕ) → ¬ (Accepted b × (length (file b) ≤ length buffer)) → fileAfter b buffer ≡ buffer
-unfolding fileAfter
-file-kept b buffer h = rw (ne-eqb (refusalIn b (length buffer)) 0 (unwritten-when b (length buffer) h))
+  pub never-11-12 : ¬ (o .refusal ≡ 11) × ¬ (o .refusal ≡ 12)
+  unfolding routeConditions runConditions caseConditions layoutConditions modelConditions formulaConditions every
+  never-11-12 = (
+    λ e. apart 11 (routeConditions R b l limit) (λ z. omega arith) tt (sym (number-ran (ran .by)) ∙ e),
+    λ e. apart 12 (routeConditions R b l limit) (λ z. omega arith) tt (sym (number-ran (ran .by)) ∙ e),
+  )
 
--- The working bytes are solve's on the file, and those lent where translate refuses.
-pub work-solved : (b : List ℕ) (room : ℕ) (work : List ℕ) (marks limit : ℕ) → Accepted b → length (file b) ≤ room
-    → workAfter b room work marks limit ≡ solveWork (file b) work marks limit
-unfolding workAfter
-work-solved b room work marks limit ok h = rw (written-when b room ok h)
+  -- A refusal leaves the marks as they were.
+  pub marks-kept : ¬ GivesMarks o → marks′ ≡ l .marks
+  marks-kept = kept (ran .by)
 
-pub work-kept : (b : List ℕ) (room : ℕ) (work : List ℕ) (marks limit : ℕ) → ¬ (Accepted b × (length (file b) ≤ room))
-    → workAfter b room work marks limit ≡ work
-unfolding workAfter
-work-kept b room work marks limit h = refusing (refusalIn b room) _ work (unwritten-when b room h)
+-- The equation route's file and working bytes.
+module _ {b : List ℕ} {l : Lent} {limit : ℕ} {o : Outcome} {file′ work′ marks′ : List ℕ} (e : EquationRan b l limit o file′ work′ marks′) where
+  -- It writes the file of an accepted case where there is room for it, whatever solve then answers; otherwise the buffer is unchanged.
+  pub file-written : Accepted b → length (file b) ≤ length (l .file) → file′ ≡ file b ++ drop (length (file b)) (l .file)
+  unfolding fileAfter
+  file-written ok h = e .file-is ∙ rw (unrefused b (length (l .file)) .1 (ok, h))
+
+  pub file-kept : ¬ (Accepted b × (length (file b) ≤ length (l .file))) → file′ ≡ l .file
+  unfolding fileAfter
+  file-kept h = e .file-is ∙ refusing _ _ _ (λ z. h (unrefused b (length (l .file)) .0 z))
+
+  -- After success the working bytes are the cells' values under the standard solution of all blocks, and the bytes behind are as lent.
+  pub work-solved : GivesMarks o → (ρ σ : Valuation) → Sized (stateCount (file b)) ρ → StandardSolution (file b) ρ σ
+      → (vs : List Bool) → Values (cells (file b)) σ vs → work′ ≡ map bit vs ++ drop (cellCount (file b)) (l .work)
+  unfolding workAfter
+  work-solved g ρ σ start s vs v =
+      let z = sym (number-ran (e .ran .by)) ∙ g in
+      let ok = given equation b l limit z .0 in
+      rw (own-values (well-formed b ok) ρ σ start s vs v) (e .work-is (λ s. omega (arith, sym g ∙ s)) ∙ rw z)
+
+  -- A refusal but 14 leaves them as they were; after 14 each of the first c is 0 or 1, and the rest is unchanged.
+  pub work-kept : ¬ GivesMarks o → ¬ Spent o → work′ ≡ l .work
+  unfolding workAfter
+  work-kept d n = e .work-is n ∙ refusing _ _ _ (λ z. d (number-ran (e .ran .by) ∙ z))
+
+  pub work-spent : Spent o → Scratch (cellCount (file b)) (l .work) work′
+  work-spent = e .work-14

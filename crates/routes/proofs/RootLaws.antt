@@ -1,5 +1,5 @@
 -- Evaluating from the root: what the evaluator is handed and answers there, and the three parts of an accepted case.
-use mathlib.Core.Path.{_≡_, refl, sym, ap, _∙_, subst}
+use mathlib.Core.Path.{_≡_, sym, ap, _∙_}
 use mathlib.Core.Bool.{false}
 use mathlib.Core.List.{List, []}
 use Prim.Native.Nat.{ℕ, _+_, _<_, _≤_}
@@ -12,16 +12,22 @@ use Rattle.sets.specs.Words.{words}
 use Rattle.sets.specs.Loop.{Worked}
 use Rattle.sets.proofs.Words.{words-none}
 use Rattle.solver.specs.Limits.{blockLimit}
-use Rattle.solver.specs.Cells.{none}
+use Rattle.sets.specs.Valuation.{none}
 use Rattle.cases.specs.Limits.{nodeLimit}
 use Rattle.cases.specs.Action.{Action}
 use Rattle.cases.specs.declared.Header.{Header}
 use Rattle.cases.specs.declared.Node.{Node}
 use Rattle.cases.specs.Prefix.{actionAt, formulaAt}
-use Rattle.cases.specs.File.{u16, headerOf, transitionTable, actionTable, formulaTable}
+use Rattle.cases.specs.File.{headerOf, transitionTable, actionTable, formulaTable}
 use Rattle.cases.specs.Case.{caseOf}
-use Rattle.cases.specs.Conditions.{binderCount, blockCount, tooDeep, Accepted}
-use Rattle.cases.specs.Checks.{transitionsIn, nodesIn}
+use Rattle.cases.specs.Conditions.{binderCount, blockTotal, tooDeep, caseRefusal, Accepted}
+use Rattle.cases.specs.Opening.{Opens}
+use Rattle.cases.specs.declared.Opened.{Opened}
+use Rattle.cases.specs.declared.Opened.the-variants.{Refused as Refused′}
+use Rattle.cases.specs.declared.Cause.{Cause as Cause′}
+use Rattle.cases.proofs.Openings.{refused as opened-refused}
+use Rattle.sets.specs.Refusals.{refused, Outcome}
+use Rattle.cases.specs.internal.Checks.{transitionsIn, nodesIn}
 use Rattle.cases.proofs.Accepting.{Passed, passed}
 use Rattle.cases.proofs.TableTrees.{formula-table, root}
 use Rattle.cases.proofs.Masks.{whole-actions}
@@ -31,11 +37,15 @@ use Rattle.cases.proofs.FormulaRules.{length-nodes}
 use Rattle.translate.proofs.CaseParts.{from}
 use Rattle.routes.specs.declared.Value.{Value}
 use Rattle.routes.specs.Direct.{worked}
-use Rattle.routes.specs.Route.{direct, runOf}
-use Rattle.routes.specs.Answering.{Rooted}
-use Rattle.routes.specs.Evaluating.{Records, ActionPart, FormulaPart, Masks, Blocks, Shown, Asks, Rule, Evaluated}
+use Rattle.routes.specs.declared.Answer.the-variants.{Refused}
+use Rattle.routes.specs.declared.Cause.the-variants.{Open}
+use Rattle.routes.specs.Route.{routeNumber, outcome, direct, runOf, marksOnly, runConditions, RanBy, Ran}
+use Rattle.routes.specs.internal.Answering.{Rooted}
+use Rattle.routes.specs.internal.Evaluating.{Records, FormulaPart, caseIn, CaseParts, Masks, Blocks, Shown, Asks, Rule, Evaluated}
 use Rattle.routes.proofs.DirectLaws.{direct-exists}
 use Rattle.routes.proofs.TableLaws.{binders-before}
+use Rattle.routes.proofs.RouteLaws.{case-refused, case-accepted}
+use Rattle.routes.proofs.DirectAnswers.{ran-refused, ran-first}
 
 -- ---- from the parts
 
@@ -71,11 +81,11 @@ module _ {h : Header} {records formula labels : List ℕ} (limit : ℕ) (nodes :
   }
 
   -- what it answers there
-  pub root-answer : {action : ℕ → Action} {o : Value} → Masks action (nodesIn formula (h .nodes)) labels
+  root-worked : {action : ℕ → Action} {o : Value} → Masks action (nodesIn formula (h .nodes)) labels
       → Evaluated h records formula labels (replicate blockLimit (replicate wordCount 0)) 0 0 limit o
       → Rooted (worked (h .states) (transitionsIn records (h .transitions)) (formulaAt action (nodesIn formula (h .nodes)) 0) (none (h .states)))
       limit o
-  root-answer {action} {o} masks e =
+  root-worked {action} {o} masks e =
       let n : ℕ = h .states in
       let t : List Node = nodesIn formula (h .nodes) in
       let w : Worked = worked n (transitionsIn records (h .transitions)) (formulaAt action t 0) (none n) in
@@ -91,60 +101,68 @@ module _ {h : Header} {records formula labels : List ℕ} (limit : ℕ) (nodes :
         set = λ z. right z .1;
       }
 
+-- and so of the case that the parts give
+pub root-answer : {h : Header} {records actions formula labels : List ℕ} {limit : ℕ} {o : Value} → CaseParts h records actions formula
+    → Masks (actionAt (nodesIn actions (h .actions))) (nodesIn formula (h .nodes)) labels
+    → Evaluated h records formula labels (replicate blockLimit (replicate wordCount 0)) 0 0 limit o
+    → Rooted (runOf direct (caseIn h records actions formula)) limit o
+unfolding runOf caseIn
+root-answer {limit = limit} parts masks e = root-worked limit (parts .formula-part) masks e
+
 -- ---- an accepted case
 
 -- a table that is not too deep has at most six binders
 few-binders : (t : List Node) → tooDeep t ≡ false → binderCount t ≤ blockLimit
-unfolding tooDeep blockCount
-few-binders t e = omega (arith, ltb-false blockLimit (blockCount t) e)
+unfolding tooDeep blockTotal
+few-binders t e = omega (arith, ltb-false blockLimit (blockTotal t) e)
 
--- the three parts that the header's numbers give
-pub record CaseParts (b : List ℕ) (h : Header) : Type 0 where
-  pub model : Records (from b (h .first)) (h .transitions) (h .states) (h .labels)
-  pub actions : ActionPart (from b (h .second)) (h .actions)
-  pub formula : FormulaPart (from b (h .third)) (h .nodes) (h .actions)
-
-module _ (b : List ℕ) where
-  -- the parts at the offsets of the header
-  header-parts : Accepted b → CaseParts b (headerOf b)
+module _ (b : List ℕ) (accepted : Accepted b) where
+  -- The parts of an accepted case at the offsets of its header are as the evaluator asks,
+  header-parts : CaseParts (headerOf b) (from b (headerOf b .«transitions_at»)) (from b (headerOf b .«actions_at»)) (from b (headerOf b .«formula_at»))
   unfolding transitionTable actionTable formulaTable transitionsIn nodesIn
-  header-parts ok =
-      let good : Passed b = passed b ok in
+  header-parts =
+      let good : Passed b = passed b accepted in
       let l = good .lies in
       record {
-        model = rw (part-to-end b (u16 b 14)) (record {
-          inside = transitions-inside b (headerOf b) refl l;
+        model = rw (part-to-end b (headerOf b .«transitions_at»)) (record {
+          inside = transitions-inside l;
           ok = model-holds b (good .model) .1;
           few-states = l .counts .few-states;
           few-labels = l .counts .few-labels;
         });
-        actions = rw (part-to-end b (u16 b 16)) (record {
-          holds = actions-inside b (headerOf b) refl l;
+        initial = model-holds b (good .model) .0;
+        action-part = rw (part-to-end b (headerOf b .«actions_at»)) (record {
+          holds = actions-inside l;
           whole = whole-actions b (good .actions) (l .counts .few-labels);
         });
-        formula = rw (part-to-end b (u16 b 18)) (record {
-          holds = nodes-inside b (headerOf b) refl l;
+        formula-part = rw (part-to-end b (headerOf b .«formula_at»)) (record {
+          holds = nodes-inside l;
           formed = good .formula;
           bound = good .variables;
           shallow = few-binders (formulaTable b) (good .depth);
         });
       }
 
-  -- what direct works out from the parts is what it works out of the case
-  abbrev workedIn : Header → Worked
-  workedIn h =
-      worked (h .states) (transitionsIn (from b (h .first)) (h .transitions))
-      (formulaAt (actionAt (nodesIn (from b (h .second)) (h .actions))) (nodesIn (from b (h .third)) (h .nodes)) 0) (none (h .states))
-
-  header-worked : workedIn (headerOf b) ≡ runOf direct (caseOf b)
-  unfolding runOf caseOf transitionTable actionTable formulaTable transitionsIn nodesIn
-  header-worked = rw (part-to-end b (u16 b 14), part-to-end b (u16 b 16), part-to-end b (u16 b 18))
+  -- and their case is the case of the bytes.
+  header-case : caseIn (headerOf b) (from b (headerOf b .«transitions_at»)) (from b (headerOf b .«actions_at»)) (from b (headerOf b .«formula_at»)) ≡ caseOf b
+  unfolding caseIn caseOf transitionTable actionTable formulaTable transitionsIn nodesIn
+  header-case = rw (part-to-end b (headerOf b .«transitions_at»), part-to-end b (headerOf b .«actions_at»), part-to-end b (headerOf b .«formula_at»))
 
   module _ {h : Header} (is : h ≡ headerOf b) where
-    -- The parts of an accepted case are as the evaluator asks,
-    pub case-parts : Accepted b → CaseParts b h
-    case-parts ok = subst (CaseParts b) (sym is) (header-parts ok)
+    pub case-parts : CaseParts h (from b (h .«transitions_at»)) (from b (h .«actions_at»)) (from b (h .«formula_at»))
+    case-parts = rw is header-parts
 
-    -- and what it answers of them is what it answers of the case.
-    pub case-answer : {limit : ℕ} {o : Value} → Rooted (workedIn h) limit o → Rooted (runOf direct (caseOf b)) limit o
-    case-answer {limit} {o} r = subst (λ (w : Worked). Rooted w limit o) (ap workedIn is ∙ header-worked) r
+    -- So what direct promises from the parts it promises of the case.
+    pub case-ran : {marks : List ℕ} {limit : ℕ} {o : Outcome} {after : List ℕ}
+        → RanBy (runConditions direct (caseIn h (from b (h .«transitions_at»)) (from b (h .«actions_at»)) (from b (h .«formula_at»))) (marksOnly marks) limit) direct
+        (caseIn h (from b (h .«transitions_at»)) (from b (h .«actions_at»)) (from b (h .«formula_at»))) marks o after
+        → Ran direct b (marksOnly marks) limit o after
+    case-ran {marks} {limit} r = record { by = ran-first (sym (case-accepted direct b (marksOnly marks) limit accepted)) (rw (is, header-case) at r) }
+
+-- A case that is not opened is refused with its number.
+pub open-refused : {b marks : List ℕ} {limit : ℕ} {opened : Opened} {cause : Cause′} → Opens (caseRefusal b) (headerOf b) opened → opened ≡ Refused′ cause
+    → Ran direct b (marksOnly marks) limit (outcome (Refused (Open cause))) marks
+unfolding outcome routeNumber
+open-refused {b} {marks} {limit} {cause = cause} o e =
+    let x = opened-refused o e in
+    record { by = ran-refused (ap refused (x .0)) (case-refused direct b (marksOnly marks) limit (x .1)) (x .1) }

@@ -9,22 +9,24 @@ use lib.Arith.{digits-lt}
 use lib.Dec.{T, ltb, ltb→lt}
 use lib.ListN.{length, getD, drop, replicate, getD-replicate}
 use lib.Seq.{getD-take, getD-drop, ext-getD}
-use Rattle.sets.specs.Lists.{all, any}
-use Rattle.sets.specs.Set.{Set, has}
+use Rattle.sets.specs.Lists.{every, forSome}
+use Rattle.sets.specs.States.{States, has}
 use Rattle.sets.proofs.Lists.{table-at, kept-equal, all-kept, any-kept}
-use Rattle.solver.specs.Cells.{Cell, Valuation, value, Values, evaluate, part}
+use Rattle.solver.specs.Cells.{Cell, value, Values, evaluate, part}
+use Rattle.sets.specs.Valuation.{Valuation}
 use Rattle.solver.proofs.Values.{evaluate-values, length-part}
 use Rattle.cases.specs.Formula.{Formula, False, True, And, Or, Box, Diamond, Variable, Fix, nodes}
 use Rattle.cases.specs.declared.Transition.{Transition}
 use Rattle.cases.specs.Case.{keep}
 use Rattle.cases.specs.Meaning.{setOf, from, boxIn, diamondIn}
 use Rattle.translate.specs.Cells.{targets, cellOf, cellsFrom}
-use Rattle.translate.proofs.Unfold.{Stands, and-operands, or-operands, box-operand, diamond-operand, length-cells, cell-at, cells-ordered}
+use Rattle.translate.specs.Nodes.{Stands}
+use Rattle.translate.proofs.Unfold.{and-operands, or-operands, box-operand, diamond-operand, length-cells, cell-at, cells-ordered}
 
 -- n states, the transitions, and the block of each binder
 module _ (n : ℕ) (ts : List Transition) (block : ℕ → ℕ) where
   -- the set of a formula down to its binders and variables, which have the sets of their blocks
-  unfoldable pub shallow : Formula → Valuation → Set
+  unfoldable pub shallow : Formula → Valuation → States
   shallow False σ = replicate n false
   shallow True σ = replicate n true
   shallow (And a b) σ = setOf n (λ s. has (shallow a σ) s && has (shallow b σ) s)
@@ -35,33 +37,33 @@ module _ (n : ℕ) (ts : List Transition) (block : ℕ → ℕ) where
   shallow (Fix sign i a) σ = σ (block i)
 
 -- all and any of what is made of the elements that are kept
-all-picked : {A : Type 0} (q : A → Bool) (f : A → ℕ) (u : ℕ → Bool) (xs : List A) → all u (map f (keep q xs)) ≡ all (λ x. not (q x) || u (f x)) xs
-unfolding all keep
+all-picked : {A : Type 0} (q : A → Bool) (f : A → ℕ) (u : ℕ → Bool) (xs : List A) → every u (map f (keep q xs)) ≡ every (λ x. not (q x) || u (f x)) xs
+unfolding every keep
 all-picked q f u [] = refl
 all-picked q f u (x ∷ xs) = go (q x) (all-picked q f u xs)
   where
-    go : (b : Bool) → all u (map f (keep q xs)) ≡ all (λ y. not (q y) || u (f y)) xs
-        → all u (map f (cond b (x ∷ keep q xs) (keep q xs))) ≡ ((not b || u (f x)) && all (λ y. not (q y) || u (f y)) xs)
+    go : (b : Bool) → every u (map f (keep q xs)) ≡ every (λ y. not (q y) || u (f y)) xs
+        → every u (map f (cond b (x ∷ keep q xs) (keep q xs))) ≡ ((not b || u (f x)) && every (λ y. not (q y) || u (f y)) xs)
     go true e = ap (λ b. u (f x) && b) e
     go false e = e
 
-any-picked : {A : Type 0} (q : A → Bool) (f : A → ℕ) (u : ℕ → Bool) (xs : List A) → any u (map f (keep q xs)) ≡ any (λ x. q x && u (f x)) xs
-unfolding any keep
+any-picked : {A : Type 0} (q : A → Bool) (f : A → ℕ) (u : ℕ → Bool) (xs : List A) → forSome u (map f (keep q xs)) ≡ forSome (λ x. q x && u (f x)) xs
+unfolding forSome keep
 any-picked q f u [] = refl
 any-picked q f u (x ∷ xs) = go (q x) (any-picked q f u xs)
   where
-    go : (b : Bool) → any u (map f (keep q xs)) ≡ any (λ y. q y && u (f y)) xs
-        → any u (map f (cond b (x ∷ keep q xs) (keep q xs))) ≡ ((b && u (f x)) || any (λ y. q y && u (f y)) xs)
+    go : (b : Bool) → forSome u (map f (keep q xs)) ≡ forSome (λ y. q y && u (f y)) xs
+        → forSome u (map f (cond b (x ∷ keep q xs) (keep q xs))) ≡ ((b && u (f x)) || forSome (λ y. q y && u (f y)) xs)
     go true e = ap (λ b. u (f x) || b) e
     go false e = e
 
 -- The formula a stands at node 0, and cs are its cells.
-module _ (n : ℕ) (states : 0 < n) (ts : List Transition) (low : T (all (λ t. ltb (t .target) n) ts)) (block : ℕ → ℕ) (a : Formula)
+module _ (n : ℕ) (states : 0 < n) (ts : List Transition) (low : T (every (λ t. ltb (t .target) n) ts)) (block : ℕ → ℕ) (a : Formula)
     (σ : Valuation) where
   abbrev cs : List Cell
   cs = cellsFrom n ts block a 0
 
-  abbrev set : Formula → Set
+  abbrev set : Formula → States
   set x = shallow n ts block x σ
 
   module _ (vs : List Bool) (values : Values cs σ vs) where
@@ -73,7 +75,7 @@ module _ (n : ℕ) (states : 0 < n) (ts : List Transition) (low : T (all (λ t. 
 
     -- Cell i * n + s says whether state s is in the set of the formula at node i.
     node-value : (x : Formula) {i : ℕ} → Stands a i x → (s : ℕ) → s < n → getD vs (i * n + s) false ≡ has (set x) s
-    unfolding shallow cellOf targets value all any
+    unfolding shallow cellOf targets value every forSome
     node-value False h s g = own h s g ∙ sym (getD-replicate n s false false g)
     node-value True h s g = own h s g ∙ sym (getD-replicate n s true false g)
     node-value (And x y) h s g =

@@ -4,17 +4,21 @@ use mathlib.Core.List.{List, [], _∷_, _++_}
 use Prim.Native.Nat.{ℕ, suc, _+_, _<_}
 use native.Mathlib.Omega.{arith}
 use lib.ListN.{length}
-use Rattle.sets.specs.Set.{Set}
-use Rattle.solver.specs.Cells.{Cell, Ordered, Valuation, bind}
-use Rattle.solver.specs.File.{Block, Inside}
+use Rattle.sets.specs.States.{States}
+use Rattle.solver.specs.Cells.{Cell}
+use Rattle.solver.specs.internal.Forms.{Ordered}
+use Rattle.sets.specs.Valuation.{Valuation, bind, Sized}
+use Rattle.solver.specs.File.{Block}
+use Rattle.solver.specs.internal.Forms.{Inside}
 use Rattle.solver.specs.Rounds.{Reached, solved}
-use Rattle.solver.proofs.Solving.{Sized, bind-same, bind-other, bind-sized, inside-rest, looped, solved-cons, solved-sized, solved-below}
+use Rattle.sets.proofs.Valuation.{bind-same, bind-other, bind-sized}
+use Rattle.solver.proofs.Solving.{inside-rest, looped, solved-cons, solved-sized, solved-below}
 
 -- The first block's set is the one at which its loop stops.
 pub first-set : (n : ℕ) (cs : List Cell) (b : Block) (bs : List Block) (k : ℕ) (ρ : Valuation)
     → solved n cs (b ∷ bs) k ρ .0 k ≡ looped n cs b bs k ρ .0
 first-set n cs b bs k ρ =
-    let v : Set = looped n cs b bs k ρ .0 in
+    let v : States = looped n cs b bs k ρ .0 in
     ap (λ (r : Reached). r .0 k) (solved-cons n cs b bs k ρ) ∙ solved-below n cs bs (suc k) (bind ρ k v) k (omega arith) ∙ bind-same ρ k v
 
 -- τ is reached by solving the blocks bs from block m on, with sets that are those of ρ below block k.
@@ -31,7 +35,7 @@ later n cs ordered [] bs i k ρ r =
     let start : k ≡ k + 0 = omega arith in
     record { sets = ρ; sized = r; kept = λ j h. refl; ends = ap (λ (m : ℕ). solved n cs bs m ρ .0) start }
 later n cs ordered (b ∷ ds) bs i k ρ r =
-    let v : Set = looped n cs b (ds ++ bs) k ρ .0 in
+    let v : States = looped n cs b (ds ++ bs) k ρ .0 in
     let long : length v ≡ n = ap length (sym (first-set n cs b (ds ++ bs) k ρ)) ∙ solved-sized n cs ordered (b ∷ (ds ++ bs)) i k ρ r k in
     let rest = later n cs ordered ds bs (inside-rest n (length cs) b (ds ++ bs) i) (suc k) (bind ρ k v) (bind-sized ρ k v r long) in
     let start : suc k + length ds ≡ k + suc (length ds) = omega arith in

@@ -14,13 +14,13 @@ use Rattle.cases.specs.Limits.{nodeLimit}
 use Rattle.cases.specs.Action.{Action}
 use Rattle.cases.specs.declared.Node.{Node}
 use Rattle.cases.specs.File.{nodeIn}
-use Rattle.cases.specs.Masks.{maskOf}
+use Rattle.cases.specs.internal.Masks.{maskOf}
 use Rattle.cases.specs.Conditions.{nodeAt, nodeOk, isBinder, binderCount}
-use Rattle.cases.specs.Checks.{nodesIn}
+use Rattle.cases.specs.internal.Checks.{nodesIn}
 use Rattle.cases.proofs.FormulaRules.{length-nodes}
 use Rattle.translate.proofs.ShapeFields.{node-read}
 use Rattle.translate.proofs.CaseSources.{nodes-pass}
-use Rattle.routes.specs.Evaluating.{isModal, FormulaPart, Masks, Blocks}
+use Rattle.routes.specs.internal.Evaluating.{isModal, FormulaPart, Masks, Blocks}
 
 -- ---- a number for each node
 

@@ -6,16 +6,16 @@ use Prim.Native.Nat.{ℕ, zero, suc, _+_}
 use native.Mathlib.Numerals.{add-one}
 use borrow.Author.Tests.{eq-eqb}
 use lib.Dec.{T, eqb, eqb·suc-suc}
-use Rattle.sets.specs.Set.{Set, has, start, Extremal}
+use Rattle.sets.specs.States.{States, has, start, Extremal}
 use Rattle.sets.specs.Loop.{Worked, iterate}
 use Rattle.sets.proofs.Lists.{and-right}
-use Rattle.solver.specs.Cells.{Valuation, bind}
-use Rattle.solver.proofs.Solving.{Sized, bind-sized}
-use Rattle.cases.specs.Formula.{Formula, False, True, And, Or, Box, Diamond, Variable, Fix}
+use Rattle.sets.specs.Valuation.{Valuation, bind, Sized}
+use Rattle.sets.proofs.Valuation.{bind-sized}
+use Rattle.cases.specs.Formula.{Formula, False, True, And, Or, Box, Diamond, Variable, Fix, free}
 use Rattle.cases.specs.declared.Transition.{Transition}
-use Rattle.cases.specs.Meaning.{setOf, boxIn, diamondIn, Means}
-use Rattle.cases.proofs.MeaningLaws.{meaning, free, means-scope, means-exists, means-unique}
-use Rattle.translate.specs.Whole.{raise, bindsFirst, whole, binderNodes, place, blockIn}
+use Rattle.cases.specs.Meaning.{setOf, boxIn, diamondIn, Means, meaning}
+use Rattle.cases.proofs.MeaningLaws.{means-scope, means-exists, means-unique}
+use Rattle.translate.specs.Whole.{raise, bindsFirst, whole, binderNodes, indexIn, blockIn}
 use Rattle.routes.proofs.Shallow.{shallow}
 
 -- numbers that are raised are equal if they were
@@ -46,7 +46,7 @@ none-free-whole a none = go (bindsFirst a)
 
 -- The root of the formula that is translated has block 0.
 pub root-set : (n : ℕ) (ts : List Transition) (a : Formula) (σ : Valuation) → shallow n ts (blockIn (whole a)) (whole a) σ ≡ σ 0
-unfolding shallow whole bindsFirst blockIn binderNodes place
+unfolding shallow whole bindsFirst blockIn binderNodes indexIn
 root-set n ts False σ = refl
 root-set n ts True σ = refl
 root-set n ts (And a b) σ = refl
@@ -62,15 +62,15 @@ module _ (n : ℕ) (ts : List Transition) where
   unfolding meaning raise bind
   meaning-raise False ρ = refl
   meaning-raise True ρ = refl
-  meaning-raise (And a b) ρ = ap₂ (λ (x y : Set). setOf n (λ s. has x s && has y s)) (meaning-raise a ρ) (meaning-raise b ρ)
-  meaning-raise (Or a b) ρ = ap₂ (λ (x y : Set). setOf n (λ s. has x s || has y s)) (meaning-raise a ρ) (meaning-raise b ρ)
-  meaning-raise (Box α a) ρ = ap (λ (x : Set). setOf n (boxIn n ts α x)) (meaning-raise a ρ)
-  meaning-raise (Diamond α a) ρ = ap (λ (x : Set). setOf n (diamondIn n ts α x)) (meaning-raise a ρ)
+  meaning-raise (And a b) ρ = ap₂ (λ (x y : States). setOf n (λ s. has x s && has y s)) (meaning-raise a ρ) (meaning-raise b ρ)
+  meaning-raise (Or a b) ρ = ap₂ (λ (x y : States). setOf n (λ s. has x s || has y s)) (meaning-raise a ρ) (meaning-raise b ρ)
+  meaning-raise (Box α a) ρ = ap (λ (x : States). setOf n (boxIn n ts α x)) (meaning-raise a ρ)
+  meaning-raise (Diamond α a) ρ = ap (λ (x : States). setOf n (diamondIn n ts α x)) (meaning-raise a ρ)
   meaning-raise (Variable i) ρ = refl
   meaning-raise (Fix sign i a) ρ =
-      ap (λ (f : Set → Worked). iterate (suc n) f (start n sign) .0) (λ t v. (body v (meaning-raise a (bind ρ (i + 1) v)) t, 0))
+      ap (λ (f : States → Worked). iterate (suc n) f (start n sign) .0) (λ t v. (body v (meaning-raise a (bind ρ (i + 1) v)) t, 0))
     where
-      body : (v : Set) → meaning n ts (raise a) (bind ρ (i + 1) v) ≡ meaning n ts a (λ j. bind ρ (i + 1) v (j + 1))
+      body : (v : States) → meaning n ts (raise a) (bind ρ (i + 1) v) ≡ meaning n ts a (λ j. bind ρ (i + 1) v (j + 1))
           → meaning n ts (raise a) (bind ρ (i + 1) v) ≡ meaning n ts a (bind (λ j. ρ (j + 1)) i v)
       body v e = e ∙ ap (meaning n ts a) (λ t j. cond (same-raised j i t) v (ρ (j + 1)))
 
@@ -81,7 +81,7 @@ module _ (n : ℕ) (ts : List Transition) where
   whole-meaning a none ρ σ r q = go (bindsFirst a)
     where
       -- the nu that is put before it is equal to its body, with any set for its variable
-      w : Set
+      w : States
       w = meaning n ts (Fix true 0 (raise a)) ρ
 
       fixed : Extremal n true (λ u. Means n ts (raise a) (bind ρ 0 u) u) w

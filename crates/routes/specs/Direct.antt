@@ -4,17 +4,17 @@ use mathlib.Core.Bool.{true, false, _&&_, _||_}
 use Prim.Native.Nat.{ℕ, suc, _+_}
 use mathlib.Core.List.{List}
 use lib.ListN.{replicate}
-use Rattle.sets.specs.Set.{Set, has, start}
-use Rattle.sets.specs.Loop.{Run, Worked, iterate}
-use Rattle.solver.specs.Cells.{Valuation, bind}
+use Rattle.sets.specs.States.{States, has, start}
+use Rattle.sets.specs.Loop.{Loop, itself, Worked, iterate}
+use Rattle.sets.specs.Valuation.{Valuation, bind}
 use Rattle.cases.specs.Formula.{Formula, False, True, And, Or, Box, Diamond, Variable, Fix}
 use Rattle.cases.specs.declared.Transition.{Transition}
 use Rattle.cases.specs.Meaning.{setOf, boxIn, diamondIn}
 
 -- a set that is worked out from those of two operands, left first; the rounds add up
-pub record FromTwo (one two : Set → ℕ → Type 0) (op : Set → Set → Set) (v : Set) (r : ℕ) : Type 0 where
-  pub left : Set
-  pub right : Set
+pub record FromTwo (one two : States → ℕ → Type 0) (op : States → States → States) (v : States) (r : ℕ) : Type 0 where
+  pub left : States
+  pub right : States
   pub before : ℕ
   pub after : ℕ
   pub first : one left before
@@ -23,22 +23,22 @@ pub record FromTwo (one two : Set → ℕ → Type 0) (op : Set → Set → Set)
   pub sum : r ≡ before + after
 
 -- a set that is worked out from that of one operand, with no further round
-pub record FromOne (one : Set → ℕ → Type 0) (op : Set → Set) (v : Set) (r : ℕ) : Type 0 where
-  pub operand : Set
+pub record FromOne (one : States → ℕ → Type 0) (op : States → States) (v : States) (r : ℕ) : Type 0 where
+  pub operand : States
   pub first : one operand r
   pub set : v ≡ op operand
 
 -- intersection and union of sets of n states
-abbrev pub meet : ℕ → Set → Set → Set
+abbrev pub meet : ℕ → States → States → States
 meet n x y = setOf n (λ s. has x s && has y s)
 
-abbrev pub join : ℕ → Set → Set → Set
+abbrev pub join : ℕ → States → States → States
 join n x y = setOf n (λ s. has x s || has y s)
 
 module _ (n : ℕ) (ts : List Transition) where
-  -- Direct a ρ v r: where ρ gives each binder its set, the rules work out v for the formula a, in r rounds, as if there were no limit.
+  -- The paper's rule. Direct a ρ v r: where ρ gives each binder its set, the rules work out v for the formula a, in r rounds, as if there were no limit.
   -- A binder starts empty (mu) or full (nu) and runs the loop over its body.
-  unfoldable pub Direct : Formula → Valuation → Set → ℕ → Type 0
+  unfoldable pub Direct : Formula → Valuation → States → ℕ → Type 0
   Direct False ρ v r = (v ≡ replicate n false) × (r ≡ 0)
   Direct True ρ v r = (v ≡ replicate n true) × (r ≡ 0)
   Direct (And a b) ρ v r = FromTwo (Direct a ρ) (Direct b ρ) (meet n) v r
@@ -46,9 +46,9 @@ module _ (n : ℕ) (ts : List Transition) where
   Direct (Box α a) ρ v r = FromOne (Direct a ρ) (λ x. setOf n (boxIn n ts α x)) v r
   Direct (Diamond α a) ρ v r = FromOne (Direct a ρ) (λ x. setOf n (diamondIn n ts α x)) v r
   Direct (Variable i) ρ v r = (v ≡ ρ i) × (r ≡ 0)
-  Direct (Fix sign i a) ρ v r = Run (λ u. Direct a (bind ρ i u)) (start n sign) v r
+  Direct (Fix sign i a) ρ v r = Loop (itself (λ u. Direct a (bind ρ i u))) (start n sign) v r
 
-  -- The same by a function that computes: each loop has n + 1 turns at most.
+  -- The same by a function that computes; the paper's rule is Direct. Each loop has n + 1 turns at most.
   unfoldable pub worked : Formula → Valuation → Worked
   worked False ρ = (replicate n false, 0)
   worked True ρ = (replicate n true, 0)

@@ -1,67 +1,55 @@
 -- The two routes: what each works out, its own rounds, what it answers, and what it leaves in lent memory.
 use mathlib.Core.Path.{_≡_}
-use mathlib.Core.Bool.{Bool, cond, _||_}
-use mathlib.Core.List.{List, [], _∷_, _++_}
-use Prim.Native.Nat.{ℕ, _≤_}
-use lib.Dec.{eqb, ltb}
+use mathlib.Core.Bool.{Bool, false, _||_}
+use mathlib.Core.List.{List, [], _∷_, _++_, map}
+use Prim.Native.Nat.{ℕ}
+use lib.Dec.{ltb}
 use lib.ListN.{length, drop}
 use Rattle.sets.specs.Size.{wordCount}
-use Rattle.sets.specs.Set.{Set, has, size}
+use Rattle.sets.specs.States.{States, has, size}
 use Rattle.sets.specs.Words.{words, bit}
+use Rattle.sets.specs.Valuation.{none}
 use Rattle.sets.specs.Loop.{Worked}
-use Rattle.solver.specs.Cells.{none}
-use Rattle.solver.specs.File.{cellCount}
-use Rattle.solver.specs.Outcome.{Outcome, refused, byRefusal, firstOf, run, solveRefusal, solveWork, Scratch}
+use Rattle.sets.specs.Refusals.{Conditions, firstOf, Outcome, Spent, refused, byRefusal, outcomeBy}
+use Rattle.solver.specs.Cells.{evaluate}
+use Rattle.solver.specs.File.{cellCount, cells}
+use Rattle.solver.specs.Outcome.{run, Scratch}
 use Rattle.solver.specs.Outcome as Solver
-use Rattle.cases.specs.File.{actionCount, formulaTable}
 use Rattle.cases.specs.Case.{Case, caseOf}
-use Rattle.cases.specs.Conditions.{modelConditions, formulaConditions, caseRefusal}
 use Rattle.translate.specs.Bytes.{fileOf}
-use Rattle.translate.specs.Translating.{file, refusalIn}
+use Rattle.cases.specs.Conditions.{caseConditions}
+use Rattle.cases.specs.Opening.{caseNumber}
+use Rattle.translate.specs.Translating.{file, fileAfter}
 use Rattle.routes.specs.declared.Cause.{Cause}
-use Rattle.routes.specs.declared.Cause.the-variants.{Small, Version, Count, Offset, Length, Model, Actions, Formula, Variable, Depth, Layout, Table, Memory, Spent as Exceeded}
+use Rattle.routes.specs.declared.Cause.the-variants.{Open, Run}
 use Rattle.routes.specs.declared.Answer.{Answer}
 use Rattle.routes.specs.declared.Answer.the-variants.{Solved, Refused}
 use Rattle.routes.specs.declared.Numbers.{Numbers}
 use Rattle.routes.specs.Direct.{Direct, worked}
 
 -- the paper's number of each cause
-unfoldable pub number : Cause → ℕ
-number Small = 1
-number Version = 2
-number Count = 3
-number Offset = 4
-number Length = 5
-number Model = 6
-number Actions = 7
-number Formula = 8
-number Variable = 9
-number Depth = 10
-number Layout = 11
-number Table = 12
-number Memory = 13
-number Exceeded = 14
+unfoldable pub routeNumber : Cause → ℕ
+routeNumber (Open cause) = caseNumber cause
+routeNumber (Run cause) = Solver.solveNumber cause
 
 -- the outcome that an answer stands for
 unfoldable pub outcome : Answer → Outcome
 outcome (Solved r) = record { refusal = 0; verdict = bit (r .verdict); count = r .count; rounds = r .rounds }
-outcome (Refused cause) = refused (number cause)
+outcome (Refused cause) = refused (routeNumber cause)
 
 -- the outcome that numbers stand for
 unfoldable pub shown : Numbers → Outcome
 shown n = record { refusal = n .refusal; verdict = n .verdict; count = n .count; rounds = n .rounds }
 
--- The report of either route: is the initial state marked, how many states are, and the rounds.
-unfoldable pub routeReport : Case → Set → ℕ → Outcome
-routeReport c v r = record { refusal = 0; verdict = bit (has v (c .initial)); count = size v; rounds = r }
+-- ---- what a route works out of a case
 
 pub data Route : Type 0 where
   direct equation : Route
 
 -- Own rounds: what a route's rules count without a limit. Of direct: until the root's set is worked out. Of the equation route: on the
--- case's equation file, from block 0 until that block stops.
+-- case's equation file, from block 0 until that block stops. This is the paper's.
 unfoldable pub OwnRounds : Route → Case → ℕ → Type 0
-OwnRounds direct c r = (v : Set) × Direct (c .states) (c .transitions) (c .formula) (none (c .states)) v r
+OwnRounds direct c r = (v : States) × Direct (c .states) (c .transitions) (c .formula) (none (c .states)) v r
 OwnRounds equation c r = Solver.OwnRounds (fileOf c) r
 
 -- The same by functions that compute: the set of the root, or of block 0, and the rounds.
@@ -69,79 +57,82 @@ unfoldable pub runOf : Route → Case → Worked
 runOf direct c = worked (c .states) (c .transitions) (c .formula) (none (c .states))
 runOf equation c = (run (fileOf c) .0 0, run (fileOf c) .1)
 
--- so much memory is lent: bytes for the equation file, working bytes, mark words; direct looks at the mark words only
-pub record Lent : Type 0 where
-  pub file : ℕ
-  pub work : ℕ
-  pub marks : ℕ
-
-abbrev pub lent : List ℕ → List ℕ → List ℕ → Lent
-lent file work marks = record { file = length file; work = length work; marks = length marks }
-
--- The number of the first condition that holds, or 0. Direct: 1 to 10 of the case, then 13, then 14. The equation route: that of
--- translate, then that of solve on the file.
-unfoldable pub refusalOf : Route → List ℕ → Lent → ℕ → ℕ
-refusalOf direct b l limit =
-    byRefusal (caseRefusal b) (firstOf ((13, ltb (l .marks) wordCount) ∷ (14, ltb limit (runOf direct (caseOf b) .1)) ∷ [])) (caseRefusal b)
-refusalOf equation b l limit =
-    byRefusal (refusalIn b (l .file)) (solveRefusal (file b) (l .work) (l .marks) limit) (refusalIn b (l .file))
-
-unfoldable pub outcomeOf : Route → List ℕ → Lent → ℕ → Outcome
-outcomeOf R b l limit =
-    let k : ℕ = refusalOf R b l limit in
-    byRefusal k (routeReport (caseOf b) (runOf R (caseOf b) .0) (runOf R (caseOf b) .1)) (refused k)
-
--- After success the first words are the route's set; a refusal changes nothing.
-unfoldable pub marksAfter : Route → List ℕ → Lent → List ℕ → ℕ → List ℕ
-marksAfter R b l marks limit = byRefusal (refusalOf R b l limit) (words wordCount (runOf R (caseOf b) .0) ++ drop wordCount marks) marks
-
--- The file buffer starts with the file unless translate refuses, whatever solve then answers.
-unfoldable pub fileAfter : List ℕ → List ℕ → List ℕ
-fileAfter b buffer = cond (eqb (refusalIn b (length buffer)) 0) (file b ++ drop (length (file b)) buffer) buffer
-
--- The working bytes are those of solve unless translate refuses.
-unfoldable pub workAfter : List ℕ → ℕ → List ℕ → ℕ → ℕ → List ℕ
-workAfter b room work marks limit = byRefusal (refusalIn b room) (solveWork (file b) work marks limit) work
+-- a report: is the initial state marked, how many states are, and the rounds
+unfoldable pub routeReport : Case → States → ℕ → Outcome
+routeReport c v r = record { refusal = 0; verdict = bit (has v (c .initial)); count = size v; rounds = r }
 
 -- ---- the conditions in order
 
+-- what is lent: bytes for the equation file, working bytes and mark words, as they are before the call
+pub record Lent : Type 0 where
+  pub file : List ℕ
+  pub work : List ℕ
+  pub marks : List ℕ
+
+abbrev pub lent : List ℕ → List ℕ → List ℕ → Lent
+lent file work marks = record { file = file; work = work; marks = marks }
+
+-- direct is lent mark words only
+abbrev pub marksOnly : List ℕ → Lent
+marksOnly marks = lent [] [] marks
+
 -- 13: the lent memory is too short. It looks at the marks in both routes, and in the equation route also at the file buffer, which needs
 -- the file's length, and at the working bytes.
-unfoldable pub tooShort : Route → List ℕ → Lent → Bool
-tooShort direct b l = ltb (l .marks) wordCount
-tooShort equation b l = ltb (l .file) (length (file b)) || Solver.tooShort (file b) (l .work) (l .marks)
+unfoldable pub tooShort : Route → Case → Lent → Bool
+tooShort direct c l = ltb (length (l .marks)) wordCount
+tooShort equation c l = ltb (length (l .file)) (length (fileOf c)) || Solver.tooShort (fileOf c) (length (l .work)) (length (l .marks))
 
--- 1 to 10 are of the case, 14 says that the rounds exceed the limit; a route asks neither 11 nor 12
-unfoldable pub conditionsOf : Route → List ℕ → Lent → ℕ → List (ℕ × Bool)
-conditionsOf R b l limit =
-    (modelConditions b ++ formulaConditions (actionCount b) (formulaTable b)) ++ ((13, tooShort R b l) ∷ (14, ltb limit (runOf R (caseOf b) .1)) ∷ [])
+-- 14: the rounds exceed the limit
+unfoldable pub exceeds : Route → Case → ℕ → Bool
+exceeds R c limit = ltb limit (runOf R c .1)
 
--- ---- the paper's own terms
+-- the conditions of a run over a case
+unfoldable pub runConditions : Route → Case → Lent → ℕ → Conditions
+runConditions R c l limit = (13, tooShort R c l) ∷ (14, exceeds R c limit) ∷ []
+
+-- Of a case's bytes 1 to 10 come first; a route asks neither 11 nor 12.
+unfoldable pub routeConditions : Route → List ℕ → Lent → ℕ → Conditions
+routeConditions R b l limit = caseConditions b ++ runConditions R (caseOf b) l limit
 
 -- Lent memory is enough for a route if 13 does not hold.
-unfoldable pub Enough : Route → List ℕ → Lent → Type 0
-Enough direct b l = wordCount ≤ l .marks
-Enough equation b l = (length (file b) ≤ l .file) × (cellCount (file b) ≤ l .work) × (wordCount ≤ l .marks)
+abbrev pub Enough : Route → Case → Lent → Type 0
+Enough R c l = tooShort R c l ≡ false
 
--- A route gives marks exactly when it answers a report: its number is 0.
-abbrev pub GivesMarks : Route → List ℕ → Lent → ℕ → Type 0
-GivesMarks R b l limit = outcomeOf R b l limit .refusal ≡ 0
+-- ---- what is answered and left, by the conditions
 
--- A route is spent if it refuses with 14.
-abbrev pub Spent : Route → List ℕ → Lent → ℕ → Type 0
-Spent R b l limit = outcomeOf R b l limit .refusal ≡ 14
+-- the report, or the number of the first condition that holds
+unfoldable pub routeOutcome : Conditions → Route → Case → Outcome
+routeOutcome cs R c = outcomeBy cs (routeReport c (runOf R c .0) (runOf R c .1))
+
+-- of any bytes
+abbrev pub outcomeOf : Route → List ℕ → Lent → ℕ → Outcome
+outcomeOf R b l limit = routeOutcome (routeConditions R b l limit) R (caseOf b)
+
+-- After success the first words are the route's set; a refusal changes nothing.
+unfoldable pub marksAfter : Conditions → Route → Case → List ℕ → List ℕ
+marksAfter cs R c marks = byRefusal (firstOf cs) (words wordCount (runOf R c .0) ++ drop wordCount marks) marks
+
+-- After success the first working bytes are 1 or 0 for each cell under the solution; a refusal but 14 changes nothing.
+unfoldable pub workAfter : List ℕ → Lent → ℕ → List ℕ
+workAfter b l limit =
+    byRefusal (firstOf (routeConditions equation b l limit))
+    (map bit (evaluate (cells (file b)) (run (file b) .0)) ++ drop (cellCount (file b)) (l .work)) (l .work)
 
 -- ---- the contracts
 
--- What direct promises, with the words lent and as they are afterwards.
-pub record Directed (b marks : List ℕ) (limit : ℕ) (answer : Answer) (after : List ℕ) : Type 0 where
-  pub answers : outcome answer ≡ outcomeOf direct b (lent [] [] marks) limit
-  pub marks-are : after ≡ marksAfter direct b (lent [] [] marks) marks limit
+-- What every run promises of the outcome o of its answer, and of the words lent and as they are afterwards: by the conditions cs, of the case c.
+pub record RanBy (cs : Conditions) (R : Route) (c : Case) (marks : List ℕ) (o : Outcome) (after : List ℕ) : Type 0 where
+  pub answers : o ≡ routeOutcome cs R c
+  pub marks-are : after ≡ marksAfter cs R c marks
 
--- What the equation route promises, with the bytes and words lent and as they are afterwards. After 14 each of the c working bytes is 0 or 1.
-pub record Routed (b buffer work marks : List ℕ) (limit : ℕ) (answer : Answer) (bufferAfter workAfter′ marksAfter′ : List ℕ) : Type 0 where
-  pub answers : outcome answer ≡ outcomeOf equation b (lent buffer work marks) limit
-  pub file-is : bufferAfter ≡ fileAfter b buffer
-  pub marks-are : marksAfter′ ≡ marksAfter equation b (lent buffer work marks) marks limit
-  pub work-is : ¬ (outcome answer .refusal ≡ 14) → workAfter′ ≡ workAfter b (length buffer) work (length marks) limit
-  pub work-14 : outcome answer .refusal ≡ 14 → Scratch (cellCount (file b)) work workAfter′
+-- What a route promises of any bytes. Direct promises this.
+pub record Ran (R : Route) (b : List ℕ) (l : Lent) (limit : ℕ) (o : Outcome) (after : List ℕ) : Type 0 where
+  pub by : RanBy (routeConditions R b l limit) R (caseOf b) (l .marks) o after
+
+-- What the equation route promises: this, and the bytes of the file buffer, which are translate's whatever solve then answers, and the working
+-- bytes. After 14 each of the c working bytes is 0 or 1.
+pub record EquationRan (b : List ℕ) (l : Lent) (limit : ℕ) (o : Outcome) (file′ work′ marks′ : List ℕ) : Type 0 where
+  pub ran : Ran equation b l limit o marks′
+  pub file-is : file′ ≡ fileAfter b (l .file)
+  pub work-is : ¬ Spent o → work′ ≡ workAfter b l limit
+  pub work-14 : Spent o → Scratch (cellCount (file b)) (l .work) work′

@@ -4,21 +4,14 @@ use crate::modal::modal_set;
 use crate::tables::blocks_of;
 use crate::tables::masks_of;
 use cases::Header;
-use cases::header_of;
 use cases::node_at;
 use sets::WORDS;
 use solver::BLOCKS;
 ghost use mathlib.Core.Path.{_≡_};
 ghost use Prim.Native.Nat.{_<_};
-ghost use Rattle.solver.specs.Cells.{none};
-ghost use Rattle.cases.specs.Prefix.{actionAt, formulaAt};
-ghost use Rattle.cases.specs.Case.{caseOf};
-ghost use Rattle.cases.specs.Conditions.{Accepted};
-ghost use Rattle.cases.specs.Checks.{transitionsIn, nodesIn};
-ghost use Rattle.routes.specs.Direct.{worked};
 ghost use Rattle.routes.specs.Route.{direct, runOf};
-ghost use Rattle.routes.specs.Answering.{Rooted};
-ghost use Rattle.routes.specs.Evaluating.{value, Records, ActionPart, FormulaPart, Asks, KindAt, Evaluated};
+ghost use Rattle.routes.specs.internal.Answering.{Rooted};
+ghost use Rattle.routes.specs.internal.Evaluating.{value, caseIn, CaseParts, Asks, KindAt, Evaluated};
 
 fn wide(x: u8) -> usize
     ensures { λ r. ⌜ r ≡ x ⌝ }
@@ -179,32 +172,12 @@ fn binder(
 }
 
 // The set of a formula's root. It is handed the counts, and the parts of the case that start at its tables.
-fn evaluate_root(h: Header, records: &[u8], actions: &[u8], formula: &[u8], limit: u64) -> Value
-    requires { ⌜ Records (now records) (h .transitions) (h .states) (h .labels)
-        × ActionPart (now actions) (h .actions) × FormulaPart (now formula) (h .nodes) (h .actions) ⌝ }
-    ensures { λ r. ⌜ Rooted (worked (h .states) (transitionsIn (now (records .entry)) (h .transitions))
-        (formulaAt (actionAt (nodesIn (now (actions .entry)) (h .actions))) (nodesIn (now (formula .entry)) (h .nodes)) 0) (none (h .states))) limit r ⌝ }
+pub fn evaluate_root(h: Header, records: &[u8], actions: &[u8], formula: &[u8], limit: u64) -> Value
+    requires { ⌜ CaseParts h (now records) (now actions) (now formula) ⌝ }
+    ensures { λ r. ⌜ Rooted (runOf direct (caseIn h (now (records .entry)) (now (actions .entry)) (now (formula .entry)))) limit r ⌝ }
 {
     let labels = masks_of(actions, h.actions, formula, h.nodes);
     let blocks = blocks_of(formula, h.nodes);
     let sets = [[0u64; WORDS]; BLOCKS];
     evaluate(h, records, formula, &labels, &blocks, &sets, 0, 0, limit)
-}
-
-// The set of the formula of an accepted case.
-pub fn evaluate_case(case: &[u8], limit: u64) -> Value
-    requires { ⌜ Accepted (now case) ⌝ }
-    ensures { λ r. ⌜ Rooted (runOf direct (caseOf (now (case .entry)))) limit r ⌝ }
-{
-    let h = header_of(case);
-    let records = h.first;
-    let actions = h.second;
-    let formula = h.third;
-    evaluate_root(
-        h,
-        &case[records..],
-        &case[actions..],
-        &case[formula..],
-        limit,
-    )
 }

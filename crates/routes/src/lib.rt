@@ -5,38 +5,27 @@ mod outcome;
 mod tables;
 
 use cases::Header;
-use cases::header_of;
-use evaluate::evaluate_case;
+use cases::Opened;
+use evaluate::evaluate_root;
 pub use outcome::numbers_of;
 pub use outcome::solving_answer;
-use outcome::solving_cause;
 use sets::WORDS;
 use translate::Written;
 ghost use mathlib.Core.Path.{_≡_};
 ghost use Prim.Native.Nat.{_<_, _≤_};
-ghost use Rattle.solver.specs.Outcome.{refused as Outcome·refused};
-ghost use Rattle.cases.specs.Case.{caseOf};
+ghost use Rattle.sets.specs.Size.{stateLimit};
+ghost use Rattle.sets.specs.Refusals.{refused as Outcome·refused};
+ghost use Rattle.cases.specs.File.{headerOf};
 ghost use Rattle.cases.specs.Conditions.{Accepted};
-ghost use Rattle.translate.specs.Translating.{file as Translating·file, number as Translating·number};
-ghost use Rattle.routes.specs.Route.{number, outcome, Directed, Routed};
-ghost use Rattle.routes.specs.Answering.{Reported, Finished};
+ghost use Rattle.translate.specs.Translating.{translateNumber, writtenNumber};
+ghost use Rattle.routes.specs.Route.{routeNumber, outcome, direct as Route·direct, lent, marksOnly, runConditions, RanBy, Ran, EquationRan};
+ghost use Rattle.routes.specs.internal.Answering.{Reported};
+ghost use Rattle.routes.specs.internal.Evaluating.{caseIn, CaseParts};
 
-// Why a case gets no marks: conditions 1 to 14, in order.
+// Why a case gets no marks: found on opening it, or on running it.
 pub enum Cause {
-    Small,
-    Version,
-    Count,
-    Offset,
-    Length,
-    Model,
-    Actions,
-    Formula,
-    Variable,
-    Depth,
-    Layout,
-    Table,
-    Memory,
-    Spent,
+    Open(cases::Cause),
+    Run(solver::Cause),
 }
 
 // What is reported of a case with its marks.
@@ -68,67 +57,11 @@ pub struct Value {
     pub spent: bool,
 }
 
-// The cause with a number of 8 and more.
-fn later_cause(k: u8) -> Cause
-    requires { ⌜ (7 < k) × (k ≤ 14) ⌝ }
-    ensures { λ r. ⌜ number r ≡ k ⌝ }
-{
-    if k == 8 {
-        return Cause::Formula;
-    }
-    if k == 9 {
-        return Cause::Variable;
-    }
-    if k == 10 {
-        return Cause::Depth;
-    }
-    if k == 11 {
-        return Cause::Layout;
-    }
-    if k == 12 {
-        return Cause::Table;
-    }
-    if k == 13 {
-        return Cause::Memory;
-    }
-    Cause::Spent
-}
-
-// The cause with a number.
-fn cause_of(k: u8) -> Cause
-    requires { ⌜ (0 < k) × (k ≤ 14) ⌝ }
-    ensures { λ r. ⌜ number r ≡ k ⌝ }
-{
-    if 7 < k {
-        return later_cause(k);
-    }
-    if k == 1 {
-        return Cause::Small;
-    }
-    if k == 2 {
-        return Cause::Version;
-    }
-    if k == 3 {
-        return Cause::Count;
-    }
-    if k == 4 {
-        return Cause::Offset;
-    }
-    if k == 5 {
-        return Cause::Length;
-    }
-    if k == 6 {
-        return Cause::Model;
-    }
-    Cause::Actions
-}
-
 // What is reported of a set of states, after so many rounds.
-fn report_of(case: &[u8], set: [u64; WORDS], rounds: u64) -> Report
-    requires { ⌜ Accepted (now case) ⌝ }
-    ensures { λ r. ⌜ Reported (caseOf (now (case .entry))) set rounds r ⌝ }
+fn report_of(h: Header, set: [u64; WORDS], rounds: u64) -> Report
+    requires { ⌜ (h .states ≤ stateLimit) × (h .initial < stateLimit) ⌝ }
+    ensures { λ r. ⌜ Reported h set rounds r ⌝ }
 {
-    let h = header_of(case);
     Report {
         verdict: sets::test(&set, h.initial),
         count: sets::count(&set, h.states),
@@ -136,53 +69,82 @@ fn report_of(case: &[u8], set: [u64; WORDS], rounds: u64) -> Report
     }
 }
 
-// Evaluates the formula of a case on sets of states. Lends the words of a set for the marks.
-pub fn direct(case: &[u8], marks: &mut [u64], limit: u64) -> Answer
-    ensures { λ r. ⌜ Directed (now (case .entry)) (now (marks .entry)) limit r (now (marks .exit)) ⌝ }
+// Direct on the header of a case and the parts of its file that start at its tables.
+pub fn direct_parts(
+    h: Header,
+    records: &[u8],
+    actions: &[u8],
+    formula: &[u8],
+    marks: &mut [u64],
+    limit: u64,
+) -> Answer
+    requires { ⌜ CaseParts h (now records) (now actions) (now formula) ⌝ }
+    ensures { λ r. ⌜ RanBy
+        (runConditions Route·direct (caseIn h (now (records .entry)) (now (actions .entry)) (now (formula .entry))) (marksOnly (now (marks .entry))) limit)
+        Route·direct (caseIn h (now (records .entry)) (now (actions .entry)) (now (formula .entry))) (now (marks .entry)) (outcome r) (now (marks .exit)) ⌝ }
 {
-    let k = cases::refusal(case);
-    if k != 0 {
-        return Answer::Refused(cause_of(k));
-    }
     if marks.len() < WORDS {
-        return Answer::Refused(Cause::Memory);
+        return Answer::Refused(Cause::Run(solver::Cause::Memory));
     }
-    let value = evaluate_case(case, limit);
+    let value = evaluate_root(h, records, actions, formula, limit);
     if value.spent {
-        return Answer::Refused(Cause::Spent);
+        return Answer::Refused(Cause::Run(solver::Cause::Spent));
     }
     let set = value.set;
     sets::store(marks, set);
-    Answer::Solved(report_of(case, set, value.rounds))
+    Answer::Solved(report_of(h, set, value.rounds))
+}
+
+// Direct on an accepted case and its header.
+fn direct_opened(case: &[u8], h: Header, marks: &mut [u64], limit: u64) -> Answer
+    requires { ⌜ Accepted (now case) × (h ≡ headerOf (now case)) ⌝ }
+    ensures { λ r. ⌜ Ran Route·direct (now (case .entry)) (marksOnly (now (marks .entry))) limit (outcome r) (now (marks .exit)) ⌝ }
+{
+    let records = h.transitions_at;
+    let actions = h.actions_at;
+    let formula = h.formula_at;
+    direct_parts(
+        h,
+        &case[records..],
+        &case[actions..],
+        &case[formula..],
+        marks,
+        limit,
+    )
+}
+
+// Evaluates the formula of a case on sets of states. Is lent the words of a set for the marks.
+pub fn direct(case: &[u8], marks: &mut [u64], limit: u64) -> Answer
+    ensures { λ r. ⌜ Ran Route·direct (now (case .entry)) (marksOnly (now (marks .entry))) limit (outcome r) (now (marks .exit)) ⌝ }
+{
+    match cases::open(case) {
+        Opened::Accepted(h) => direct_opened(case, h, marks, limit),
+        Opened::Refused(cause) => Answer::Refused(Cause::Open(cause)),
+    }
+}
+
+// The cause of a refusal of translate's.
+fn translating_cause(cause: translate::Cause) -> Cause
+    ensures { λ r. ⌜ routeNumber r ≡ translateNumber cause ⌝ }
+{
+    match cause {
+        translate::Cause::Open(cause) => Cause::Open(cause),
+        translate::Cause::Memory => Cause::Run(solver::Cause::Memory),
+    }
 }
 
 // The refusal of a translation that wrote no file.
 fn unwritten(written: Written) -> Answer
-    requires { ⌜ (0 < Translating·number written) × (Translating·number written ≤ 14) ⌝ }
-    ensures { λ r. ⌜ outcome r ≡ Outcome·refused (Translating·number written) ⌝ }
+    requires { ⌜ ¬ (writtenNumber written ≡ 0) ⌝ }
+    ensures { λ r. ⌜ outcome r ≡ Outcome·refused (writtenNumber written) ⌝ }
 {
     match written {
-        Written::File(_) => Answer::Refused(Cause::Memory),
-        Written::Refused(k) => Answer::Refused(cause_of(k)),
+        Written::File(_) => Answer::Refused(Cause::Run(solver::Cause::Memory)),
+        Written::Refused(cause) => Answer::Refused(translating_cause(cause)),
     }
 }
 
-// Solves the equation file of a case.
-fn solve_written(case: &[u8], file: &[u8], work: &mut [u8], marks: &mut [u64], limit: u64) -> Answer
-    requires { ⌜ Accepted (now case) × (now file ≡ Translating·file (now case)) ⌝ }
-    ensures { λ r. ⌜ Finished (now (case .entry)) (now (work .entry)) (now (marks .entry)) limit r (now (work .exit)) (now (marks .exit)) ⌝ }
-{
-    match solver::solve(file, work, marks, limit) {
-        solver::Answer::Solved(report) => Answer::Solved(report_of(
-            case,
-            sets::load(marks),
-            report.rounds,
-        )),
-        solver::Answer::Refused(cause) => Answer::Refused(solving_cause(cause)),
-    }
-}
-
-// Translates a case and solves its equation file. Lends bytes for the file, a working byte for each cell, and the words of a set for
+// Translates a case and solves its equation file. Is lent bytes for the file, a working byte for each cell, and the words of a set for
 // the marks.
 pub fn equation(
     case: &[u8],
@@ -191,11 +153,12 @@ pub fn equation(
     marks: &mut [u64],
     limit: u64,
 ) -> Answer
-    ensures { λ r. ⌜ Routed (now (case .entry)) (now (file .entry)) (now (work .entry)) (now (marks .entry)) limit r (now (file .exit)) (now (work .exit)) (now (marks .exit)) ⌝ }
+    ensures { λ r. ⌜ EquationRan (now (case .entry)) (lent (now (file .entry)) (now (work .entry)) (now (marks .entry))) limit (outcome r)
+        (now (file .exit)) (now (work .exit)) (now (marks .exit)) ⌝ }
 {
     let written = translate::translate(case, file);
     let Written::File(length) = written else {
         return unwritten(written);
     };
-    solve_written(case, &file[..length], work, marks, limit)
+    solving_answer(solver::solve(&file[..length], work, marks, limit))
 }

@@ -8,20 +8,20 @@ ghost use Prim.Native.Nat.{_<_, _≤_};
 ghost use lib.Dec.{eqb};
 ghost use lib.ListN.{length, set as ListN·set};
 ghost use Rattle.sets.specs.Size.{wordCount, stateLimit};
-ghost use Rattle.sets.specs.Set.{Set, has};
-ghost use Rattle.sets.specs.Lists.{any};
+ghost use Rattle.sets.specs.States.{States, has};
+ghost use Rattle.sets.specs.Lists.{forSome};
 ghost use Rattle.sets.specs.Words.{words};
 ghost use Rattle.cases.specs.Limits.{labelLimit};
 ghost use Rattle.cases.specs.Action.{Action, accepts};
-ghost use Rattle.cases.specs.Masks.{maskOf};
+ghost use Rattle.cases.specs.internal.Masks.{maskOf};
 ghost use Rattle.cases.specs.Meaning.{setOf, from};
-ghost use Rattle.cases.specs.Checks.{transitionsIn};
-ghost use Rattle.routes.specs.Evaluating.{modalIn, Records};
+ghost use Rattle.cases.specs.internal.Checks.{transitionsIn};
+ghost use Rattle.routes.specs.internal.Evaluating.{modalIn, Records};
 
 // Whether a transition has one of the labels, and its target is in the set exactly if `inside`.
 fn leads(t: Transition, labels: u64, set: &[u64; WORDS], inside: bool) -> bool
     requires { ⌜ (t .label < labelLimit) × (t .target < stateLimit) ⌝ }
-    ensures { λ r. ⌜ ((α : Action) (v : Set) → labels ≡ maskOf α → length v ≤ stateLimit → now (set .entry) ≡ words wordCount v
+    ensures { λ r. ⌜ ((α : Action) (v : States) → labels ≡ maskOf α → length v ≤ stateLimit → now (set .entry) ≡ words wordCount v
         → r ≡ (accepts eqb α (t .label) && Bool·beq (has v (t .target)) inside)) ⌝ }
 {
     if (labels >> t.label) % 2 != 1 {
@@ -39,7 +39,7 @@ fn with_source(
     inside: bool,
 )
     requires { ⌜ (t .source < stateLimit) × (t .label < labelLimit) × (t .target < stateLimit) ⌝ }
-    ensures { λ _. ⌜ ((α : Action) (v w : Set) → labels ≡ maskOf α → length v ≤ stateLimit → now (set .entry) ≡ words wordCount v
+    ensures { λ _. ⌜ ((α : Action) (v w : States) → labels ≡ maskOf α → length v ≤ stateLimit → now (set .entry) ≡ words wordCount v
         → t .source < length w → now (found .entry) ≡ words wordCount w
         → now (found .exit) ≡ words wordCount (cond (accepts eqb α (t .label) && Bool·beq (has v (t .target)) inside)
         (ListN·set w (t .source) true) w)) ⌝ }
@@ -60,8 +60,8 @@ fn sources(
     inside: bool,
 ) -> [u64; WORDS]
     requires { ⌜ Records (now records) m n l ⌝ }
-    ensures { λ r. ⌜ ((α : Action) (v : Set) → labels ≡ maskOf α → length v ≡ n → set ≡ words wordCount v
-        → r ≡ words wordCount (setOf n (λ s. any (λ t. from s α t && Bool·beq (has v (t .target)) inside) (transitionsIn (now (records .entry)) m)))) ⌝ }
+    ensures { λ r. ⌜ ((α : Action) (v : States) → labels ≡ maskOf α → length v ≡ n → set ≡ words wordCount v
+        → r ≡ words wordCount (setOf n (λ s. forSome (λ t. from s α t && Bool·beq (has v (t .target)) inside) (transitionsIn (now (records .entry)) m)))) ⌝ }
 {
     let mut found = sets::empty();
     let mut i = 0;
@@ -83,7 +83,7 @@ pub fn modal_set(
     diamond: bool,
 ) -> [u64; WORDS]
     requires { ⌜ Records (now records) m n l ⌝ }
-    ensures { λ r. ⌜ ((α : Action) (v : Set) → labels ≡ maskOf α → length v ≡ n → set ≡ words wordCount v
+    ensures { λ r. ⌜ ((α : Action) (v : States) → labels ≡ maskOf α → length v ≡ n → set ≡ words wordCount v
         → r ≡ words wordCount (setOf n (modalIn diamond n (transitionsIn (now (records .entry)) m) α v))) ⌝ }
 {
     if diamond {

@@ -5,20 +5,8 @@ use crate::Numbers;
 use crate::Report;
 ghost use mathlib.Core.Path.{_≡_};
 ghost use Rattle.sets.specs.Words.{bit};
-ghost use Rattle.solver.specs.Outcome.{number as Solver·number, outcome as Solver·outcome};
-ghost use Rattle.routes.specs.Route.{number, outcome, shown};
-
-// A cause of solve's.
-pub fn solving_cause(cause: solver::Cause) -> Cause
-    ensures { λ r. ⌜ number r ≡ Solver·number cause ⌝ }
-{
-    match cause {
-        solver::Cause::Layout => Cause::Layout,
-        solver::Cause::Table => Cause::Table,
-        solver::Cause::Memory => Cause::Memory,
-        solver::Cause::Spent => Cause::Spent,
-    }
-}
+ghost use Rattle.solver.specs.Outcome.{solveNumber, outcome as Solver·outcome};
+ghost use Rattle.routes.specs.Route.{routeNumber, outcome, shown};
 
 // An answer of solve's.
 pub fn solving_answer(answer: solver::Answer) -> Answer
@@ -30,29 +18,29 @@ pub fn solving_answer(answer: solver::Answer) -> Answer
             count: report.count,
             rounds: report.rounds,
         }),
-        solver::Answer::Refused(cause) => Answer::Refused(solving_cause(cause)),
+        solver::Answer::Refused(cause) => Answer::Refused(Cause::Run(cause)),
+    }
+}
+
+// The number of a cause that is found on running a case.
+fn running_number(cause: solver::Cause) -> u64
+    ensures { λ r. ⌜ r ≡ solveNumber cause ⌝ }
+{
+    match cause {
+        solver::Cause::Layout => 11,
+        solver::Cause::Table => 12,
+        solver::Cause::Memory => 13,
+        solver::Cause::Spent => 14,
     }
 }
 
 // The number of a cause.
 fn number_of(cause: Cause) -> u64
-    ensures { λ r. ⌜ r ≡ number cause ⌝ }
+    ensures { λ r. ⌜ r ≡ routeNumber cause ⌝ }
 {
     match cause {
-        Cause::Small => 1,
-        Cause::Version => 2,
-        Cause::Count => 3,
-        Cause::Offset => 4,
-        Cause::Length => 5,
-        Cause::Model => 6,
-        Cause::Actions => 7,
-        Cause::Formula => 8,
-        Cause::Variable => 9,
-        Cause::Depth => 10,
-        Cause::Layout => 11,
-        Cause::Table => 12,
-        Cause::Memory => 13,
-        Cause::Spent => 14,
+        Cause::Open(cause) => cases::number_of(cause) as u64,
+        Cause::Run(cause) => running_number(cause),
     }
 }
 

@@ -10,9 +10,9 @@ ghost use lib.ListN.{length};
 ghost use Rattle.cases.specs.Limits.{nodeLimit};
 ghost use Rattle.cases.specs.Prefix.{actionAt};
 ghost use Rattle.cases.specs.Conditions.{nodeAt, isBinder};
-ghost use Rattle.cases.specs.Masks.{maskOf};
-ghost use Rattle.cases.specs.Checks.{nodesIn, Holds};
-ghost use Rattle.routes.specs.Evaluating.{isModal, ActionPart, FormulaPart, Masks, Blocks};
+ghost use Rattle.cases.specs.internal.Masks.{maskOf};
+ghost use Rattle.cases.specs.internal.Checks.{nodesIn, Holds};
+ghost use Rattle.routes.specs.internal.Evaluating.{isModal, ActionPart, FormulaPart, Masks, Blocks};
 
 // The mask of the labels that node i accepts; 0 where it is no box or diamond.
 fn mask_of(actions: &[u8], a: usize, formula: &[u8], f: usize, i: usize) -> u64

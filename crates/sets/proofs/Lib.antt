@@ -4,5 +4,7 @@ pub mod Order
 pub mod FixedPoint
 pub mod Turns
 pub mod Words
+pub mod Valuation
 pub mod Masks
 pub mod Stores
+pub mod Refusals

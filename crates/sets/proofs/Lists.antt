@@ -9,22 +9,22 @@ use native.Mathlib.Omega.{arith}
 use lib.Dec.{T, ltb, ltb→lt}
 use lib.ListN.{length, getD, take, drop, length-map, drop-of-length-le}
 use lib.Seq.{drop-cons}
-use Rattle.sets.specs.Lists.{range, all, any}
+use Rattle.sets.specs.Lists.{numbersFrom, every, forSome, sum}
 
 -- range i k has k numbers
-pub length-range : (i k : ℕ) → length (range i k) ≡ k
-unfolding range
+pub length-range : (i k : ℕ) → length (numbersFrom i k) ≡ k
+unfolding numbersFrom
 length-range i zero = refl
 length-range i (suc k) = ap suc (length-range (suc i) k)
 
 -- the number at place j
-getD-range : (i k j d : ℕ) → j < k → getD (range i k) j d ≡ i + j
-unfolding range
+getD-range : (i k j d : ℕ) → j < k → getD (numbersFrom i k) j d ≡ i + j
+unfolding numbersFrom
 getD-range i zero j d h = absurd (omega arith)
 getD-range i (suc k) zero d h = omega arith
 getD-range i (suc k) (suc j) d h = getD-range (suc i) k j d (omega arith) ∙ (omega arith)
 
-pub range-at : (k j d : ℕ) → j < k → getD (range 0 k) j d ≡ j
+pub range-at : (k j d : ℕ) → j < k → getD (numbersFrom 0 k) j d ≡ j
 range-at k j d h = getD-range 0 k j d h ∙ zero-add j
 
 -- an element of a mapped list, whatever stands for an element past the end
@@ -45,18 +45,36 @@ drop-map f [] (suc i) = refl
 drop-map f (x ∷ xs) (suc i) = drop-map f xs i
 
 -- f of a range of numbers: how many, and each
-pub length-map-range : {B : Type 0} (f : ℕ → B) (i k : ℕ) → length (map f (range i k)) ≡ k
-length-map-range f i k = length-map (range i k) f ∙ length-range i k
+pub length-map-range : {B : Type 0} (f : ℕ → B) (i k : ℕ) → length (map f (numbersFrom i k)) ≡ k
+length-map-range f i k = length-map (numbersFrom i k) f ∙ length-range i k
 
-pub getD-map-range : {B : Type 0} (f : ℕ → B) (i k j : ℕ) (b : B) → j < k → getD (map f (range i k)) j b ≡ f (i + j)
-getD-map-range f i k j b h = getD-map f (range i k) j 0 b (omega (arith, length-range i k)) ∙ ap f (getD-range i k j 0 h)
+pub getD-map-range : {B : Type 0} (f : ℕ → B) (i k j : ℕ) (b : B) → j < k → getD (map f (numbersFrom i k)) j b ≡ f (i + j)
+getD-map-range f i k j b h = getD-map f (numbersFrom i k) j 0 b (omega (arith, length-range i k)) ∙ ap f (getD-range i k j 0 h)
 
 -- the table of f at the first k numbers
-pub length-table : {B : Type 0} (f : ℕ → B) (k : ℕ) → length (map f (range 0 k)) ≡ k
+pub length-table : {B : Type 0} (f : ℕ → B) (k : ℕ) → length (map f (numbersFrom 0 k)) ≡ k
 length-table f k = length-map-range f 0 k
 
-pub table-at : {B : Type 0} (f : ℕ → B) (k i : ℕ) (b : B) → i < k → getD (map f (range 0 k)) i b ≡ f i
+pub table-at : {B : Type 0} (f : ℕ → B) (k i : ℕ) (b : B) → i < k → getD (map f (numbersFrom 0 k)) i b ≡ f i
 table-at f k i b h = getD-map-range f 0 k i b h ∙ ap f (zero-add i)
+
+-- the sum of f over the first elements of a list: one element more, and it grows
+pub sum-next : {A : Type 0} (f : A → ℕ) (xs : List A) (i : ℕ) (d : A) → i < length xs
+    → sum (map f (take (i + 1) xs)) ≡ sum (map f (take i xs)) + f (getD xs i d)
+unfolding sum
+sum-next f xs i d h = rw add-one (go xs i h)
+  where
+    go : (xs : List _) (i : ℕ) → i < length xs → sum (map f (take (suc i) xs)) ≡ sum (map f (take i xs)) + f (getD xs i d)
+    go [] i h = absurd (omega arith)
+    go (x ∷ xs) zero h = omega arith
+    go (x ∷ xs) (suc i) h = omega (arith, go xs i (omega arith))
+
+pub sum-grows : {A : Type 0} (f : A → ℕ) (xs : List A) (i j : ℕ) → i ≤ j → sum (map f (take i xs)) ≤ sum (map f (take j xs))
+unfolding sum
+sum-grows f xs zero j h = omega arith
+sum-grows f xs (suc i) zero h = absurd (omega arith)
+sum-grows f [] (suc i) (suc j) h = omega arith
+sum-grows f (x ∷ xs) (suc i) (suc j) h = omega (arith, sum-grows f xs i j (omega arith))
 
 -- the truth values differ
 pub false-true : ¬ (false ≡ true)
@@ -104,25 +122,25 @@ module _ {A : Type 0} (f : List A → Bool) (l : List A) (j : ℕ) (left : f l �
   loop-next d x h is = left ∙ ap f (drop-next l j d x h is)
 
 -- a property of all elements holds of each
-pub all-at : {A : Type 0} (p : A → Bool) (xs : List A) (j : ℕ) (d : A) → j < length xs → T (all p xs) → T (p (getD xs j d))
-unfolding all
+pub all-at : {A : Type 0} (p : A → Bool) (xs : List A) (j : ℕ) (d : A) → j < length xs → T (every p xs) → T (p (getD xs j d))
+unfolding every
 all-at p [] j d h t = absurd (omega arith)
-all-at p (x ∷ xs) zero d h t = and-left (p x) (all p xs) t
-all-at p (x ∷ xs) (suc j) d h t = all-at p xs j d (omega arith) (and-right (p x) (all p xs) t)
+all-at p (x ∷ xs) zero d h t = and-left (p x) (every p xs) t
+all-at p (x ∷ xs) (suc j) d h t = all-at p xs j d (omega arith) (and-right (p x) (every p xs) t)
 
 -- test k of a list of tests
-pub test : (k : ℕ) (ts : List Bool) → T (all (λ t. t) ts) → T (ltb k (length ts)) → T (getD ts k true)
+pub test : (k : ℕ) (ts : List Bool) → T (every (λ t. t) ts) → T (ltb k (length ts)) → T (getD ts k true)
 test k ts t h = all-at (λ t. t) ts k true (ltb→lt _ _ h) t
 
 -- a property of each element holds of all
-pub all-from : {A : Type 0} (p : A → Bool) (xs : List A) (d : A) → ((j : ℕ) → j < length xs → T (p (getD xs j d))) → T (all p xs)
-unfolding all
+pub all-from : {A : Type 0} (p : A → Bool) (xs : List A) (d : A) → ((j : ℕ) → j < length xs → T (p (getD xs j d))) → T (every p xs)
+unfolding every
 all-from p [] d h = tt
-all-from p (x ∷ xs) d h = and-both (p x) (all p xs) (h 0 (omega arith)) (all-from p xs d (λ j g. h (suc j) (omega arith)))
+all-from p (x ∷ xs) d h = and-both (p x) (every p xs) (h 0 (omega arith)) (all-from p xs d (λ j g. h (suc j) (omega arith)))
 
 -- true holds of all
-pub all-true : {A : Type 0} (xs : List A) → T (all (λ x. true) xs)
-unfolding all
+pub all-true : {A : Type 0} (xs : List A) → T (every (λ x. true) xs)
+unfolding every
 all-true [] = tt
 all-true (x ∷ xs) = all-true xs
 
@@ -157,18 +175,18 @@ kept-implies = record { yes = λ t. t; no = λ t. t; and = and-mono; or = or-mon
 
 -- all and any keep such a relation, where it holds of the elements that have a property u which all have
 module _ {R : Bool → Bool → Type 0} (kept : Kept R) {A : Type 0} (u p q : A → Bool) (each : (x : A) → T (u x) → R (p x) (q x)) where
-  pub all-kept : (xs : List A) → T (all u xs) → R (all p xs) (all q xs)
-  unfolding all
+  pub all-kept : (xs : List A) → T (every u xs) → R (every p xs) (every q xs)
+  unfolding every
   all-kept [] t = kept .yes
   all-kept (x ∷ xs) t =
-      kept .and (p x) (all p xs) (q x) (all q xs) (each x (and-left (u x) (all u xs) t)) (all-kept xs (and-right (u x) (all u xs) t))
+      kept .and (p x) (every p xs) (q x) (every q xs) (each x (and-left (u x) (every u xs) t)) (all-kept xs (and-right (u x) (every u xs) t))
 
-  pub any-kept : (xs : List A) → T (all u xs) → R (any p xs) (any q xs)
-  unfolding all any
+  pub any-kept : (xs : List A) → T (every u xs) → R (forSome p xs) (forSome q xs)
+  unfolding every forSome
   any-kept [] t = kept .no
   any-kept (x ∷ xs) t =
-      kept .or (p x) (any p xs) (q x) (any q xs) (each x (and-left (u x) (all u xs) t)) (any-kept xs (and-right (u x) (all u xs) t))
+      kept .or (p x) (forSome p xs) (q x) (forSome q xs) (each x (and-left (u x) (every u xs) t)) (any-kept xs (and-right (u x) (every u xs) t))
 
 -- what holds of all grows with the property
-pub all-mono : {A : Type 0} (p q : A → Bool) → ((x : A) → T (p x) → T (q x)) → (xs : List A) → T (all p xs) → T (all q xs)
+pub all-mono : {A : Type 0} (p q : A → Bool) → ((x : A) → T (p x) → T (q x)) → (xs : List A) → T (every p xs) → T (every q xs)
 all-mono p q h xs = all-kept kept-implies (λ x. true) p q (λ x t. h x) xs (all-true xs)

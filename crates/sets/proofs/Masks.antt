@@ -11,9 +11,9 @@ use lib.Bits.{bitAnd, bitOr, bitXor, differ, and-step, or-step, xor-step, and-ze
 use lib.Dec.{eqb}
 use lib.Pow.{pow-pos}
 use borrow.Author.Tests.{eq-eqb, ne-eqb}
-use Rattle.sets.specs.Lists.{range}
-use Rattle.sets.specs.Set.{Set, has, start}
-use Rattle.sets.specs.Words.{words, number, bit}
+use Rattle.sets.specs.Lists.{numbersFrom}
+use Rattle.sets.specs.States.{States, has, start}
+use Rattle.sets.specs.Words.{words, fromBits, bit}
 use Rattle.sets.proofs.Lists.{length-table, table-at, take-map, drop-map}
 use Rattle.sets.proofs.Words.{half, odd, number-fits, part, word-at}
 
@@ -76,42 +76,42 @@ bitwise-either false = bitwise-and
 
 module _ {A : Type 0} where
   -- none, and each one
-  pub number-false : (xs : List A) → number (map (λ x. false) xs) ≡ 0
-  unfolding number
+  pub number-false : (xs : List A) → fromBits (map (λ x. false) xs) ≡ 0
+  unfolding fromBits
   number-false [] = refl
   number-false (x ∷ xs) = omega (arith, number-false xs)
 
-  pub number-true : (xs : List A) → number (map (λ x. true) xs) ≡ 2 ^ length xs - 1
-  unfolding number
+  pub number-true : (xs : List A) → fromBits (map (λ x. true) xs) ≡ 2 ^ length xs - 1
+  unfolding fromBits
   number-true [] = refl
   number-true (x ∷ xs) = omega (arith, number-true xs, pow-suc 2 (length xs), pow-pos (length xs))
 
   -- those that an operation picks
   pub number-bitwise : {op : ℕ → ℕ → ℕ} {f : Bool → Bool → Bool} → Bitwise op f
-      → (p q : A → Bool) (xs : List A) → op (number (map p xs)) (number (map q xs)) ≡ number (map (λ x. f (p x) (q x)) xs)
-  unfolding number
+      → (p q : A → Bool) (xs : List A) → op (fromBits (map p xs)) (fromBits (map q xs)) ≡ fromBits (map (λ x. f (p x) (q x)) xs)
+  unfolding fromBits
   number-bitwise o p q [] = o .none
   number-bitwise o p q (x ∷ xs) =
-      o .more (p x) (q x) (number (map p xs)) (number (map q xs)) ∙ rw (number-bitwise o p q xs)
+      o .more (p x) (q x) (fromBits (map p xs)) (fromBits (map q xs)) ∙ rw (number-bitwise o p q xs)
 
   -- the others
-  pub number-not : (p : A → Bool) (xs : List A) → (2 ^ length xs - 1) - number (map p xs) ≡ number (map (λ x. not (p x)) xs)
-  unfolding number
+  pub number-not : (p : A → Bool) (xs : List A) → (2 ^ length xs - 1) - fromBits (map p xs) ≡ fromBits (map (λ x. not (p x)) xs)
+  unfolding fromBits
   number-not p [] = refl
   number-not p (x ∷ xs) = omega (arith, number-not p xs, fits, pow-suc 2 (length xs), bit-not (p x))
     where
-      fits : number (map p xs) < 2 ^ length xs
+      fits : fromBits (map p xs) < 2 ^ length xs
       fits = rw (length-map xs p) at (number-fits (map p xs))
 
 -- no number of the range is j
-none-before : (j i m : ℕ) → j < i → number (map (eqb j) (range i m)) ≡ 0
-unfolding number range
+none-before : (j i m : ℕ) → j < i → fromBits (map (eqb j) (numbersFrom i m)) ≡ 0
+unfolding fromBits numbersFrom
 none-before j i zero h = refl
 none-before j i (suc m) h = rw (ne-eqb j i (λ e. omega arith)) (omega (arith, none-before j (suc i) m (omega arith)))
 
 -- the number j of the range from i on, alone
-one-from : (j i m : ℕ) → i + j < i + m → number (map (eqb (i + j)) (range i m)) ≡ 2 ^ j
-unfolding number range
+one-from : (j i m : ℕ) → i + j < i + m → fromBits (map (eqb (i + j)) (numbersFrom i m)) ≡ 2 ^ j
+unfolding fromBits numbersFrom
 one-from j i zero h = absurd (omega arith)
 one-from zero i (suc m) h = rw (eq-eqb (i + 0) i (omega arith)) (omega (arith, none-before (i + 0) (suc i) m (omega arith)))
 one-from (suc j) i (suc m) h =
@@ -119,7 +119,7 @@ one-from (suc j) i (suc m) h =
     rw (ne-eqb (i + suc j) i (λ q. omega arith), e) (omega (arith, one-from j (suc i) m (omega arith), pow-suc 2 j))
 
 -- j alone
-pub number-one : (j m : ℕ) → j < m → number (map (eqb j) (range 0 m)) ≡ 2 ^ j
+pub number-one : (j m : ℕ) → j < m → fromBits (map (eqb j) (numbersFrom 0 m)) ≡ 2 ^ j
 number-one j m h =
     let e : 0 + j ≡ j = omega arith in
     rw e at (one-from j 0 m (omega arith))
@@ -129,27 +129,27 @@ number-one j m h =
 module _ {op : ℕ → ℕ → ℕ} {f : Bool → Bool → Bool} (o : Bitwise op f) where
   -- word j of the set that an operation picks
   word-bitwise : {A : Type 0} (p q : A → Bool) (xs : List A) (j : ℕ)
-      → op (number (part (map p xs) j)) (number (part (map q xs) j)) ≡ number (part (map (λ x. f (p x) (q x)) xs) j)
+      → op (fromBits (part (map p xs) j)) (fromBits (part (map q xs) j)) ≡ fromBits (part (map (λ x. f (p x) (q x)) xs) j)
   word-bitwise p q xs j = simp (drop-map, take-map) (number-bitwise o p q (take 64 (drop (64 * j) xs)))
 
   -- from the words of two sets of n states
-  pub word-combined : (k n : ℕ) (v w : Set) → length v ≡ n → length w ≡ n → (j : ℕ) → j < k
-      → op (getD (words k v) j 0) (getD (words k w) j 0) ≡ number (part (map (λ s. f (has v s) (has w s)) (range 0 n)) j)
+  pub word-combined : (k n : ℕ) (v w : States) → length v ≡ n → length w ≡ n → (j : ℕ) → j < k
+      → op (getD (words k v) j 0) (getD (words k w) j 0) ≡ fromBits (part (map (λ s. f (has v s) (has w s)) (numbersFrom 0 n)) j)
   word-combined k n v w d e j h =
-      rw (word-at k v j h, word-at k w j h) (rw (table n v d, table n w e) at (word-bitwise (has v) (has w) (range 0 n) j))
+      rw (word-at k v j h, word-at k w j h) (rw (table n v d, table n w e) at (word-bitwise (has v) (has w) (numbersFrom 0 n) j))
     where
       -- a set by its states
-      table : (n : ℕ) (v : Set) → length v ≡ n → map (has v) (range 0 n) ≡ v
-      table n v d = ext-getD false (map (has v) (range 0 n)) v (length-table (has v) n ∙ sym d) λ s b.
+      table : (n : ℕ) (v : States) → length v ≡ n → map (has v) (numbersFrom 0 n) ≡ v
+      table n v d = ext-getD false (map (has v) (numbersFrom 0 n)) v (length-table (has v) n ∙ sym d) λ s b.
           table-at (has v) n s false (omega (arith, length-table (has v) n))
 
 -- word j of the states that are not in a set of n states
-pub word-complement : (k n : ℕ) (v : Set) → length v ≡ n → (j : ℕ) → j < k
-    → bitXor (number (part (start n true) j)) (getD (words k v) j 0) ≡ number (part (map not v) j)
+pub word-complement : (k n : ℕ) (v : States) → length v ≡ n → (j : ℕ) → j < k
+    → bitXor (fromBits (part (start n true) j)) (getD (words k v) j 0) ≡ fromBits (part (map not v) j)
 word-complement k n v d j h =
     rw (word-at k v j h, ← d, ← full v) (rw (map-id v) at (word-bitwise bitwise-xor (λ b. true) (λ b. b) v j))
   where
     -- each state
-    full : (v : Set) → map (λ b. true) v ≡ start (length v) true
+    full : (v : States) → map (λ b. true) v ≡ start (length v) true
     full [] = refl
-    full (b ∷ v) = ap (λ (u : Set). true ∷ u) (full v)
+    full (b ∷ v) = ap (λ (u : States). true ∷ u) (full v)

@@ -1,19 +1,24 @@
 -- Plain functions on lists.
 use mathlib.Core.Bool.{Bool, true, false, _&&_, _||_}
 use mathlib.Core.List.{List, [], _∷_}
-use Prim.Native.Nat.{ℕ, zero, suc}
+use Prim.Native.Nat.{ℕ, zero, suc, _+_}
 
 -- the k numbers from i on
-unfoldable pub range : ℕ → ℕ → List ℕ
-range i zero = []
-range i (suc k) = i ∷ range (suc i) k
+unfoldable pub numbersFrom : ℕ → ℕ → List ℕ
+numbersFrom i zero = []
+numbersFrom i (suc k) = i ∷ numbersFrom (suc i) k
 
 -- whether p holds of every element; of none: true
-unfoldable pub all : {A : Type 0} → (A → Bool) → List A → Bool
-all p [] = true
-all p (x ∷ xs) = p x && all p xs
+unfoldable pub every : {A : Type 0} → (A → Bool) → List A → Bool
+every p [] = true
+every p (x ∷ xs) = p x && every p xs
 
 -- whether p holds of some element; of none: false
-unfoldable pub any : {A : Type 0} → (A → Bool) → List A → Bool
-any p [] = false
-any p (x ∷ xs) = p x || any p xs
+unfoldable pub forSome : {A : Type 0} → (A → Bool) → List A → Bool
+forSome p [] = false
+forSome p (x ∷ xs) = p x || forSome p xs
+
+-- the sum of numbers
+unfoldable pub sum : List ℕ → ℕ
+sum [] = 0
+sum (x ∷ xs) = x + sum xs

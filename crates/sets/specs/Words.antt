@@ -1,36 +1,39 @@
 -- The words that hold a set: state s is bit s mod 64 of word s / 64, and bits from n up are zero.
 use mathlib.Core.Path.{_≡_}
-use mathlib.Core.Bool.{Bool, true, false, cond}
-use mathlib.Core.List.{List, [], _∷_, map}
-use Prim.Native.Nat.{ℕ, zero, suc, _+_, _*_, _/_, _%_, _^_}
-use lib.ListN.{getD, take, drop}
+use mathlib.Core.Bool.{Bool, false, cond}
+use mathlib.Core.List.{List, [], _∷_, _++_, map}
+use Prim.Native.Nat.{ℕ, zero, suc, _+_, _*_, _/_, _%_, _^_, _<_, _≤_}
+use lib.ListN.{length, getD, take, drop}
 use lib.Dec.{eqb}
-use Rattle.sets.specs.Lists.{range}
-use Rattle.sets.specs.Set.{Set}
+use Rattle.sets.specs.Lists.{numbersFrom}
+use Rattle.sets.specs.Size.{wordCount, stateLimit}
+use Rattle.sets.specs.States.{States, has}
 
 -- whether the bit of state s is 1
 unfoldable pub marked : List ℕ → ℕ → Bool
 marked ws s = eqb (getD ws (s / 64) 0 / 2 ^ (s % 64) % 2) 1
 
 -- the set of n states that words stand for
-unfoldable pub states : ℕ → List ℕ → Set
-states n ws = map (marked ws) (range 0 n)
+unfoldable pub states : ℕ → List ℕ → States
+states n ws = map (marked ws) (numbersFrom 0 n)
 
 -- a truth value as a bit
 abbrev pub bit : Bool → ℕ
 bit b = cond b 1 0
 
 -- the number whose bit s is state s
-unfoldable pub number : Set → ℕ
-number [] = 0
-number (b ∷ v) = bit b + 2 * number v
+unfoldable pub fromBits : States → ℕ
+fromBits [] = 0
+fromBits (b ∷ v) = bit b + 2 * fromBits v
 
 -- a set in k words
-unfoldable pub words : ℕ → Set → List ℕ
+unfoldable pub words : ℕ → States → List ℕ
 words zero v = []
-words (suc k) v = number (take 64 v) ∷ words k (drop 64 v)
+words (suc k) v = fromBits (take 64 v) ∷ words k (drop 64 v)
 
--- a truth value that says whether P holds
-pub record Decides (P : Type 0) (answer : Bool) : Type 0 where
-  pub yes-if : answer ≡ true → P
-  pub no-if : answer ≡ false → ¬ P
+-- The words `after` show a set of n states: bit s says whether state s is in it, no bit from n up is 1, and the words behind are as lent.
+pub record Marks (n : ℕ) (v : States) (lent after : List ℕ) : Type 0 where
+  pub sized : length v ≡ n
+  pub shown : (s : ℕ) → s < stateLimit → marked after s ≡ has v s
+  pub beyond : (s : ℕ) → n ≤ s → s < stateLimit → marked after s ≡ false
+  pub are : after ≡ words wordCount v ++ drop wordCount lent

@@ -6,9 +6,10 @@ ghost use Prim.Native.Nat.{ℕ, _-_, _^_, _<_, _≤_};
 ghost use lib.Bits.{bitAnd, bitOr};
 ghost use lib.ListN.{length, set, take, drop};
 ghost use Rattle.sets.specs.Size.{wordCount, stateLimit};
-ghost use Rattle.sets.specs.Lists.{range};
-ghost use Rattle.sets.specs.Set.{Set, has, start, size};
-ghost use Rattle.sets.specs.Words.{words, number, marked, states, Decides};
+ghost use Rattle.sets.specs.Lists.{numbersFrom};
+ghost use Rattle.sets.specs.States.{States, has, start, size};
+ghost use Rattle.sets.specs.Words.{words, fromBits, marked, states};
+ghost use Rattle.sets.specs.internal.Decides.{Decides};
 
 pub const WORDS: usize = 4;
 
@@ -23,7 +24,7 @@ pub fn empty() -> [u64; WORDS]
 
 // The word of the 64 states from `from` on: those below n.
 fn word_below(n: usize, from: usize) -> u64
-    ensures { λ r. ⌜ r ≡ number (take 64 (drop from (start n true))) ⌝ }
+    ensures { λ r. ⌜ r ≡ fromBits (take 64 (drop from (start n true))) ⌝ }
 {
     if n <= from {
         return 0;
@@ -76,7 +77,7 @@ fn word_with(word: u64, mask: u64, there: bool) -> u64
 // Puts state s into the set, or takes it out.
 pub fn put(held: &mut [u64; WORDS], s: usize, there: bool)
     requires { ⌜ s < stateLimit ⌝ }
-    ensures { λ _. ⌜ ((v : Set) → s < length v → now (held .entry) ≡ words wordCount v → now (held .exit) ≡ words wordCount (set v s there)) ⌝ }
+    ensures { λ _. ⌜ ((v : States) → s < length v → now (held .entry) ≡ words wordCount v → now (held .exit) ≡ words wordCount (set v s there)) ⌝ }
 {
     let k = s / 64;
     held[k] = word_with(held[k], 1 << (s % 64), there);
@@ -85,7 +86,7 @@ pub fn put(held: &mut [u64; WORDS], s: usize, there: bool)
 // Puts state s into the set.
 pub fn add(held: &mut [u64; WORDS], s: usize)
     requires { ⌜ s < stateLimit ⌝ }
-    ensures { λ _. ⌜ ((v : Set) → s < length v → now (held .entry) ≡ words wordCount v → now (held .exit) ≡ words wordCount (set v s true)) ⌝ }
+    ensures { λ _. ⌜ ((v : States) → s < length v → now (held .entry) ≡ words wordCount v → now (held .exit) ≡ words wordCount (set v s true)) ⌝ }
 {
     put(held, s, true);
 }
@@ -135,8 +136,8 @@ fn combine_word(a: u64, b: u64, either: bool) -> u64
 
 // The states in both sets, or (either) in at least one.
 pub fn combine(a: [u64; WORDS], b: [u64; WORDS], either: bool) -> [u64; WORDS]
-    ensures { λ r. ⌜ ((n : ℕ) (v w : Set) → length v ≡ n → length w ≡ n → a ≡ words wordCount v → b ≡ words wordCount w
-        → r ≡ words wordCount (map (λ s. cond either (has v s || has w s) (has v s && has w s)) (range 0 n))) ⌝ }
+    ensures { λ r. ⌜ ((n : ℕ) (v w : States) → length v ≡ n → length w ≡ n → a ≡ words wordCount v → b ≡ words wordCount w
+        → r ≡ words wordCount (map (λ s. cond either (has v s || has w s) (has v s && has w s)) (numbersFrom 0 n))) ⌝ }
 {
     let mut c = [0u64; WORDS];
     for i in 0..WORDS {
@@ -148,7 +149,7 @@ pub fn combine(a: [u64; WORDS], b: [u64; WORDS], either: bool) -> [u64; WORDS]
 // The states below n that are not in the set: each bit of a state below n is turned over.
 pub fn complement(held: [u64; WORDS], n: usize) -> [u64; WORDS]
     requires { ⌜ n ≤ stateLimit ⌝ }
-    ensures { λ r. ⌜ ((v : Set) → length v ≡ n → held ≡ words wordCount v → r ≡ words wordCount (map not v)) ⌝ }
+    ensures { λ r. ⌜ ((v : States) → length v ≡ n → held ≡ words wordCount v → r ≡ words wordCount (map not v)) ⌝ }
 {
     let mut rest = [0u64; WORDS];
     for i in 0..WORDS {

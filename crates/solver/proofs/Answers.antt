@@ -4,18 +4,23 @@ use mathlib.Core.Bool.{Bool, true, false, or-true}
 use mathlib.Core.List.{List, _++_, map}
 use Prim.Native.Nat.{ℕ, _+_, _<_, _≤_}
 use native.Mathlib.Omega.{arith}
-use borrow.Author.Tests.{lt-ltb, le-ltb}
+use borrow.Author.Tests.{lt-ltb}
 use lib.Dec.{ltb}
 use lib.ListN.{length, drop, length-replicate}
 use Rattle.sets.specs.Size.{wordCount}
-use Rattle.sets.specs.Set.{Set, has, size}
+use Rattle.sets.specs.States.{States, has, size}
 use Rattle.sets.specs.Words.{words, bit, marked, states}
 use Rattle.sets.proofs.Words.{marked-words, states-words}
-use Rattle.solver.specs.Cells.{none, evaluate}
-use Rattle.solver.specs.File.{stateCount, cellCount, initialState, sizesOf, blocks, cells}
-use Rattle.solver.specs.Conditions.{layoutOk, tablesOk, WellFormed, opened}
-use Rattle.solver.specs.Outcome.{number, refused, outcome, run, badLayout, badTable, tooShort, exceeds, firstOf, solveRefusal, report, solveOutcome, Scratch, Answered}
-use Rattle.solver.specs.Working.{Opens, Ran, spent}
+use Rattle.sets.specs.Valuation.{none}
+use Rattle.solver.specs.Cells.{evaluate}
+use Rattle.solver.specs.File.{stateCount, cellCount, initialState, blocks, cells}
+use Rattle.solver.specs.internal.Forms.{sizesOf}
+use Rattle.solver.specs.Conditions.{layoutOk, tablesOk, WellFormed}
+use Rattle.solver.specs.internal.Forms.{opened}
+use Rattle.solver.specs.Outcome.{solveNumber, outcome, run, badLayout, badTable, tooShort, solveConditions, solveRefusal, Enough, report, solveOutcome, Scratch, Answered}
+use Rattle.sets.specs.Refusals.{Conditions, refused}
+use Rattle.sets.proofs.Refusals.{holds-here, holds-later, reports, refuses}
+use Rattle.solver.specs.internal.Working.{Opens, Ran, spent}
 use Rattle.solver.specs.declared.Sizes.{Sizes}
 use Rattle.solver.specs.declared.Cause.{Cause}
 use Rattle.solver.specs.declared.Cause.the-variants.{Layout, Table, Memory, Spent}
@@ -25,60 +30,47 @@ use Rattle.solver.specs.declared.Answer.the-variants.{Solved, Refused}
 use Rattle.solver.proofs.Tables.{counted, length-cells}
 use Rattle.solver.proofs.Reading.{layout-facts}
 use Rattle.solver.proofs.WellFormed.{ordered, inside}
-use Rattle.solver.proofs.Refusals.{reported, is-refused, number-is, marks-written, marks-kept, work-written, work-kept}
+use Rattle.solver.proofs.Refusals.{enough, is-0, is-14, marks-written, marks-kept, work-written, work-kept}
 use Rattle.solver.proofs.Solving.{solved-sized}
 
 -- ---- refusals
 
 module _ (e : List ℕ) (work marks limit : ℕ) where
   pub refusal-11 : layoutOk e ≡ false → solveRefusal e work marks limit ≡ 11
-  unfolding solveRefusal firstOf badLayout
-  refusal-11 h = rw h refl
+  unfolding solveRefusal solveConditions badLayout
+  refusal-11 h = sym (holds-here 11 _ _ (rw h))
 
   pub refusal-12 : layoutOk e ≡ true → tablesOk e ≡ false → solveRefusal e work marks limit ≡ 12
-  unfolding solveRefusal firstOf badLayout badTable
-  refusal-12 h g = rw (h, g) refl
+  unfolding solveRefusal solveConditions badLayout badTable
+  refusal-12 h g = sym (holds-later 11 _ _ (rw h) (holds-here 12 _ _ (rw g)))
 
-  module _ (f : WellFormed e) where
-    pub refusal-13 : tooShort e work marks ≡ true → solveRefusal e work marks limit ≡ 13
-    unfolding solveRefusal firstOf badLayout badTable
-    refusal-13 h = rw (f .layout, f .tables, h) refl
-
-    module _ (enough : (cellCount e ≤ work) × (wordCount ≤ marks)) where
-      pub refusal-14 : limit < run e .1 → solveRefusal e work marks limit ≡ 14
-      unfolding solveRefusal firstOf badLayout badTable tooShort exceeds
-      refusal-14 h = rw (f .layout, f .tables, le-ltb work (cellCount e) (enough .0), le-ltb marks wordCount (enough .1), lt-ltb limit (run e .1) h) refl
-
-      pub refusal-0 : run e .1 ≤ limit → solveRefusal e work marks limit ≡ 0
-      unfolding solveRefusal firstOf badLayout badTable tooShort exceeds
-      refusal-0 h = rw (f .layout, f .tables, le-ltb work (cellCount e) (enough .0), le-ltb marks wordCount (enough .1), le-ltb limit (run e .1) h) refl
+  pub refusal-13 : WellFormed e → tooShort e work marks ≡ true → solveRefusal e work marks limit ≡ 13
+  unfolding solveRefusal solveConditions badLayout badTable
+  refusal-13 f h = sym (holds-later 11 _ _ (rw (f .layout)) (holds-later 12 _ _ (rw (f .tables)) (holds-here 13 _ _ h)))
 
 -- ---- what each answer promises
 
 module _ (e work marks : List ℕ) (limit : ℕ) where
-  abbrev refusal : ℕ
-  refusal = solveRefusal e (length work) (length marks) limit
-
-  number-is-here : solveOutcome e (length work) (length marks) limit .refusal ≡ refusal
-  number-is-here = number-is e (length work) (length marks) limit
+  abbrev conditions : Conditions
+  conditions = solveConditions e (length work) (length marks) limit
 
   -- a refusal but 14 changes nothing
-  pub answered-refused : (cause : Cause) → solveRefusal e (length work) (length marks) limit ≡ number cause → ¬ (number cause ≡ 0) → ¬ (number cause ≡ 14) →
-      Answered e work marks limit (Refused cause) work marks
-  unfolding outcome
+  pub answered-refused : (cause : Cause) → solveRefusal e (length work) (length marks) limit ≡ solveNumber cause → ¬ (solveNumber cause ≡ 0) → ¬ (solveNumber cause ≡ 14) →
+      Answered e work marks limit (outcome (Refused cause)) work marks
+  unfolding outcome solveOutcome solveRefusal
   answered-refused cause h n m = record {
-    answers = sym (is-refused e (length work) (length marks) limit (λ z. n (sym h ∙ z)) ∙ ap refused h);
-    marks-are = sym (marks-kept e (length work) marks limit (λ z. n (sym h ∙ sym number-is-here ∙ z)));
-    work-is = λ _. sym (work-kept e work (length marks) limit (λ z. n (sym h ∙ sym number-is-here ∙ z)));
+    answers = sym (refuses conditions (report e) (λ z. n (sym h ∙ z)) ∙ ap refused h);
+    marks-are = sym (marks-kept e (length work) marks limit (λ z. n (sym h ∙ z)));
+    work-is = λ _. sym (work-kept e work (length marks) limit (λ z. n (sym h ∙ z)));
     work-14 = λ z. absurd (m z);
   }
 
   -- 14 leaves the marks, and bits in the working bytes
-  pub answered-spent : {after : List ℕ} → solveRefusal e (length work) (length marks) limit ≡ 14 → Scratch (cellCount e) work after → Answered e work marks limit (Refused Spent) after marks
-  unfolding outcome number
+  pub answered-spent : {after : List ℕ} → solveRefusal e (length work) (length marks) limit ≡ 14 → Scratch (cellCount e) work after → Answered e work marks limit (outcome (Refused Spent)) after marks
+  unfolding outcome solveNumber solveOutcome solveRefusal
   answered-spent h s = record {
-    answers = sym (is-refused e (length work) (length marks) limit (λ z. omega arith) ∙ ap refused h);
-    marks-are = sym (marks-kept e (length work) marks limit (λ z. omega (arith, number-is-here)));
+    answers = sym (refuses conditions (report e) (λ z. omega arith) ∙ ap refused h);
+    marks-are = sym (marks-kept e (length work) marks limit (λ z. omega arith));
     work-is = λ n. absurd (n refl);
     work-14 = λ z. s;
   }
@@ -87,34 +79,34 @@ module _ (e work marks : List ℕ) (limit : ℕ) where
   pub answered-solved : {r : Report} {workAfter marksAfter : List ℕ} → solveRefusal e (length work) (length marks) limit ≡ 0 →
       r .verdict ≡ has (run e .0 0) (initialState e) → r .count ≡ size (run e .0 0) → r .rounds ≡ run e .1 →
       marksAfter ≡ words wordCount (run e .0 0) ++ drop wordCount marks → workAfter ≡ map bit (evaluate (cells e) (run e .0)) ++ drop (cellCount e) work →
-      Answered e work marks limit (Solved r) workAfter marksAfter
-  unfolding outcome report
+      Answered e work marks limit (outcome (Solved r)) workAfter marksAfter
+  unfolding outcome report solveOutcome solveRefusal
   answered-solved h v c k m w = record {
-    answers = rw (v, c, k) refl ∙ sym (reported e (length work) (length marks) limit h);
-    marks-are = m ∙ sym (marks-written e (length work) marks limit (number-is-here ∙ h));
-    work-is = λ _. w ∙ sym (work-written e work (length marks) limit (number-is-here ∙ h));
+    answers = rw (v, c, k) refl ∙ sym (reports conditions (report e) h);
+    marks-are = m ∙ sym (marks-written e (length work) marks limit h);
+    work-is = λ _. w ∙ sym (work-written e work (length marks) limit h);
     work-14 = λ z. absurd (omega arith);
   }
 
 -- ---- an opened file
 module _ {e : List ℕ} {sizes : Sizes} (o : Opens e sizes) (work marks : List ℕ) (limit : ℕ) where
   -- lent memory that is too short, one way or the other
-  short : tooShort e (length work) (length marks) ≡ true → Answered e work marks limit (Refused Memory) work marks
-  unfolding number
+  short : tooShort e (length work) (length marks) ≡ true → Answered e work marks limit (outcome (Refused Memory)) work marks
+  unfolding solveNumber
   short h = answered-refused e work marks limit Memory (refusal-13 e (length work) (length marks) limit (o .formed) h) (λ z. omega arith) (λ z. omega arith)
 
-  pub few-bytes : length work < sizes .cells → Answered e work marks limit (Refused Memory) work marks
+  pub few-bytes : length work < sizes .cells → Answered e work marks limit (outcome (Refused Memory)) work marks
   unfolding tooShort
   few-bytes h = short (rw (lt-ltb (length work) (cellCount e) (omega (arith, counted (o .counts) .cells))) refl)
 
-  pub few-words : length marks < wordCount → Answered e work marks limit (Refused Memory) work marks
+  pub few-words : length marks < wordCount → Answered e work marks limit (outcome (Refused Memory)) work marks
   unfolding tooShort
   few-words h = short (rw (lt-ltb (length marks) wordCount h) (or-true (ltb (length work) (cellCount e))))
 
   module _ (bytes : sizes .cells ≤ length work) (room : wordCount ≤ length marks)
       {after row : List ℕ} {rounds status : ℕ} (r : Ran e limit after row rounds status) where
-    enough : (cellCount e ≤ length work) × (wordCount ≤ length marks)
-    enough = (omega (arith, counted (o .counts) .cells), room)
+    lent : WellFormed e × Enough e (length work) (length marks)
+    lent = (o .formed, enough e (length work) (length marks) .0 (omega (arith, counted (o .counts) .cells), room))
 
     -- the part that was lent, and the rest
     abbrev whole : List ℕ
@@ -123,23 +115,23 @@ module _ {e : List ℕ} {sizes : Sizes} (o : Opens e sizes) (work marks : List �
     rest : drop (sizes .cells) work ≡ drop (cellCount e) work
     rest = ap (λ (k : ℕ). drop k work) (counted (o .counts) .cells)
 
-    pub ended-spent : status ≡ spent → Answered e work marks limit (Refused Spent) whole marks
+    pub ended-spent : status ≡ spent → Answered e work marks limit (outcome (Refused Spent)) whole marks
     ended-spent z = answered-spent e work marks limit
-        (refusal-14 e (length work) (length marks) limit (o .formed) enough (r .over z))
+        (is-14 e (length work) (length marks) limit .1 (lent, r .over z))
         (record { bytes = after; sized = r .room; bits = r .bits; are = ap (λ (l : List ℕ). after ++ l) rest })
 
     pub ended-solved : ¬ (status ≡ spent) → {verdict : Bool} → verdict ≡ marked row (sizes .initial) → {count : ℕ} → count ≡ size (states (sizes .states) row) →
         {marksAfter : List ℕ} → marksAfter ≡ row ++ drop wordCount marks →
-        Answered e work marks limit (Solved (record { verdict = verdict; count = count; rounds = rounds })) whole marksAfter
+        Answered e work marks limit (outcome (Solved (record { verdict = verdict; count = count; rounds = rounds }))) whole marksAfter
     unfolding run
     ended-solved n v k m =
         let s = layout-facts e (o .formed .layout) .counts in
-        let first : Set = run e .0 0 in
+        let first : States = run e .0 0 in
         let is = r .first n in
         let long : length first ≡ stateCount e =
         solved-sized (stateCount e) (cells e) (ordered e (o .formed)) (blocks e) (rw (length-cells e) (inside e (o .formed))) 0 (none (stateCount e)) (λ j. length-replicate (stateCount e) false) 0 in
         answered-solved e work marks limit
-        (refusal-0 e (length work) (length marks) limit (o .formed) enough (r .within n))
+        (is-0 e (length work) (length marks) limit .1 (lent, r .within n))
         (v ∙ ap₂ (λ (w : List ℕ) (i : ℕ). marked w i) is (counted (o .counts) .initial) ∙ marked-words wordCount first (initialState e) (omega (arith, s .initial, s .few-states)))
         (k ∙ ap₂ (λ (w : List ℕ) (i : ℕ). size (states i w)) is (counted (o .counts) .states) ∙ ap size (states-words (stateCount e) wordCount first long (s .few-states)))
         (r .counted n)
@@ -164,11 +156,11 @@ opens-file {e} {sizes} h = go (layoutOk e) (tablesOk e) refl refl
         let n : _≡_ {A = ℕ} 0 1 = cc in
         absurd (omega arith)
 
-pub unfit : {e : List ℕ} {cause : Cause} → Unfit cause ≡ opened e → (work marks : List ℕ) (limit : ℕ) → Answered e work marks limit (Refused cause) work marks
-unfolding opened number
+pub unfit : {e : List ℕ} {cause : Cause} → Unfit cause ≡ opened e → (work marks : List ℕ) (limit : ℕ) → Answered e work marks limit (outcome (Refused cause)) work marks
+unfolding opened solveNumber
 unfit {e} {cause} h work marks limit = go (layoutOk e) (tablesOk e) refl refl
   where
-    go : (a b : Bool) → layoutOk e ≡ a → tablesOk e ≡ b → Answered e work marks limit (Refused cause) work marks
+    go : (a b : Bool) → layoutOk e ≡ a → tablesOk e ≡ b → Answered e work marks limit (outcome (Refused cause)) work marks
     go true true p q =
         let z : opened e ≡ File (sizesOf e) = rw (p, q, opened) refl in
         let n : _≡_ {A = ℕ} 0 1 = cc in

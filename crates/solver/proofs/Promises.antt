@@ -1,49 +1,33 @@
--- The promises of the solver, as theorems about its definitions: e is the file, any list of bytes, and numbers have no bound.
--- By its contract, Answered of specs/Outcome.antt, solve answers solveOutcome and leaves solveMarks and solveWork.
+-- The promises of the solver: e is the file, any list of bytes, and numbers have no bound. What solve answers, and what it leaves in lent
+-- memory, is said of whatever keeps its contract: Answered of specs/Outcome.antt.
 use mathlib.Core.Path.{_≡_, sym, ap, _∙_}
 use mathlib.Core.Logic.{_↔_, _⊎_, inl, inr, by-cases}
-use mathlib.Core.Bool.{Bool, true, false}
-use mathlib.Core.List.{List, _++_, map}
+use mathlib.Core.Bool.{Bool, false}
+use mathlib.Core.List.{List, _++_, map, List·Memᴰ}
 use Prim.Native.Nat.{ℕ, suc, _≤_, _<_}
 use native.Mathlib.Omega.{arith}
 use native.Mathlib.Decide.{ℕ-discrete}
-use lib.ListN.{length, drop, List·getD-eq-default}
-use Rattle.sets.specs.Size.{wordCount, stateLimit}
-use Rattle.sets.specs.Set.{Set, has, size}
-use Rattle.sets.specs.Words.{words, marked, bit}
-use Rattle.solver.specs.File.{stateCount, blockCount, cellCount, initialState, blocks, cells}
+use lib.ListN.{length, take, drop, length-map}
+use lib.Seq.{take-append-seam}
+use Rattle.sets.specs.Lists.{every}
+use Rattle.sets.specs.Size.{wordCount}
+use Rattle.sets.specs.Words.{bit, Marks}
+use Rattle.sets.specs.Valuation.{Valuation, Sized}
+use Rattle.sets.specs.Refusals.{numbersOf, NoneHolds, FirstHolds, refused, Outcome, GivesMarks, Spent}
+use Rattle.sets.proofs.Words.{take-words, shows}
+use Rattle.sets.proofs.Refusals.{member, first-holds, first-answered, none-first}
+use Rattle.solver.specs.File.{stateCount, blockCount, cellCount, blocks, cells}
 use Rattle.solver.specs.Conditions.{WellFormed}
-use Rattle.solver.specs.Cells.{Valuation, Values, evaluate}
-use Rattle.solver.specs.Standard.{Solution}
+use Rattle.solver.specs.Cells.{Values, evaluate}
+use Rattle.solver.specs.Standard.{StandardSolution}
 use Rattle.solver.specs.Rounds.{solved, powers}
-use Rattle.solver.specs.Outcome.{Outcome, refused, outcome, OwnRounds, run, badLayout, badTable, tooShort, exceeds, report, solveRefusal, solveOutcome, solveMarks, solveWork, Answered}
-use Rattle.solver.specs.declared.Answer.{Answer}
+use Rattle.solver.specs.Outcome.{OwnRounds, run, badLayout, badTable, solveConditions, solveRefusal, Enough, reportOf, report, Scratch, Answered}
+use Rattle.solver.proofs.Tables.{length-cells}
 use Rattle.solver.proofs.WellFormed.{ordered}
 use Rattle.solver.proofs.Values.{evaluate-values, values-one}
 use Rattle.solver.proofs.Solving.{solution, solution-one}
 use Rattle.solver.proofs.Starts.{own-inside, own-agree, own-first, own-values, own-solves, own-rounds, own-sized, own-bound}
-use Rattle.solver.proofs.Refusals.{reported, is-refused, is-report, numbered, is-0, is-11, is-12, is-13, is-14}
-use Rattle.solver.proofs.Refusals.{marks-written, marks-kept, marked-front, work-written, work-kept, formed, gives-formed, over, within, last-asked}
-
--- The lent memory, so many working bytes and mark words, is enough: a byte for each cell, and the words of a set.
-abbrev pub Enough : List ℕ → ℕ → ℕ → Type 0
-Enough e work marks = (cellCount e ≤ work) × (wordCount ≤ marks)
-
--- Solve gives marks: it answers a report, and refuses with no number.
-abbrev pub GivesMarks : List ℕ → ℕ → ℕ → ℕ → Type 0
-GivesMarks e work marks limit = solveOutcome e work marks limit .refusal ≡ 0
-
--- The rounds are spent: solve refuses with 14.
-abbrev pub Spent : List ℕ → ℕ → ℕ → ℕ → Type 0
-Spent e work marks limit = solveOutcome e work marks limit .refusal ≡ 14
-
--- A start: a valuation by sets of the file's states.
-abbrev pub Start : List ℕ → Valuation → Type 0
-Start e ρ = (k : ℕ) → length (ρ k) ≡ stateCount e
-
--- σ is the standard solution of the file's blocks from the start ρ.
-abbrev pub Solutions : List ℕ → Valuation → Valuation → Type 0
-Solutions e ρ σ = Solution (stateCount e) (cells e) (blocks e) 0 ρ σ
+use Rattle.solver.proofs.Refusals.{formed, is-0, is-14, marks-kept, work-kept, answered-number, answered-report, answered-refusal, answered-marks, answered-work}
 
 -- ---- what a file means
 
@@ -57,17 +41,18 @@ module _ (e : List ℕ) (w : WellFormed e) where
   values-unique = values-one (cells e) (ordered e w)
 
   -- From each start there is a standard solution, and no other.
-  pub solution-exists : (ρ : Valuation) → Start e ρ → (σ : Valuation) × Solutions e ρ σ
+  pub solution-exists : (ρ : Valuation) → Sized (stateCount e) ρ → (σ : Valuation) × StandardSolution e ρ σ
   solution-exists ρ r = (_, solution (stateCount e) (cells e) (ordered e w) (blocks e) (own-inside w) 0 ρ r)
 
-  pub solution-unique : (ρ : Valuation) → Start e ρ → (σ τ : Valuation) → Solutions e ρ σ → Solutions e ρ τ → σ ≡ τ
+  pub solution-unique : (ρ : Valuation) → Sized (stateCount e) ρ → (σ τ : Valuation) → StandardSolution e ρ σ → StandardSolution e ρ τ → σ ≡ τ
   solution-unique ρ r σ τ s t = is σ s ∙ sym (is τ t)
     where
-      is : (σ : Valuation) → Solutions e ρ σ → σ ≡ solved (stateCount e) (cells e) (blocks e) 0 ρ .0
+      is : (σ : Valuation) → StandardSolution e ρ σ → σ ≡ solved (stateCount e) (cells e) (blocks e) 0 ρ .0
       is = solution-one (stateCount e) (cells e) (ordered e w) (blocks e) (own-inside w) 0 ρ r
 
   -- The start does not matter: the file's own blocks have the same sets from every start.
-  pub solution-start : (ρ ρ′ σ σ′ : Valuation) → Start e ρ → Start e ρ′ → Solutions e ρ σ → Solutions e ρ′ σ′ → (k : ℕ) → k < blockCount e → σ k ≡ σ′ k
+  pub solution-start : (ρ ρ′ σ σ′ : Valuation) → Sized (stateCount e) ρ → Sized (stateCount e) ρ′ → StandardSolution e ρ σ → StandardSolution e ρ′ σ′
+      → (k : ℕ) → k < blockCount e → σ k ≡ σ′ k
   solution-start ρ ρ′ σ σ′ r r′ s s′ k h = own-agree w ρ σ r s k h ∙ sym (own-agree w ρ′ σ′ r′ s′ k h)
 
   -- A file has own rounds, and one number of them.
@@ -78,116 +63,105 @@ module _ (e : List ℕ) (w : WellFormed e) where
   pub rounds-unique : (r q : ℕ) → OwnRounds e r → OwnRounds e q → r ≡ q
   rounds-unique r q o p = own-rounds w r o ∙ sym (own-rounds w q p)
 
-  -- ---- when solve gives marks, and what it reports
-
-  -- With enough memory solve gives marks exactly if the limit is no less than the own rounds.
-  pub marks-when : (work marks limit r : ℕ) → Enough e work marks → OwnRounds e r → GivesMarks e work marks limit ↔ r ≤ limit
-  marks-when work marks limit r m o = rw (own-rounds w r o) (last-asked e w work marks m (is-0 e work marks limit) (within e limit))
-
-  -- It is spent exactly if the limit is less.
-  pub spent-when : (work marks limit r : ℕ) → Enough e work marks → OwnRounds e r → Spent e work marks limit ↔ limit < r
-  spent-when work marks limit r m o = rw (own-rounds w r o) (last-asked e w work marks m (is-14 e work marks limit) (over e limit))
-
-  -- The report: is the initial state in the first block's set, how many states are, and the own rounds.
-  pub reports : (work marks limit r : ℕ) → Enough e work marks → OwnRounds e r → r ≤ limit → (ρ σ : Valuation) → Start e ρ → Solutions e ρ σ
-      → solveOutcome e work marks limit ≡ record { refusal = 0; verdict = bit (has (σ 0) (initialState e)); count = size (σ 0); rounds = r }
-  unfolding report
-  reports work marks limit r m o h ρ σ start s =
-      rw (own-first w ρ σ start s, own-rounds w r o) (is-report e work marks limit (marks-when work marks limit r m o .1 h))
-
--- The words `after` show a set of n states: bit s says whether state s is in it, no bit from n up is 1, and the words behind are as lent.
-pub record Marks (n : ℕ) (v : Set) (lent after : List ℕ) : Type 0 where
-  pub sized : length v ≡ n
-  pub shown : (s : ℕ) → s < stateLimit → marked after s ≡ has v s
-  pub beyond : (s : ℕ) → n ≤ s → s < stateLimit → marked after s ≡ false
-  pub are : after ≡ words wordCount v ++ drop wordCount lent
-
--- Words that start with those of a set show it.
-pub shows : {n : ℕ} (v : Set) (lent after : List ℕ) → after ≡ words wordCount v ++ drop wordCount lent → length v ≡ n → Marks n v lent after
-shows v lent after are sized = record {
-  sized = sized;
-  shown = shown;
-  beyond = λ s h b. shown s b ∙ List·getD-eq-default v false {n = s} (omega (arith, sized));
-  are = are;
-}
-  where
-    shown : (s : ℕ) → s < stateLimit → marked after s ≡ has v s
-    shown s h = rw are (marked-front wordCount v (drop wordCount lent) s h)
-
--- The marks are the standard solution: those of the first block's set, whatever the start.
-pub standard : (e : List ℕ) (work : ℕ) (marks : List ℕ) (limit : ℕ) → GivesMarks e work (length marks) limit
-    → (ρ σ : Valuation) → Start e ρ → Solutions e ρ σ → Marks (stateCount e) (σ 0) marks (solveMarks e work marks limit)
-standard e work marks limit g ρ σ start s =
-    let w = gives-formed e work (length marks) limit g in
-    let first : σ 0 ≡ run e .0 0 = own-first w ρ σ start s in
-    shows (σ 0) marks (solveMarks e work marks limit) (rw first (marks-written e work marks limit g)) (ap length first ∙ own-sized w 0)
-
--- The working bytes are the values of the cells under that solution.
-pub working-bytes : (e work : List ℕ) (marks limit : ℕ) → GivesMarks e (length work) marks limit
-    → (ρ σ : Valuation) → Start e ρ → Solutions e ρ σ → (vs : List Bool) → Values (cells e) σ vs
-    → solveWork e work marks limit ≡ map bit vs ++ drop (cellCount e) work
-working-bytes e work marks limit g ρ σ start s vs v =
-    rw (own-values (gives-formed e (length work) marks limit g) ρ σ start s vs v) (work-written e work marks limit g)
-
--- A larger limit changes nothing once solve gives marks.
-pub larger : (e work marks : List ℕ) (limit more : ℕ) → limit ≤ more → GivesMarks e (length work) (length marks) limit
-    → (solveOutcome e (length work) (length marks) more ≡ solveOutcome e (length work) (length marks) limit)
-    × (solveMarks e (length work) marks more ≡ solveMarks e (length work) marks limit)
-    × (solveWork e work (length marks) more ≡ solveWork e work (length marks) limit)
-larger e work marks limit more h g =
-    let x = is-0 e (length work) (length marks) limit .0 g in
-    let low = within e limit .1 (x .3) in
-    let f = is-0 e (length work) (length marks) more .1 (x .0, x .1, x .2, within e more .0 (omega arith)) in (
-      is-report e (length work) (length marks) more f ∙ sym (is-report e (length work) (length marks) limit g),
-      marks-written e (length work) marks more f ∙ sym (marks-written e (length work) marks limit g),
-      work-written e work (length marks) more f ∙ sym (work-written e work (length marks) limit g),
-    )
-
--- A limit of m + m ^ 2 + .. + m ^ d, for d blocks and m = n + 1, is never spent.
-pub never-spent : (e : List ℕ) (work marks limit : ℕ) → powers (suc (stateCount e)) (blockCount e) ≤ limit → ¬ Spent e work marks limit
-never-spent e work marks limit h g =
-    let low = over e limit .1 (is-14 e work marks limit .0 g .3) in
-    omega (arith, own-bound e)
-
--- ---- what solve answers, for any bytes
-
--- One answer: the report, or one number of 11, 12, 13 and 14 with zeros for verdict, count and rounds.
-pub one-answer : (e : List ℕ) (work marks limit : ℕ)
-    → (solveOutcome e work marks limit ≡ report e) ⊎ ((k : ℕ) × (11 ≤ k) × (k ≤ 14) × (solveOutcome e work marks limit ≡ refused k))
-one-answer e work marks limit = by-cases (ℕ-discrete (solveRefusal e work marks limit) 0)
-    (λ z. inl (reported e work marks limit z))
-    (λ d. inr (_, numbered e work marks limit d .0, numbered e work marks limit d .1, is-refused e work marks limit d))
-
--- The first condition that holds is the one answered, and 0 says that none does.
-pub record FirstHolds (e : List ℕ) (work marks limit number : ℕ) : Type 0 where
-  pub eleven : number ≡ 11 ↔ badLayout e ≡ true
-  pub twelve : number ≡ 12 ↔ (badLayout e ≡ false) × (badTable e ≡ true)
-  pub thirteen : number ≡ 13 ↔ (badLayout e ≡ false) × (badTable e ≡ false) × (tooShort e work marks ≡ true)
-  pub fourteen : number ≡ 14 ↔ (badLayout e ≡ false) × (badTable e ≡ false) × (tooShort e work marks ≡ false) × (exceeds e limit ≡ true)
-  pub none : number ≡ 0 ↔ (badLayout e ≡ false) × (badTable e ≡ false) × (tooShort e work marks ≡ false) × (exceeds e limit ≡ false)
-
-pub first-holds : (e : List ℕ) (work marks limit : ℕ) → FirstHolds e work marks limit (solveOutcome e work marks limit .refusal)
-first-holds e work marks limit = record {
-  eleven = is-11 e work marks limit;
-  twelve = is-12 e work marks limit;
-  thirteen = is-13 e work marks limit;
-  fourteen = is-14 e work marks limit;
-  none = is-0 e work marks limit;
-}
-
--- A refusal leaves the marks as they were, and any but 14 the working bytes: after 14 the contract does not promise solveWork.
-pub refused-unchanged : (e work marks : List ℕ) (limit : ℕ) → ¬ GivesMarks e (length work) (length marks) limit
-    → (solveMarks e (length work) marks limit ≡ marks) × (solveWork e work (length marks) limit ≡ work)
-refused-unchanged e work marks limit d = (marks-kept e (length work) marks limit d, work-kept e work (length marks) limit d)
-
--- The same for whatever keeps the contract of solve.
-pub answered-unchanged : (e work marks : List ℕ) (limit : ℕ) (answer : Answer) (workAfter marksAfter : List ℕ)
-    → Answered e work marks limit answer workAfter marksAfter → ¬ (outcome answer .refusal ≡ 0)
-    → (marksAfter ≡ marks) × (¬ (outcome answer .refusal ≡ 14) → workAfter ≡ work)
-answered-unchanged e work marks limit answer workAfter marksAfter a d =
-    let same = refused-unchanged e work marks limit (λ g. d (ap (λ (o : Outcome). o .refusal) (a .answers) ∙ g)) in
-    (a .marks-are ∙ same .0, λ n. a .work-is n ∙ same .1)
+-- ---- demand 1: any bytes, any lent memory, any limit
 
 -- The well-formed files are those of which neither 11 nor 12 holds.
 pub formed-accepted : (e : List ℕ) → WellFormed e ↔ (badLayout e ≡ false) × (badTable e ≡ false)
 formed-accepted = formed
+
+-- Of whatever keeps the contract of solve:
+module _ {e work marks : List ℕ} {limit : ℕ} {o : Outcome} {work′ marks′ : List ℕ} (a : Answered e work marks limit o work′ marks′) where
+  -- One answer: the report, or the number of one of its conditions, with zeros for verdict, count and rounds.
+  pub one-answer : (o ≡ report e)
+      ⊎ ((k : ℕ) × List·Memᴰ k (numbersOf (solveConditions e (length work) (length marks) limit)) × (o ≡ refused k))
+  unfolding solveRefusal
+  one-answer = by-cases (ℕ-discrete (o .refusal) 0)
+      (λ z. inl (answered-report a z))
+      (λ d. inr (_, rw (answered-number a) (member _ (λ z. d (answered-number a ∙ z))), answered-refusal a d))
+
+  -- The number of the first condition that holds is answered, and no other;
+  pub first-condition : (k : ℕ) → ¬ (k ≡ 0) → o .refusal ≡ k ↔ FirstHolds (solveConditions e (length work) (length marks) limit) k
+  unfolding solveRefusal
+  first-condition k d = (
+    λ h. let z = sym (answered-number a) ∙ h in rw z at (first-holds _ (λ y. d (sym z ∙ y))),
+    λ f. answered-number a ∙ first-answered _ k f,
+  )
+
+  -- a report says that none holds.
+  pub no-condition : GivesMarks o ↔ NoneHolds (solveConditions e (length work) (length marks) limit)
+  unfolding solveRefusal solveConditions every
+  no-condition = rw (answered-number a) (none-first (solveConditions e (length work) (length marks) limit) tt)
+
+  -- A refusal leaves the marks as they were, and any but 14 the working bytes; 14 leaves each of the c working bytes 0 or 1, and the bytes behind.
+  pub refused-unchanged : ¬ GivesMarks o → (marks′ ≡ marks) × (¬ Spent o → work′ ≡ work) × (Spent o → Scratch (cellCount e) work work′)
+  refused-unchanged d =
+      let n : ¬ (solveRefusal e (length work) (length marks) limit ≡ 0) = λ z. d (answered-number a ∙ z) in
+      (a .marks-are ∙ marks-kept e (length work) marks limit n, λ s. a .work-is s ∙ work-kept e work (length marks) limit n, a .work-14)
+
+  -- Only a well-formed file with enough lent memory gives marks.
+  pub gives-only : GivesMarks o → WellFormed e × Enough e (length work) (length marks)
+  gives-only g = is-0 e (length work) (length marks) limit .0 (sym (answered-number a) ∙ g) .0
+
+  -- ---- demand 2, the solver's half
+
+  -- With enough lent memory a well-formed file gives marks exactly if its own rounds are at most the limit,
+  pub gives-iff : WellFormed e → Enough e (length work) (length marks) → (r : ℕ) → OwnRounds e r → GivesMarks o ↔ r ≤ limit
+  gives-iff w m r o =
+      let x = is-0 e (length work) (length marks) limit in
+      rw (answered-number a, own-rounds w r o) (λ z. x .0 z .1, λ h. x .1 ((w, m), h))
+
+  -- and is spent exactly if they exceed it.
+  pub spent-iff : WellFormed e → Enough e (length work) (length marks) → (r : ℕ) → OwnRounds e r → Spent o ↔ limit < r
+  spent-iff w m r o =
+      let x = is-14 e (length work) (length marks) limit in
+      rw (answered-number a, own-rounds w r o) (λ z. x .0 z .1, λ h. x .1 ((w, m), h))
+
+-- Let a call keep the contract of solve on a well-formed file, with enough lent memory. Let r be the file's own rounds, σ the standard solution
+-- of its blocks, from whatever start, and vs the values of its cells under σ.
+-- If r is at most the limit, the call reports verdict and count of the first block's set, and r; the marks are those of that set, with no bit from
+-- n up and the words behind as lent; the working bytes are the cells' values, with the bytes behind as lent.
+-- Otherwise it refuses with 14, the marks are as lent, each of the c working bytes is 0 or 1, and the bytes behind are as lent.
+pub solve-correct : {e work marks : List ℕ} {limit : ℕ} {o : Outcome} {work′ marks′ : List ℕ} → Answered e work marks limit o work′ marks′
+    → WellFormed e → Enough e (length work) (length marks)
+    → (r : ℕ) → OwnRounds e r
+    → (ρ σ : Valuation) → Sized (stateCount e) ρ → StandardSolution e ρ σ
+    → (vs : List Bool) → Values (cells e) σ vs
+    → (r ≤ limit → (o ≡ reportOf e (σ 0) r) × Marks (stateCount e) (σ 0) marks marks′ × (work′ ≡ map bit vs ++ drop (cellCount e) work))
+    × (limit < r → (o ≡ refused 14) × (marks′ ≡ marks) × Scratch (cellCount e) work work′)
+unfolding report
+solve-correct {marks = marks} {o = said} {marks′ = marks′} a w m r o ρ σ start s vs v = (
+  λ h.
+      let g = gives-iff a w m r o .1 h in
+      let first = own-first w ρ σ start s in (
+        rw (first, own-rounds w r o) (answered-report a g),
+        shows (σ 0) marks marks′ (rw first (answered-marks a g)) (ap length first ∙ own-sized w 0),
+        rw (own-values w ρ σ start s vs v) (answered-work a g),
+      ),
+  λ h.
+      let z = spent-iff a w m r o .1 h in
+      let d : ¬ GivesMarks said = λ g. omega arith in
+      (answered-refusal a d ∙ ap refused z, refused-unchanged a d .0, refused-unchanged a d .2 z),
+)
+
+-- A run that gives marks, and another on the same file at a limit no less and with enough lent memory: the other one reports the same, and its
+-- marks and working bytes are the same, with what is behind them as lent.
+pub larger : {e work marks : List ℕ} {limit : ℕ} {o : Outcome} {work′ marks′ : List ℕ} → Answered e work marks limit o work′ marks′ → GivesMarks o
+    → {work₂ marks₂ : List ℕ} {more : ℕ} {o₂ : Outcome} {work₂′ marks₂′ : List ℕ} → Answered e work₂ marks₂ more o₂ work₂′ marks₂′
+    → Enough e (length work₂) (length marks₂) → limit ≤ more
+    → (o₂ ≡ o) × (marks₂′ ≡ take wordCount marks′ ++ drop wordCount marks₂) × (work₂′ ≡ take (cellCount e) work′ ++ drop (cellCount e) work₂)
+larger {e} {work} {marks} {limit} a g {work₂} {marks₂} {more} b m h =
+    let ((w, m₁), low) = is-0 e (length work) (length marks) limit .0 (sym (answered-number a) ∙ g) in
+    let g₂ = answered-number b ∙ is-0 e (length work₂) (length marks₂) more .1 ((w, m), omega arith) in
+    let vs = evaluate (cells e) (run e .0) in
+    let long : length (map bit vs) ≡ cellCount e = length-map vs bit ∙ evaluate-values (cells e) (ordered e w) (run e .0) .sized ∙ length-cells e in (
+      answered-report b g₂ ∙ sym (answered-report a g),
+      answered-marks b g₂ ∙ ap (λ (ws : List ℕ). ws ++ drop wordCount marks₂) (sym (ap (take wordCount) (answered-marks a g) ∙ take-words wordCount (run e .0 0) _)),
+      rw (answered-work a g, ← long, take-append-seam) (rw long (answered-work b g₂)),
+    )
+
+-- A limit of m + m ^ 2 + .. + m ^ d, for d blocks and m = n + 1, is never spent.
+pub never-spent : {e work marks : List ℕ} {limit : ℕ} {o : Outcome} {work′ marks′ : List ℕ} → Answered e work marks limit o work′ marks′
+    → powers (suc (stateCount e)) (blockCount e) ≤ limit → ¬ Spent o
+never-spent {e} {work} {marks} {limit} a h s =
+    let low = is-14 e (length work) (length marks) limit .0 (sym (answered-number a) ∙ s) .1 in
+    omega (arith, own-bound e)

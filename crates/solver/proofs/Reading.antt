@@ -9,18 +9,21 @@ use mir.Val.{Fits}
 use borrow.Author.Tests.{le-leb, lt-leb, lt-ltb, eq-eqb}
 use lib.Dec.{T, leb, leb·zero, leb→le, ltb→lt, eqb→eq}
 use lib.ListN.{length}
-use Rattle.sets.specs.Lists.{all}
+use Rattle.sets.specs.Lists.{every}
 use Rattle.sets.specs.Size.{stateLimit}
-use Rattle.sets.specs.Words.{Decides}
+use Rattle.sets.specs.internal.Decides.{Decides}
 use Rattle.sets.proofs.Lists.{and-left, and-right, test}
 use Rattle.solver.specs.declared.Cause.the-variants.{Layout, Table}
 use Rattle.solver.specs.declared.Opened.the-variants.{File, Unfit}
 use Rattle.solver.specs.declared.Sizes.{Sizes}
-use Rattle.solver.specs.File.{stateCount, blockCount, cellCount, operandCount, sizesOf, blocksAt, cellsAt, operandsAt}
+use Rattle.solver.specs.File.{stateCount, blockCount, cellCount, operandCount, blocksAt, cellsAt, operandsAt}
+use Rattle.solver.specs.internal.Forms.{sizesOf}
 use Rattle.solver.specs.Limits.{blockLimit, cellLimit, operandLimit}
-use Rattle.solver.specs.Conditions.{between, layoutOk, tablesOk, opened}
-use Rattle.solver.specs.Checks.{Read}
-use Rattle.solver.specs.Working.{Opens}
+use Rattle.sets.specs.Refusals.{between}
+use Rattle.solver.specs.Conditions.{layoutOk, tablesOk}
+use Rattle.solver.specs.internal.Forms.{opened}
+use Rattle.solver.specs.internal.Checks.{Read}
+use Rattle.solver.specs.internal.Working.{Opens}
 use Rattle.solver.proofs.Tables.{counted}
 
 -- a number that is tested to be in a range
@@ -58,7 +61,7 @@ layout-facts e h =
 
 -- if the file can be read, condition 11 does not hold
 layout-from : (e : List ℕ) → Read e (sizesOf e) → layoutOk e ≡ true
-unfolding layoutOk all
+unfolding layoutOk every
 layout-from e r =
     simp (
       le-leb 36 (length e) (omega arith),
@@ -93,7 +96,7 @@ layout-decided e s are false d = go (layoutOk e) refl
 
 -- a file too short for the header
 pub layout-short : (e : List ℕ) → length e < 36 → layoutOk e ≡ false
-unfolding layoutOk all
+unfolding layoutOk every
 layout-short e h = rw (lt-leb 36 (length e) h) refl
 
 -- a file that is opened can be read

@@ -10,22 +10,24 @@ use lib.ListN.{length, getD, set, replicate, length-replicate, getD-replicate, l
 use lib.Seq.{ext-getD, getD-set-same, getD-set-other}
 use borrow.Author.Tests.{lt-ltb, le-ltb}
 use Rattle.sets.specs.Size.{wordCount}
-use Rattle.sets.specs.Set.{start}
+use Rattle.sets.specs.States.{start}
 use Rattle.sets.specs.Words.{words, bit}
 use Rattle.sets.proofs.Words.{words-none}
 use Rattle.solver.specs.Limits.{blockLimit}
-use Rattle.solver.specs.Cells.{bind, none, evaluate}
+use Rattle.sets.specs.Valuation.{bind, none, Sized}
+use Rattle.solver.specs.Cells.{evaluate}
 use Rattle.solver.specs.File.{stateCount, blockCount, cellCount, blocks, blockAt, cells}
 use Rattle.solver.specs.Conditions.{WellFormed}
 use Rattle.solver.specs.Rounds.{Reached, solved}
 use Rattle.solver.specs.Outcome.{run}
-use Rattle.solver.specs.Working.{Opens, Ready, Holds, Shows, Evaluated, SolvesFrom, Solving, Ran, Started, starting, spent}
+use Rattle.solver.specs.internal.Working.{Opens, Ready, Holds, Shows, Evaluated, SolvesFrom, Solving, Ran, Started, starting, spent}
 use Rattle.solver.specs.declared.Sizes.{Sizes}
 use Rattle.solver.proofs.Tables.{length-blocks, length-cells, counted}
 use Rattle.solver.proofs.Reading.{layout-facts, opens-read}
 use Rattle.solver.proofs.WellFormed.{ordered}
 use Rattle.solver.proofs.Values.{evaluate-values}
-use Rattle.solver.proofs.Solving.{Sized, bind-same, bind-other, solves}
+use Rattle.sets.proofs.Valuation.{bind-same, bind-other}
+use Rattle.solver.proofs.Solving.{solves}
 use Rattle.solver.proofs.Starts.{Agree, own-named, own-inside, solved-start, evaluate-start}
 use Rattle.solver.proofs.Sides.{holds-bind}
 use Rattle.solver.proofs.Turns.{first}

@@ -8,17 +8,20 @@ use native.Mathlib.Decide.{decLt, ℕ-discrete}
 use lib.Dec.{eqb}
 use lib.ListN.{length, getD, set, length-map, length-set, List·getD-map, List·getD-eq-default}
 use lib.Seq.{getD-set-same, getD-set-other}
-use Rattle.sets.specs.Lists.{all, any}
+use Rattle.sets.specs.Lists.{every, forSome}
 use Rattle.sets.specs.Size.{wordCount, stateLimit}
-use Rattle.sets.specs.Set.{has}
+use Rattle.sets.specs.States.{has}
 use Rattle.sets.specs.Words.{marked, bit}
 use Rattle.sets.proofs.Lists.{kept-equal}
 use Rattle.sets.proofs.Words.{marked-words}
 use Rattle.solver.specs.Limits.{blockLimit}
-use Rattle.solver.specs.Cells.{Cell, Ordered, Valuation, value, Values}
-use Rattle.solver.specs.File.{stateCount, cellCount, sizesOf, operands, Entry, entryAt, cellOf, cells, listOf}
-use Rattle.solver.specs.Checks.{Counts}
-use Rattle.solver.specs.Working.{Ready, ListAt, Holds, Shows, Valued, Evaluated, truths}
+use Rattle.solver.specs.Cells.{Cell, value, Values}
+use Rattle.solver.specs.internal.Forms.{Ordered}
+use Rattle.sets.specs.Valuation.{Valuation}
+use Rattle.solver.specs.File.{stateCount, cellCount, operands, Entry, entryAt, entryCell, cells, listOf}
+use Rattle.solver.specs.internal.Forms.{sizesOf}
+use Rattle.solver.specs.internal.Checks.{Counts}
+use Rattle.solver.specs.internal.Working.{Ready, ListAt, Holds, Shows, Valued, Evaluated, truths}
 use Rattle.solver.specs.declared.Sizes.{Sizes}
 use Rattle.solver.proofs.Tables.{counted, length-cells, cell-at, operand-at}
 use Rattle.solver.proofs.Reading.{layout-facts}
@@ -45,7 +48,7 @@ length-truths work = length-map work (λ x. eqb x 1)
 -- ---- lists: what a search among the operands' bytes tells
 module _ (work : List ℕ) (bits : (i : ℕ) → getD work i 0 ≤ 1) (ops : List ℕ) (from count : ℕ) (ρ : Valuation) where
   abbrev wanted : ℕ → List ℕ → Bool
-  wanted x os = any (λ o. eqb (getD work o 0) x) os
+  wanted x os = forSome (λ o. eqb (getD work o 0) x) os
 
   one-or-zero : (o : ℕ) → eqb (getD work o 0) 1 ≡ not (eqb (getD work o 0) 0)
   one-or-zero o = go (getD work o 0) (bits o)
@@ -55,8 +58,8 @@ module _ (work : List ℕ) (bits : (i : ℕ) → getD work i 0 ≤ 1) (ops : Lis
       go (suc zero) h = refl
       go (suc (suc x)) h = absurd (omega arith)
 
-  no-zero : (os : List ℕ) → all (λ o. getD (truths work) o false) os ≡ not (wanted 0 os)
-  unfolding all any
+  no-zero : (os : List ℕ) → every (λ o. getD (truths work) o false) os ≡ not (wanted 0 os)
+  unfolding every forSome
   no-zero [] = refl
   no-zero (o ∷ os) = rw (truth-at work o, one-or-zero o, no-zero os) (go (eqb (getD work o 0) 0))
     where
@@ -64,24 +67,24 @@ module _ (work : List ℕ) (bits : (i : ℕ) → getD work i 0 ≤ 1) (ops : Lis
       go true = refl
       go false = refl
 
-  some-one : (os : List ℕ) → any (λ o. getD (truths work) o false) os ≡ wanted 1 os
-  unfolding any
+  some-one : (os : List ℕ) → forSome (λ o. getD (truths work) o false) os ≡ wanted 1 os
+  unfolding forSome
   some-one [] = refl
   some-one (o ∷ os) = rw (truth-at work o, some-one os) refl
 
-  pub and-value : {kind : ℕ} {found : Bool} → kind ≡ 0 → found ≡ wanted 0 (listOf ops from count) → bit (not found) ≡ bit (value ρ (truths work) (cellOf ops kind from count))
-  unfolding value cellOf
+  pub and-value : {kind : ℕ} {found : Bool} → kind ≡ 0 → found ≡ wanted 0 (listOf ops from count) → bit (not found) ≡ bit (value ρ (truths work) (entryCell ops kind from count))
+  unfolding value entryCell
   and-value k e = rw (k, e, no-zero (listOf ops from count)) refl
 
-  pub or-value : {kind : ℕ} {found : Bool} → ¬ (kind ≡ 0) → kind ≤ 1 → found ≡ wanted 1 (listOf ops from count) → bit found ≡ bit (value ρ (truths work) (cellOf ops kind from count))
-  unfolding value cellOf
+  pub or-value : {kind : ℕ} {found : Bool} → ¬ (kind ≡ 0) → kind ≤ 1 → found ≡ wanted 1 (listOf ops from count) → bit found ≡ bit (value ρ (truths work) (entryCell ops kind from count))
+  unfolding value entryCell
   or-value {kind} n h e =
       let k : kind ≡ 1 = omega arith in
       rw (k, e, some-one (listOf ops from count)) refl
 
 -- ---- a cell's value, by its kind
 abbrev pub cellAt : List ℕ → ℕ → Cell
-cellAt e i = cellOf (operands e) (entryAt e i .kind) (entryAt e i .one) (entryAt e i .two)
+cellAt e i = entryCell (operands e) (entryAt e i .kind) (entryAt e i .one) (entryAt e i .two)
 
 module _ {e : List ℕ} {sizes : Sizes} {work : List ℕ} (r : Ready e sizes work) {i : ℕ} (h : i < sizes .cells) where
   own : i < cellCount e
@@ -130,14 +133,14 @@ module _ {e : List ℕ} {sizes : Sizes} {work : List ℕ} (r : Ready e sizes wor
         rw is (l, k)
 
     pub list-valued : {rows : List (List ℕ)} {answer : ℕ} →
-        ((ρ : Valuation) → answer ≡ bit (value ρ (truths work) (cellOf (operands e) (x .kind) (x .one) (x .two)))) → Valued e rows i work answer
+        ((ρ : Valuation) → answer ≡ bit (value ρ (truths work) (entryCell (operands e) (x .kind) (x .one) (x .two)))) → Valued e rows i work answer
     list-valued {answer = answer} f = record {
-      low = rw (f (λ k. [])) (bit-low (value (λ k. []) (truths work) (cellOf (operands e) (x .kind) (x .one) (x .two))));
+      low = rw (f (λ k. [])) (bit-low (value (λ k. []) (truths work) (entryCell (operands e) (x .kind) (x .one) (x .two))));
       right = λ ρ vs holds v s. f ρ ∙ rw is (ap bit (by-rule ρ vs v s));
     }
 
     pub variable-valued : {rows : List (List ℕ)} {answer : ℕ} → x .kind ≡ 2 → answer ≡ bit (marked (getD rows (x .one) []) (x .two)) → Valued e rows i work answer
-    unfolding value cellOf
+    unfolding value entryCell
     variable-valued {rows} k f =
         let b = variable-fits k in
         let k′ : entryAt e i .kind ≡ 2 = rw is at k in

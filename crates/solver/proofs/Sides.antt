@@ -10,30 +10,30 @@ use lib.Dec.{eqb}
 use lib.ListN.{length, getD, set, take, drop, length-append, length-drop, drop-of-length-le, length-set}
 use lib.Seq.{take-suc, take-all, drop-cons, length-take-le, set-at, getD-take, getD-drop, getD-set-same, getD-set-other}
 use Rattle.sets.specs.Size.{wordCount}
-use Rattle.sets.specs.Set.{Set}
+use Rattle.sets.specs.States.{States}
 use Rattle.sets.specs.Words.{words}
 use Rattle.solver.specs.Limits.{blockLimit}
-use Rattle.solver.specs.Cells.{Valuation, bind}
+use Rattle.sets.specs.Valuation.{Valuation, bind}
 use Rattle.solver.specs.File.{stateCount, blockCount, blockAt}
 use Rattle.solver.specs.Conditions.{WellFormed}
-use Rattle.solver.specs.Working.{Opens, Ready, Holds, Valued, Evaluated, RightSidesOf, Applied}
+use Rattle.solver.specs.internal.Working.{Opens, Ready, Holds, Valued, Evaluated, RightSidesOf, Applied}
 use Rattle.solver.specs.declared.Sizes.{Sizes}
 use Rattle.solver.proofs.Tables.{counted, length-cells}
 use Rattle.solver.proofs.Reading.{few-blocks, own-block}
 use Rattle.solver.proofs.WellFormed.{block-kept}
 use Rattle.solver.proofs.Values.{length-part}
 use Rattle.solver.proofs.Shown.{bit-back, evaluated-more}
-use Rattle.solver.proofs.Solving.{bind-same, bind-other}
+use Rattle.sets.proofs.Valuation.{bind-same, bind-other}
 
 -- ---- the sets of all blocks
 
 -- the right-hand sides of a block are a set of the file's states
-pub sides-sized : (e : List ℕ) (k : ℕ) {σ : Valuation} {w : Set} → WellFormed e → k < blockCount e → RightSidesOf e k σ w → length w ≡ stateCount e
+pub sides-sized : (e : List ℕ) (k : ℕ) {σ : Valuation} {w : States} → WellFormed e → k < blockCount e → RightSidesOf e k σ w → length w ≡ stateCount e
 sides-sized e k f h s =
     ap length (s .are) ∙ length-part (stateCount e) (blockAt e k .first) (s .values) (omega (arith, block-kept e f k h, s .each .sized, length-cells e))
 
 -- rows that hold v for block k, and for the others what was held
-pub holds-bind : {n : ℕ} {rows after : List (List ℕ)} {ρ : Valuation} → Holds n rows ρ → (k : ℕ) (v : Set) → length v ≡ n → getD after k [] ≡ words wordCount v →
+pub holds-bind : {n : ℕ} {rows after : List (List ℕ)} {ρ : Valuation} → Holds n rows ρ → (k : ℕ) (v : States) → length v ≡ n → getD after k [] ≡ words wordCount v →
     ((j : ℕ) → ¬ (j ≡ k) → getD after j [] ≡ getD rows j []) → Holds n after (bind ρ k v)
 holds-bind {n} {rows} {after} {ρ} h k v s e f = record { sized = λ j. long j (ℕ-discrete j k); row = λ j b. at j b (ℕ-discrete j k) }
   where
@@ -48,21 +48,21 @@ holds-bind {n} {rows} {after} {ρ} h k v s e f = record { sized = λ j. long j (
 -- ---- the states that are replaced
 
 -- the first s states of v, and the others of w
-abbrev mixed : ℕ → Set → Set → Set
+abbrev mixed : ℕ → States → States → States
 mixed s v w = take s v ++ drop s w
 
-mixed-long : (s : ℕ) (v w : Set) → s ≤ length v → length w ≡ length v → length (mixed s v w) ≡ length v
+mixed-long : (s : ℕ) (v w : States) → s ≤ length v → length w ≡ length v → length (mixed s v w) ≡ length v
 mixed-long s v w h l = length-append (take s v) (drop s w) ∙ rw (length-take-le s v h, length-drop s w) (omega arith)
 
 -- the state of w is put at s
-mixed-more : (s : ℕ) (v w : Set) → s < length v → length w ≡ length v → set (mixed (s + 1) v w) s (getD w s false) ≡ mixed s v w
+mixed-more : (s : ℕ) (v w : States) → s < length v → length w ≡ length v → set (mixed (s + 1) v w) s (getD w s false) ≡ mixed s v w
 mixed-more s v w h l =
     let x : Bool = getD w s false in
     ap (λ (i : ℕ). set (mixed i v w) s x) (add-one s)
-    ∙ ap (λ (u : Set). set (u ++ drop (suc s) w) s x) (take-suc v s false h)
-    ∙ ap (λ (u : Set). set u s x) (append-assoc (take s v) (getD v s false ∷ []) (drop (suc s) w))
+    ∙ ap (λ (u : States). set (u ++ drop (suc s) w) s x) (take-suc v s false h)
+    ∙ ap (λ (u : States). set u s x) (append-assoc (take s v) (getD v s false ∷ []) (drop (suc s) w))
     ∙ set-at (take s v) (getD v s false) (drop (suc s) w) x s (length-take-le s v (omega arith))
-    ∙ ap (λ (u : Set). take s v ++ u) (sym (drop-cons w s false (omega arith)))
+    ∙ ap (λ (u : States). take s v ++ u) (sym (drop-cons w s false (omega arith)))
 
 -- a block of an opened file, and its first cell
 pub record BlockOf (e : List ℕ) (sizes : Sizes) (k first : ℕ) : Type 0 where
@@ -77,7 +77,7 @@ module _ {e : List ℕ} {sizes : Sizes} {k first : ℕ} (b : BlockOf e sizes k f
       let n = counted (b .opens .counts) in
       omega (arith, block-kept e (b .opens .formed) k (own-block (b .opens) (b .has)))
 
-  block-sides : {σ : Valuation} {w : Set} → RightSidesOf e k σ w → length w ≡ stateCount e
+  block-sides : {σ : Valuation} {w : States} → RightSidesOf e k σ w → length w ≡ stateCount e
   block-sides s = sides-sized e k (b .opens .formed) (own-block (b .opens) (b .has)) s
 
 -- With s states left: the cells from that of state s on are worked out under `rows`, and in `next` the states from s on are replaced.
@@ -87,7 +87,7 @@ pub record Replacing (e : List ℕ) (sizes : Sizes) (rows : List (List ℕ)) (k 
   pub long : length next ≡ blockLimit
   pub worked : Evaluated e rows (first + s) work
   pub others : (j : ℕ) → ¬ (j ≡ k) → getD next j [] ≡ getD rows j []
-  pub own : (σ : Valuation) (w : Set) → Holds (stateCount e) rows σ → RightSidesOf e k σ w → getD next k [] ≡ words wordCount (mixed s (σ k) w)
+  pub own : (σ : Valuation) (w : States) → Holds (stateCount e) rows σ → RightSidesOf e k σ w → getD next k [] ≡ words wordCount (mixed s (σ k) w)
 
 module _ {e : List ℕ} {sizes : Sizes} {rows : List (List ℕ)} {k first : ℕ} where
   -- no state is replaced yet
@@ -104,8 +104,8 @@ module _ {e : List ℕ} {sizes : Sizes} {rows : List (List ℕ)} {k first : ℕ}
         own = λ σ w h r.
             h .row k (few-blocks (b .opens) (b .has))
             ∙ ap (words wordCount)
-            (sym (ap (λ (u : Set). u ++ drop (sizes .states) w) (take-all (sizes .states) (σ k) (omega (arith, h .sized k)))
-            ∙ ap (λ (u : Set). σ k ++ u) (drop-of-length-le w {i = sizes .states} (omega (arith, block-sides b r)))
+            (sym (ap (λ (u : States). u ++ drop (sizes .states) w) (take-all (sizes .states) (σ k) (omega (arith, h .sized k)))
+            ∙ ap (λ (u : States). σ k ++ u) (drop-of-length-le w {i = sizes .states} (omega (arith, block-sides b r)))
             ∙ append-nil (σ k)));
       }
 
@@ -115,7 +115,7 @@ module _ {e : List ℕ} {sizes : Sizes} {rows : List (List ℕ)} {k first : ℕ}
 
   -- The right-hand side of state s is put in place: it is the value of cell first + s under `rows`.
   module _ {s v : ℕ} {work row : List ℕ} {next : List (List ℕ)} (r : Replacing e sizes rows k first (s + 1) work next) (x : Valued e rows (first + s) work v)
-      (put : (u : Set) → s < length u → getD next k [] ≡ words wordCount u → row ≡ words wordCount (set u s (eqb v 1))) where
+      (put : (u : States) → s < length u → getD next k [] ≡ words wordCount u → row ≡ words wordCount (set u s (eqb v 1))) where
     up : Evaluated e rows (first + s + 1) work
     up =
         let a : first + (s + 1) ≡ first + s + 1 = omega arith in
@@ -124,11 +124,11 @@ module _ {e : List ℕ} {sizes : Sizes} {rows : List (List ℕ)} {k first : ℕ}
     inside : s < stateCount e
     inside = omega (arith, counted (r .block .opens .counts) .states)
 
-    side : (σ : Valuation) (w : Set) → Holds (stateCount e) rows σ → RightSidesOf e k σ w → eqb v 1 ≡ getD w s false
+    side : (σ : Valuation) (w : States) → Holds (stateCount e) rows σ → RightSidesOf e k σ w → eqb v 1 ≡ getD w s false
     side σ w holds t =
         ap (λ (y : ℕ). eqb y 1) (x .right σ (t .values) holds (t .each) (up .right σ (t .values) holds (t .each)))
         ∙ bit-back (getD (t .values) (first + s) false)
-        ∙ sym (ap (λ (u : Set). getD u s false) (t .are)
+        ∙ sym (ap (λ (u : States). getD u s false) (t .are)
         ∙ getD-take (stateCount e) (drop (blockAt e k .first) (t .values)) s false inside
         ∙ getD-drop (blockAt e k .first) (t .values) s false
         ∙ ap (λ (i : ℕ). getD (t .values) (i + s) false) (sym (r .block .is)))

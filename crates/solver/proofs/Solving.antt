@@ -1,66 +1,35 @@
 -- Solving by rounds: it ends, at the standard solution, of which there is one, within a bound of rounds.
 use mathlib.Core.Path.{_≡_, refl, sym, ap, subst, _∙_}
-use mathlib.Core.Bool.{Bool, true, false, cond}
 use mathlib.Core.List.{List, [], _∷_}
 use Prim.Native.Nat.{ℕ, zero, suc, _+_, _*_, _^_, _≤_, _<_}
 use native.Mathlib.Nat.{pow-suc, pow-zero}
 use native.Mathlib.Omega.{arith}
-use borrow.Author.Tests.{eq-eqb, ne-eqb}
-use lib.Dec.{eqb, leb, leb→le}
+use lib.Dec.{leb, leb→le}
 use lib.ListN.{length, length-replicate}
-use Rattle.sets.specs.Lists.{all}
-use Rattle.sets.specs.Set.{Set, Subset, start, Extremal}
-use Rattle.sets.specs.Loop.{Run, Worked, iterate}
+use Rattle.sets.specs.Lists.{every}
+use Rattle.sets.specs.States.{States, Subset, start, Extremal}
+use Rattle.sets.specs.Loop.{Loop, Worked, iterate}
 use Rattle.sets.proofs.Lists.{and-left, and-right}
 use Rattle.sets.proofs.Order.{extremal-map, extremal-one}
-use Rattle.sets.proofs.FixedPoint.{stepOf, step-set, step-rounds, run-one, run-map, cost, stops, extremal, fixed-mono}
-use Rattle.solver.specs.Cells.{Cell, Ordered, Valuation, bind, evaluate, part}
-use Rattle.solver.specs.File.{Block, Inside}
+use Rattle.sets.specs.internal.Functions.{stepOf}
+use Rattle.sets.proofs.FixedPoint.{step-set, step-rounds, loop-one, loop-map, cost, stops, extremal, fixed-mono}
+use Rattle.solver.specs.Cells.{Cell, evaluate, part}
+use Rattle.solver.specs.internal.Forms.{Ordered}
+use Rattle.sets.specs.Valuation.{Valuation, bind, Sized}
+use Rattle.sets.proofs.Valuation.{Included, bind-other, bind-sized, bind-mono}
+use Rattle.solver.specs.File.{Block}
+use Rattle.solver.specs.internal.Forms.{Inside}
 use Rattle.solver.specs.Standard.{RightSides, Solution}
 use Rattle.solver.specs.Rounds.{Reached, Solves, solved, powers}
 use Rattle.solver.proofs.Values.{evaluate-values, evaluate-mono, sides-part, part-sides, sides-one, length-part, part-mono}
 
--- The set of block k is v, and those of the others are as before.
-pub bind-same : (ρ : Valuation) (k : ℕ) (v : Set) → bind ρ k v k ≡ v
-unfolding bind
-bind-same ρ k v = rw (eq-eqb k k refl)
-
-pub bind-other : (ρ : Valuation) (k : ℕ) (v : Set) (j : ℕ) → ¬ (j ≡ k) → bind ρ k v j ≡ ρ j
-unfolding bind
-bind-other ρ k v j d = rw (ne-eqb j k d)
-
--- a valuation of sets of n states
-abbrev pub Sized : ℕ → Valuation → Type 0
-Sized n ρ = (k : ℕ) → length (ρ k) ≡ n
-
--- each set of ρ is in that of σ
-abbrev pub Within : Valuation → Valuation → Type 0
-Within ρ σ = (k : ℕ) → Subset (ρ k) (σ k)
-
--- bind keeps both
-pub bind-sized : {n : ℕ} (ρ : Valuation) (k : ℕ) (v : Set) → Sized n ρ → length v ≡ n → Sized n (bind ρ k v)
-unfolding bind
-bind-sized {n} ρ k v r o j = go (eqb j k)
-  where
-    go : (b : Bool) → length (cond b v (ρ j)) ≡ n
-    go true = o
-    go false = r j
-
-pub bind-mono : (ρ σ : Valuation) (k : ℕ) (v w : Set) → Within ρ σ → Subset v w → Within (bind ρ k v) (bind σ k w)
-unfolding bind
-bind-mono ρ σ k v w h g j = go (eqb j k)
-  where
-    go : (b : Bool) → Subset (cond b v (ρ j)) (cond b w (σ j))
-    go true = g
-    go false = h j
-
 -- The first block has its cells, and so have the later ones.
 pub inside-first : (n c : ℕ) (b : Block) (bs : List Block) → Inside n c (b ∷ bs) → b .first + n ≤ c
-unfolding Inside all
+unfolding Inside every
 inside-first n c b bs i = leb→le (b .first + n) c (and-left (leb (b .first + n) c) _ i)
 
 pub inside-rest : (n c : ℕ) (b : Block) (bs : List Block) → Inside n c (b ∷ bs) → Inside n c bs
-unfolding Inside all
+unfolding Inside every
 inside-rest n c b bs i = and-right (leb (b .first + n) c) _ i
 
 -- m + m ^ 2 + .. + m ^ (d + 1) = m (1 + m + .. + m ^ d)
@@ -71,7 +40,7 @@ powers-suc m (suc d) = ap (λ x. x + m ^ suc (suc d)) (powers-suc m d) ∙ rw (p
 
 module _ (n : ℕ) (cs : List Cell) where
   -- one turn of the loop of block k: the later blocks solved anew, and the right-hand sides worked out
-  unfoldable pub turn : Block → List Block → ℕ → Valuation → Set → Worked
+  unfoldable pub turn : Block → List Block → ℕ → Valuation → States → Worked
   turn b bs k ρ v =
       let r : Reached = solved n cs bs (suc k) (bind ρ k v) in
       (part n (b .first) (evaluate cs (r .0)), r .1)
@@ -90,7 +59,7 @@ module _ (n : ℕ) (cs : List Cell) where
 -- in sets and in rounds, and is the standard solution, of which there is no other.
 pub record Exact (n : ℕ) (cs : List Cell) (bs : List Block) (k : ℕ) : Type 0 where
   pub sized : (ρ : Valuation) → Sized n ρ → Sized n (solved n cs bs k ρ .0)
-  pub mono : (ρ σ : Valuation) → Sized n ρ → Sized n σ → Within ρ σ → Within (solved n cs bs k ρ .0) (solved n cs bs k σ .0)
+  pub mono : (ρ σ : Valuation) → Sized n ρ → Sized n σ → Included ρ σ → Included (solved n cs bs k ρ .0) (solved n cs bs k σ .0)
   pub reached : (ρ : Valuation) → Sized n ρ → Solves n cs bs k ρ (solved n cs bs k ρ .0) (solved n cs bs k ρ .1)
   pub standard : (ρ : Valuation) → Sized n ρ → Solution n cs bs k ρ (solved n cs bs k ρ .0)
   pub one : (ρ : Valuation) → Sized n ρ → (σ : Valuation) → Solution n cs bs k ρ σ → σ ≡ solved n cs bs k ρ .0
@@ -99,20 +68,20 @@ module _ (n : ℕ) (cs : List Cell) (ordered : Ordered cs) where
   -- One block, where the later blocks are known.
   module _ (b : Block) (bs : List Block) (k : ℕ) (fits : b .first + n ≤ length cs) (later : Exact n cs bs (suc k)) where
     -- its turn, and the set at which its loop stops
-    abbrev go : Valuation → Set → Worked
+    abbrev go : Valuation → States → Worked
     go = turn n cs b bs k
 
-    abbrev own : Valuation → Set
+    abbrev own : Valuation → States
     own ρ = looped n cs b bs k ρ .0
 
     -- a turn gives n states, and grows with the valuation and the set
-    turn-sized : (ρ : Valuation) (v : Set) → length v ≡ n → length (go ρ v .0) ≡ n
+    turn-sized : (ρ : Valuation) (v : States) → length v ≡ n → length (go ρ v .0) ≡ n
     unfolding turn
     turn-sized ρ v o =
         let σ : Valuation = solved n cs bs (suc k) (bind ρ k v) .0 in
         length-part n (b .first) (evaluate cs σ) (omega (arith, evaluate-values cs ordered σ .sized))
 
-    turn-mono : (ρ σ : Valuation) → Sized n ρ → Sized n σ → Within ρ σ → (v w : Set) → length v ≡ n → length w ≡ n → Subset v w → Subset (go ρ v .0) (go σ w .0)
+    turn-mono : (ρ σ : Valuation) → Sized n ρ → Sized n σ → Included ρ σ → (v w : States) → length v ≡ n → length w ≡ n → Subset v w → Subset (go ρ v .0) (go σ w .0)
     unfolding turn
     turn-mono ρ σ r q h v w o l g =
         let x : Valuation = solved n cs bs (suc k) (bind ρ k v) .0 in
@@ -120,11 +89,11 @@ module _ (n : ℕ) (cs : List Cell) (ordered : Ordered cs) where
         part-mono n (b .first) (evaluate cs x) (evaluate cs y) (evaluate-mono cs ordered x y
         (later .mono (bind ρ k v) (bind σ k w) (bind-sized ρ k v r o) (bind-sized σ k w q l) (bind-mono ρ σ k v w h g)))
 
-    own-mono : (ρ : Valuation) → Sized n ρ → (v w : Set) → length v ≡ n → length w ≡ n → Subset v w → Subset (go ρ v .0) (go ρ w .0)
+    own-mono : (ρ : Valuation) → Sized n ρ → (v w : States) → length v ≡ n → length w ≡ n → Subset v w → Subset (go ρ v .0) (go ρ w .0)
     own-mono ρ r = turn-mono ρ ρ r r (λ j s t. t)
 
     -- a larger valuation gives a larger set
-    loop-mono : (ρ σ : Valuation) → Sized n ρ → Sized n σ → Within ρ σ → Subset (own ρ) (own σ)
+    loop-mono : (ρ σ : Valuation) → Sized n ρ → Sized n σ → Included ρ σ → Subset (own ρ) (own σ)
     loop-mono ρ σ r q h =
         fixed-mono n (go ρ) (go σ) (turn-sized ρ) (own-mono ρ r) (turn-sized σ) (own-mono σ q)
         (λ v o. turn-mono ρ σ r q h v v o o (λ s t. t)) (b .sign)
@@ -137,23 +106,25 @@ module _ (n : ℕ) (cs : List Cell) (ordered : Ordered cs) where
       bound-sized : Sized n (bind ρ k (own ρ))
       bound-sized = bind-sized ρ k (own ρ) r (loop-extremal .sized)
 
+      -- the sets held in a turn
+      abbrev held : States → Valuation
+      held v = solved n cs bs (suc k) (bind ρ k v) .0
+
       -- a turn solves the later blocks and takes the right-hand sides
-      turn-solves : (v w : Set) (p : ℕ) → length v ≡ n → stepOf (go ρ) v w p
-          → (τ : Valuation) × Solves n cs bs (suc k) (bind ρ k v) τ p × RightSides n cs (b .first) τ w
+      turn-solves : (v : States) (τ : Valuation) (w : States) (p : ℕ) → length v ≡ n → stepOf held (go ρ) v τ w p
+          → Solves n cs bs (suc k) (bind ρ k v) τ p × RightSides n cs (b .first) τ w
       unfolding turn
-      turn-solves v w p o e =
-          let σ : Valuation = solved n cs bs (suc k) (bind ρ k v) .0 in (
-            σ,
-            subst (λ (q : ℕ). Solves n cs bs (suc k) (bind ρ k v) σ q) (step-rounds e) (later .reached (bind ρ k v) (bind-sized ρ k v r o)),
-            part-sides cs ordered σ (sym (step-set e)),
-          )
+      turn-solves v τ w p o e = rw (e .0) (
+        subst (λ (q : ℕ). Solves n cs bs (suc k) (bind ρ k v) (held v) q) (step-rounds (e .1)) (later .reached (bind ρ k v) (bind-sized ρ k v r o)),
+        part-sides cs ordered (held v) (sym (step-set (e .1))),
+      )
 
       -- so the loop does so turn by turn
-      loop-solves : Run (λ u w q. (τ : Valuation) × Solves n cs bs (suc k) (bind ρ k u) τ q × RightSides n cs (b .first) τ w)
-          (start n (b .sign)) (own ρ) (looped n cs b bs k ρ .1)
+      loop-solves : Loop (λ u τ w q. Solves n cs bs (suc k) (bind ρ k u) τ q × RightSides n cs (b .first) τ w)
+          (start n (b .sign)) (held (own ρ)) (looped n cs b bs k ρ .1)
       loop-solves =
-          run-map n (λ v w p o e. ap length (sym (step-set e)) ∙ turn-sized ρ v o) turn-solves (length-replicate n (b .sign))
-          (stops n (b .sign) (go ρ) (turn-sized ρ) (own-mono ρ r))
+          loop-map n (λ v τ w p o e. ap length (sym (step-set (e .1))) ∙ turn-sized ρ v o) turn-solves (length-replicate n (b .sign))
+          (stops n (b .sign) (go ρ) (turn-sized ρ) (own-mono ρ r) held)
 
       -- The sets that a turn leaves as they are, are those equal to their right-hand sides under a solution of the later blocks.
       loop-standard : Extremal n (b .sign) (λ u. (τ : Valuation) × Solution n cs bs (suc k) (bind ρ k u) τ × RightSides n cs (b .first) τ u) (own ρ)
@@ -171,10 +142,10 @@ module _ (n : ℕ) (cs : List Cell) (ordered : Ordered cs) where
       sized = λ ρ r. later .sized (bind ρ k (own ρ)) (bound-sized ρ r);
       mono = λ ρ σ r q h. later .mono (bind ρ k (own ρ)) (bind σ k (own σ)) (bound-sized ρ r) (bound-sized σ q)
           (bind-mono ρ σ k (own ρ) (own σ) h (loop-mono ρ σ r q h));
-      reached = λ ρ r. (own ρ, loop-solves ρ r, solved n cs bs (suc k) (bind ρ k (own ρ)) .1, later .reached (bind ρ k (own ρ)) (bound-sized ρ r));
+      reached = loop-solves;
       standard = λ ρ r. (own ρ, loop-standard ρ r, later .standard (bind ρ k (own ρ)) (bound-sized ρ r));
       one = λ ρ r σ m. later .one (bind ρ k (m .0)) (bind-sized ρ k (m .0) r (m .1 .sized)) σ (m .2)
-          ∙ ap (λ (v : Set). solved n cs bs (suc k) (bind ρ k v) .0) (extremal-one (m .1) (loop-standard ρ r));
+          ∙ ap (λ (v : States). solved n cs bs (suc k) (bind ρ k v) .0) (extremal-one (m .1) (loop-standard ρ r));
     }
 
   -- so it is known of all blocks
@@ -201,27 +172,20 @@ module _ (n : ℕ) (cs : List Cell) (ordered : Ordered cs) where
   pub solved-sized : (bs : List Block) → Inside n (length cs) bs → (k : ℕ) (ρ : Valuation) → Sized n ρ → Sized n (solved n cs bs k ρ .0)
   solved-sized bs i k = exact bs i k .sized
 
-  pub solved-mono : (bs : List Block) → Inside n (length cs) bs → (k : ℕ) (ρ σ : Valuation) → Sized n ρ → Sized n σ → Within ρ σ
-      → Within (solved n cs bs k ρ .0) (solved n cs bs k σ .0)
-  solved-mono bs i k = exact bs i k .mono
-
   -- Solving with no limit has one outcome.
   pub solves-one : (bs : List Block) (k : ℕ) (ρ σ τ : Valuation) (r q : ℕ) → Solves n cs bs k ρ σ r → Solves n cs bs k ρ τ q → (σ ≡ τ) × (r ≡ q)
   unfolding Solves
   solves-one [] k ρ σ τ r q d e = (d .0 ∙ sym (e .0), d .1 ∙ sym (e .1))
-  solves-one (b ∷ bs) k ρ σ τ r q d e =
-      let z = run-one (λ v x y t s f g.
-      let m = solves-one bs (suc k) (bind ρ k v) (f .0) (g .0) t s (f .1) (g .1) in
-      (sides-one cs ordered (f .2) (g .2) (m .0), m .1)) (d .1) (e .1) in
-      let l = subst (λ (v : Set). Solves n cs bs (suc k) (bind ρ k v) τ (e .2)) (sym (z .0)) (e .3) in
-      (solves-one bs (suc k) (bind ρ k (d .0)) σ τ (d .2) (e .2) (d .3) l .0, z .1)
+  solves-one (b ∷ bs) k ρ σ τ r q d e = loop-one (λ v x y u w t s f g.
+      let m = solves-one bs (suc k) (bind ρ k v) x y t s (f .0) (g .0) in
+      (m .0, sides-one cs ordered (f .1) (g .1) (m .0), m .1)) d e
 
 -- Solving the blocks from k on keeps the sets of those below.
 pub solved-below : (n : ℕ) (cs : List Cell) (bs : List Block) (k : ℕ) (ρ : Valuation) (j : ℕ) → j < k → solved n cs bs k ρ .0 j ≡ ρ j
 unfolding solved turn
 solved-below n cs [] k ρ j h = refl
 solved-below n cs (b ∷ bs) k ρ j h =
-    let v : Set = looped n cs b bs k ρ .0 in
+    let v : States = looped n cs b bs k ρ .0 in
     solved-below n cs bs (suc k) (bind ρ k v) j (omega arith) ∙ bind-other ρ k v j (λ e. omega arith)
 
 -- The rounds are at most m + m ^ 2 + .. + m ^ d, for d blocks and m = n + 1.

@@ -7,10 +7,12 @@ use Prim.Native.Nat.{ℕ, zero, suc, _+_, _≤_, _<_}
 use native.Mathlib.Omega.{arith}
 use native.Mathlib.Decide.{ℕ-discrete}
 use lib.ListN.{length, getD, set, replicate, length-replicate}
-use Rattle.sets.specs.Set.{Set, start}
+use Rattle.sets.specs.States.{States, start}
 use Rattle.sets.specs.Loop.{Worked, iterate}
-use Rattle.solver.specs.Cells.{Cell, And, Or, Variable, Valuation, bind, none, value, Values, workOut, evaluate, part}
-use Rattle.solver.specs.File.{stateCount, blockCount, cellCount, Block, Inside, blocks, operands, cellOf, cells}
+use Rattle.solver.specs.Cells.{Cell, And, Or, Variable, value, Values, workOut, evaluate, part}
+use Rattle.sets.specs.Valuation.{Valuation, bind, none, Sized}
+use Rattle.solver.specs.File.{stateCount, blockCount, cellCount, Block, blocks, operands, entryCell, cells}
+use Rattle.solver.specs.internal.Forms.{Inside}
 use Rattle.solver.specs.Conditions.{WellFormed}
 use Rattle.solver.specs.Standard.{Solution}
 use Rattle.solver.specs.Rounds.{Solves, solved, powers}
@@ -19,7 +21,8 @@ use Rattle.solver.proofs.Tables.{length-blocks, length-cells, cell-at}
 use Rattle.solver.proofs.Reading.{layout-facts}
 use Rattle.solver.proofs.WellFormed.{inside, ordered, cell-kept}
 use Rattle.solver.proofs.Values.{evaluate-values, values-one}
-use Rattle.solver.proofs.Solving.{Sized, bind-same, bind-other, turn, looped, solves, solution-one, solves-one, solved-sized, rounds-bound}
+use Rattle.sets.proofs.Valuation.{bind-same, bind-other}
+use Rattle.solver.proofs.Solving.{turn, looped, solves, solution-one, solves-one, solved-sized, rounds-bound}
 
 -- two valuations have the same sets for the blocks below d
 abbrev pub Agree : ℕ → Valuation → Valuation → Type 0
@@ -41,7 +44,7 @@ module _ (d : ℕ) (ρ σ : Valuation) (agree : Agree d ρ σ) where
   unfolding Names value
   value-start vs (And os) h = refl
   value-start vs (Or os) h = refl
-  value-start vs (Variable k s) h = ap (λ (v : Set). getD v s false) (agree k h)
+  value-start vs (Variable k s) h = ap (λ (v : States). getD v s false) (agree k h)
 
   module _ (cs : List Cell) (named : Named d cs) where
     workOut-start : (i : ℕ) (vs : List Bool) → i ≤ length cs → workOut cs ρ i vs ≡ workOut cs σ i vs
@@ -56,7 +59,7 @@ module _ (d : ℕ) (ρ σ : Valuation) (agree : Agree d ρ σ) where
     evaluate-start = workOut-start (length cs) (replicate (length cs) false) (omega arith)
 
 -- Valuations that agree below k agree below k + 1 once block k has the same set.
-bind-agree : (k : ℕ) (ρ σ : Valuation) (v : Set) → Agree k ρ σ → Agree (suc k) (bind ρ k v) (bind σ k v)
+bind-agree : (k : ℕ) (ρ σ : Valuation) (v : States) → Agree k ρ σ → Agree (suc k) (bind ρ k v) (bind σ k v)
 bind-agree k ρ σ v agree j h = go (ℕ-discrete j k)
   where
     go : Dec (j ≡ k) → bind ρ k v j ≡ bind σ k v j
@@ -71,25 +74,25 @@ module _ (n d : ℕ) (cs : List Cell) (named : Named d cs) where
 
   -- then each turn of the block before is the same, and so is its loop
   looped-start : (b : Block) (bs : List Block) (k : ℕ) (ρ σ : Valuation)
-      → ((v : Set) → Alike bs (suc k) (bind ρ k v) (bind σ k v))
+      → ((v : States) → Alike bs (suc k) (bind ρ k v) (bind σ k v))
       → looped n cs b bs k ρ ≡ looped n cs b bs k σ
   unfolding turn
-  looped-start b bs k ρ σ alike = ap (λ (f : Set → Worked). iterate (suc n) f (start n (b .sign))) (fun-ext λ v.
+  looped-start b bs k ρ σ alike = ap (λ (f : States → Worked). iterate (suc n) f (start n (b .sign))) (fun-ext λ v.
       ap₂ (λ (vs : List Bool) (r : ℕ). (part n (b .first) vs, r)) (evaluate-start d _ _ (alike v .0) cs named) (alike v .1))
 
   pub solved-start : (bs : List Block) (k : ℕ) → k + length bs ≡ d → (ρ σ : Valuation) → Agree k ρ σ → Alike bs k ρ σ
   unfolding solved turn
   solved-start [] k e ρ σ agree = (λ j h. agree j (omega arith), refl)
   solved-start (b ∷ bs) k e ρ σ agree =
-      let alike : (v : Set) → Alike bs (suc k) (bind ρ k v) (bind σ k v) = λ v. solved-start bs (suc k) (omega arith) (bind ρ k v) (bind σ k v) (bind-agree k ρ σ v agree) in
+      let alike : (v : States) → Alike bs (suc k) (bind ρ k v) (bind σ k v) = λ v. solved-start bs (suc k) (omega arith) (bind ρ k v) (bind σ k v) (bind-agree k ρ σ v agree) in
       let same = looped-start b bs k ρ σ alike in (
         λ j h. alike (looped n cs b bs k ρ .0) .0 j h ∙ ap (λ (x : Worked). solved n cs bs (suc k) (bind σ k (x .0)) .0 j) same,
         ap (λ (x : Worked). x .1) same,
       )
 
 -- a cell of kind 2 at most that names a block below d where it is a variable
-cell-names : (d : ℕ) (ops : List ℕ) (kind x y : ℕ) → kind ≤ 2 → (kind ≡ 2 → x < d) → Names d (cellOf ops kind x y)
-unfolding Names cellOf
+cell-names : (d : ℕ) (ops : List ℕ) (kind x y : ℕ) → kind ≤ 2 → (kind ≡ 2 → x < d) → Names d (entryCell ops kind x y)
+unfolding Names entryCell
 cell-names d ops zero x y h g = tt
 cell-names d ops (suc zero) x y h g = tt
 cell-names d ops (suc (suc kind)) x y h g = g (omega arith)

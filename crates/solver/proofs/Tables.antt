@@ -1,16 +1,16 @@
 -- The counts and tables of any file: how long each table is, and each element by the place where it stands.
 use mathlib.Core.Path.{_≡_, ap, _∙_}
-use mathlib.Core.Bool.{Bool}
 use mathlib.Core.List.{List, [], _∷_}
 use Prim.Native.Nat.{ℕ, _+_, _*_, _≤_, _<_}
 use native.Mathlib.Omega.{arith}
 use lib.ListN.{length, getD, drop, length-map, length-take, length-drop}
 use lib.Seq.{getD-take, getD-drop}
-use Rattle.sets.proofs.Lists.{getD-map, length-table, table-at, drop-next}
+use Rattle.sets.proofs.Lists.{getD-map, length-table, table-at, drop-next, sum-next, sum-grows}
 use Rattle.solver.specs.Cells.{And}
-use Rattle.solver.specs.File.{u32, stateCount, blockCount, cellCount, operandCount, initialState, sizesOf, cellsAt, operandsAt}
-use Rattle.solver.specs.File.{Block, blockAt, blocks, operands, Entry, entryAt, entries, listOf, cellOf, cells}
-use Rattle.solver.specs.Conditions.{operandOk, entryOk, entriesOk}
+use Rattle.solver.specs.File.{u32, stateCount, blockCount, cellCount, operandCount, initialState, cellsAt, operandsAt}
+use Rattle.solver.specs.internal.Forms.{sizesOf}
+use Rattle.solver.specs.File.{Block, blockAt, blocks, operands, Entry, entryAt, entries, listOf, entryCell, cells}
+use Rattle.solver.specs.Conditions.{arity, operandsBefore}
 use Rattle.solver.specs.declared.Sizes.{Sizes}
 
 -- the counts that the code holds are the file's
@@ -74,11 +74,11 @@ module _ (e : List ℕ) where
 
   -- a cell is made of its three numbers and the operand table
   pub cell-at : (i : ℕ) → i < cellCount e →
-      getD (cells e) i (And []) ≡ cellOf (operands e) (entryAt e i .kind) (entryAt e i .one) (entryAt e i .two)
+      getD (cells e) i (And []) ≡ entryCell (operands e) (entryAt e i .kind) (entryAt e i .one) (entryAt e i .two)
   unfolding cells
   cell-at i h =
       getD-map _ (entries e) i (entryAt e i) (And []) (omega (arith, length-entries))
-      ∙ ap (λ (x : Entry). cellOf (operands e) (x .kind) (x .one) (x .two)) (entry-at i (entryAt e i) h)
+      ∙ ap (λ (x : Entry). entryCell (operands e) (x .kind) (x .one) (x .two)) (entry-at i (entryAt e i) h)
 
   -- the cells from cell i on
   pub entries-from : (i : ℕ) → i < cellCount e → drop i (entries e) ≡ entryAt e i ∷ drop (i + 1) (entries e)
@@ -95,13 +95,13 @@ module _ (e : List ℕ) where
         ∙ getD-drop from (operands e) j 0
         ∙ operand-at (from + j) (omega arith)
 
--- the tests of condition 12, of an operand, of a cell and of the cells from cell i on
-module _ (e : List ℕ) (i : ℕ) where
-  abbrev pub operandTest : ℕ → Bool
-  operandTest = operandOk (stateCount e) (blockCount e) (cellCount e) (operandCount e) (operands e) i
+  -- the operands before a cell: one cell more, and they grow
+  pub before-next : (i : ℕ) → i < cellCount e → operandsBefore e (i + 1) ≡ operandsBefore e i + arity (entryAt e i)
+  unfolding operandsBefore
+  before-next i h =
+      sum-next arity (entries e) i (entryAt e i) (omega (arith, length-entries))
+      ∙ ap (λ (x : Entry). operandsBefore e i + arity x) (entry-at i (entryAt e i) h)
 
-  abbrev pub cellTest : ℕ → ℕ → ℕ → ℕ → Bool
-  cellTest = entryOk (stateCount e) (blockCount e) (cellCount e) (operandCount e) (operands e) i
-
-  abbrev pub cellsTest : ℕ → List Entry → Bool
-  cellsTest = entriesOk (stateCount e) (blockCount e) (cellCount e) (operandCount e) (operands e) i
+  pub before-grows : (i j : ℕ) → i ≤ j → operandsBefore e i ≤ operandsBefore e j
+  unfolding operandsBefore
+  before-grows i j h = sum-grows arity (entries e) i j h

@@ -8,29 +8,29 @@ use native.Mathlib.Decide.{ℕ-discrete}
 use lib.ListN.{length, getD, set, drop, drop-of-length-le, length-replicate}
 use lib.Seq.{drop-cons, getD-set-same, getD-set-other}
 use Rattle.sets.specs.Size.{wordCount}
-use Rattle.sets.specs.Set.{Set, start}
-use Rattle.sets.specs.Loop.{Step, Run, stop, again}
+use Rattle.sets.specs.States.{States, start}
+use Rattle.sets.specs.Loop.{Step, Loop}
 use Rattle.sets.specs.Words.{words}
-use Rattle.sets.proofs.Turns.{Left, turn}
+use Rattle.sets.proofs.Turns.{Left, turn, stops-here, goes-on as goes-further}
 use Rattle.sets.proofs.Words.{words-inj}
 use Rattle.solver.specs.Limits.{blockLimit}
-use Rattle.solver.specs.Cells.{Valuation, bind}
+use Rattle.sets.specs.Valuation.{Valuation, bind}
 use Rattle.solver.specs.File.{Block, stateCount, blockCount, cellCount, blocks, blockAt, cells}
 use Rattle.solver.specs.Rounds.{Solves}
-use Rattle.solver.specs.Working.{Opens, Holds, Started, SolvesFrom, RightSidesOf, Applied, Solving, Turned, spent, stable, replaced}
+use Rattle.solver.specs.internal.Working.{Opens, Holds, Started, SolvesFrom, RightSidesOf, Applied, Solving, Turned, spent, stable, replaced}
 use Rattle.solver.specs.declared.Sizes.{Sizes}
 use Rattle.solver.proofs.Tables.{length-blocks, block-at, counted}
 use Rattle.solver.proofs.Reading.{opens-read, few-blocks, own-block}
-use Rattle.solver.proofs.Solving.{bind-same}
+use Rattle.sets.proofs.Valuation.{bind-same}
 use Rattle.solver.proofs.Sides.{sides-sized, holds-bind}
 
 -- ---- the rule, block by block
 
 -- one turn of block k's loop, with the sets ρ of the blocks before it
-abbrev pub Turn : List ℕ → ℕ → Valuation → Step
-Turn e k ρ u w q = (τ : Valuation) × SolvesFrom e (k + 1) (bind ρ k u) τ q × RightSidesOf e k τ w
+abbrev pub Turn : List ℕ → ℕ → Valuation → Step Valuation
+Turn e k ρ u τ w q = SolvesFrom e (k + 1) (bind ρ k u) τ q × RightSidesOf e k τ w
 
-abbrev pub first : List ℕ → ℕ → Set
+abbrev pub first : List ℕ → ℕ → States
 first e k = start (stateCount e) (blockAt e k .sign)
 
 pub from-none : (e : List ℕ) (k : ℕ) {ρ σ : Valuation} {r : ℕ} → blockCount e ≤ k → SolvesFrom e k ρ σ r → (σ ≡ ρ) × (r ≡ 0)
@@ -38,20 +38,12 @@ unfolding SolvesFrom Solves
 from-none e k {ρ} {σ} {r} h s =
     subst (λ (bs : List Block). Solves (stateCount e) (cells e) bs k ρ σ r) (drop-of-length-le (blocks e) {i = k} (omega (arith, length-blocks e))) s
 
-pub from-block : (e : List ℕ) (k : ℕ) (ρ σ : Valuation) (r : ℕ) → k < blockCount e → SolvesFrom e k ρ σ r →
-    (v : Set) × Run (Turn e k ρ) (first e k) v r × (q : ℕ) × SolvesFrom e (k + 1) (bind ρ k v) σ q
+pub from-block : (e : List ℕ) (k : ℕ) (ρ σ : Valuation) (r : ℕ) → k < blockCount e → SolvesFrom e k ρ σ r → Loop (Turn e k ρ) (first e k) σ r
 unfolding SolvesFrom Solves
-from-block e k ρ σ r h s = subst Later (sym (add-one k)) (subst (λ (bs : List Block). Solves n (cells e) bs k ρ σ r) split s)
+from-block e k ρ σ r h s = subst Later (sym (add-one k)) (subst (λ (bs : List Block). Solves (stateCount e) (cells e) bs k ρ σ r) split s)
   where
-    n : ℕ
-    n = stateCount e
-
     Later : ℕ → Type 0
-    Later j =
-        (v : Set)
-        × Run (λ u w q. (τ : Valuation) × Solves n (cells e) (drop j (blocks e)) j (bind ρ k u) τ q × RightSidesOf e k τ w) (first e k) v r
-        × (q : ℕ)
-        × Solves n (cells e) (drop j (blocks e)) j (bind ρ k v) σ q
+    Later j = Loop (λ u τ w q. Solves (stateCount e) (cells e) (drop j (blocks e)) j (bind ρ k u) τ q × RightSidesOf e k τ w) (first e k) σ r
 
     split : drop k (blocks e) ≡ blockAt e k ∷ drop (suc k) (blocks e)
     split =
@@ -94,7 +86,7 @@ module _ {e : List ℕ} {rows inner : List (List ℕ)} {k used limit usedInner s
     }
 
     module _ (left : usedInner < limit) {sizes : Sizes} (o : Opens e sizes) (b : k < sizes .blocks) {work : List ℕ} {next : List (List ℕ)} (a : Applied e inner k work next) where
-      row-is : (ρ τ : Valuation) (q : ℕ) (w : Set) → Holds (stateCount e) rows ρ → SolvesFrom e (k + 1) ρ τ q → RightSidesOf e k τ w → getD next k [] ≡ words wordCount w
+      row-is : (ρ τ : Valuation) (q : ℕ) (w : States) → Holds (stateCount e) rows ρ → SolvesFrom e (k + 1) ρ τ q → RightSidesOf e k τ w → getD next k [] ≡ words wordCount w
       row-is ρ τ q w h t r = a .right τ w (s .right go ρ τ q h t .1) r .row k (few-blocks o b) ∙ ap (words wordCount) (bind-same τ k w)
 
       pub settled : getD next k [] ≡ getD rows k [] → Turned e rows k used limit work inner (usedInner + 1) stable
@@ -133,7 +125,7 @@ module _ {e : List ℕ} {rows inner : List (List ℕ)} {k used limit usedInner s
 -- ---- the loop
 
 -- the rows hold a set for block k, beside ρ
-abbrev pub Beside : List ℕ → ℕ → Valuation → List (List ℕ) → Set → Type 0
+abbrev pub Beside : List ℕ → ℕ → Valuation → List (List ℕ) → States → Type 0
 Beside e k ρ rows v = Holds (stateCount e) rows (bind ρ k v)
 
 -- at the head of block k's loop: the rows `now` are turned, and the later blocks are where they start
@@ -141,7 +133,7 @@ pub record Going (e : List ℕ) (rows : List (List ℕ)) (k used₀ limit : ℕ)
   pub low : used₀ ≤ used
   pub high : used ≤ limit
   pub later : Started e (k + 1) now
-  pub left : (ρ : Valuation) (v : Set) (r : ℕ) → Holds (stateCount e) rows ρ → Run (Turn e k ρ) (first e k) v r → Left (Turn e k ρ) (Beside e k ρ now) v used (used₀ + r)
+  pub left : (ρ σ : Valuation) (r : ℕ) → Holds (stateCount e) rows ρ → Loop (Turn e k ρ) (first e k) σ r → Left (Turn e k ρ) (Beside e k ρ now) σ used (used₀ + r)
 
 -- no blocks: no change
 pub unchanged : {e : List ℕ} {rows : List (List ℕ)} {k used limit : ℕ} {work : List ℕ} → blockCount e ≤ k → used ≤ limit → length work ≡ cellCount e → ((i : ℕ) → getD work i 0 ≤ 1) →
@@ -162,9 +154,9 @@ begins {e} {k = k} l b s = record {
   low = omega arith;
   high = l;
   later = record { row = λ j h. s .row j (omega arith) };
-  left = λ ρ v r holds run. record {
+  left = λ ρ σ r holds run. record {
     now = first e k;
-    held = holds-bind holds k (first e k) (length-replicate (stateCount e) (blockAt e k .sign)) (s .row k (omega arith) b) (λ j n. refl);
+    known = holds-bind holds k (first e k) (length-replicate (stateCount e) (blockAt e k .sign)) (s .row k (omega arith) b) (λ j n. refl);
     rest = r;
     run = run;
     sum = refl;
@@ -178,10 +170,9 @@ module _ {e : List ℕ} {sizes : Sizes} {rows now : List (List ℕ)} {k used₀ 
     room = t .room;
     bits = t .bits;
     over = λ z ρ σ r h s.
-        let x = from-block e k ρ σ r (own-block o b) s in
-        let m = g .left ρ (x .0) r h (x .1) in
+        let m = g .left ρ σ r h (from-block e k ρ σ r (own-block o b) s) in
         let y = turn (m .run) in
-        omega (arith, t .over z (bind ρ k (m .now)) (y .step .0) (y .took) (m .held) (y .step .1), y .less, m .sum);
+        omega (arith, t .over z (bind ρ k (m .now)) (y .held) (y .took) (m .known) (y .step .0), y .less, m .sum);
     low = λ m. absurd (m z);
     high = λ m. absurd (m z);
     right = λ m. absurd (m z);
@@ -197,15 +188,10 @@ module _ {e : List ℕ} {sizes : Sizes} {rows now : List (List ℕ)} {k used₀ 
       low = λ m. omega (arith, t .low go, g .low);
       high = λ m. t .high go;
       right = λ m ρ σ r h s.
-          let x = from-block e k ρ σ r (own-block o b) s in
-          let y = g .left ρ (x .0) r h (x .1) in
-          ends ρ σ (x .2) (y .run) (y .sum) (y .held) (x .3);
+          let y = g .left ρ σ r h (from-block e k ρ σ r (own-block o b) s) in
+          let x = stops-here (λ τ w q f. t .same z (bind ρ k (y .now)) τ q w (y .known) (f .0) (f .1) ∙ bind-same ρ k (y .now)) (y .run) in
+          (omega (arith, t .counted go (bind ρ k (y .now)) σ (x .took) (y .known) (x .step .0), x .sum, y .sum), t .kept z (bind ρ k (y .now)) σ (x .took) (y .known) (x .step .0));
     }
-      where
-        ends : (ρ σ : Valuation) (q : ℕ) {v u : Set} {p total : ℕ} → Run (Turn e k ρ) v u p → used + p ≡ total → Holds (stateCount e) now (bind ρ k v) →
-            SolvesFrom e (k + 1) (bind ρ k u) σ q → (usedAfter ≡ total) × Holds (stateCount e) after σ
-        ends ρ σ q {v} (stop {r = c} x) sum h s = (omega (arith, t .counted go (bind ρ k v) (x .0) c h (x .1)), t .kept z (bind ρ k v) σ q h s)
-        ends ρ σ q {v} (again {w = w} {r = c} x d _) sum h s = absurd (d (t .same z (bind ρ k v) (x .0) c w h (x .1) (x .2) ∙ bind-same ρ k v))
 
     -- it goes on from the set that was put in place, with the later blocks where they start
     goes : ¬ (status ≡ stable) → Going e rows k used₀ limit (set rows k (getD after k [])) usedAfter
@@ -213,20 +199,21 @@ module _ {e : List ℕ} {sizes : Sizes} {rows now : List (List ℕ)} {k used₀ 
       low = omega (arith, t .low go, g .low);
       high = t .high go;
       later = record { row = λ j h d. getD-set-other rows k j (getD after k []) [] (λ q. omega arith) ∙ s .row j (omega arith) d };
-      left = λ ρ v r h run. let y = g .left ρ v r h run in on ρ h (y .run) (y .sum) (y .held);
+      left = λ ρ σ r h run.
+          let y = g .left ρ σ r h run in
+          let other : (τ : Valuation) (w : States) (q : ℕ) → Turn e k ρ (y .now) τ w q → (getD after k [] ≡ words wordCount w) × ¬ (w ≡ bind ρ k (y .now) k) =
+          λ τ w q f. t .differs go z (bind ρ k (y .now)) τ q w (y .known) (f .0) (f .1) in
+          let x = goes-further (λ τ w q f d. other τ w q f .1 (d ∙ sym (bind-same ρ k (y .now)))) (y .run) in
+          record {
+            now = x .next;
+            known = holds-bind h k (x .next) (sides-sized e k (o .formed) (own-block o b) (x .step .1))
+                (getD-set-same rows k (getD after k []) [] (rw l (few-blocks o b)) ∙ other (x .held) (x .next) (x .took) (x .step) .0)
+                (λ j n. getD-set-other rows k j (getD after k []) [] n);
+            rest = x .rest;
+            run = x .run;
+            sum = omega (arith, t .counted go (bind ρ k (y .now)) (x .held) (x .took) (y .known) (x .step .0), x .sum, y .sum);
+          };
     }
-      where
-        on : (ρ : Valuation) → Holds (stateCount e) rows ρ → {v u : Set} {p total : ℕ} → Run (Turn e k ρ) v u p → used + p ≡ total → Holds (stateCount e) now (bind ρ k v) →
-            Left (Turn e k ρ) (Beside e k ρ (set rows k (getD after k []))) u usedAfter total
-        on ρ h′ {v} (stop {r = c} x) sum h = absurd (t .differs go z (bind ρ k v) (x .0) c v h (x .1) (x .2) .1 (sym (bind-same ρ k v)))
-        on ρ h′ {v} (again {w = w} {r = c} {q = q} x d rest) sum h = record {
-          now = w;
-          held = holds-bind h′ k w (sides-sized e k (o .formed) (own-block o b) (x .2)) (getD-set-same rows k (getD after k []) [] (rw l (few-blocks o b)) ∙ t .differs go z (bind ρ k v) (x .0) c w h (x .1) (x .2) .0)
-              (λ j n. getD-set-other rows k j (getD after k []) [] n);
-          rest = q;
-          run = rest;
-          sum = omega (arith, t .counted go (bind ρ k v) (x .0) c h (x .1));
-        }
 
   -- so it does where the set was replaced, with fewer rounds left
   pub goes-on : status ≡ replaced → {next : List (List ℕ)} → next ≡ set rows k (getD after k []) → Going e rows k used₀ limit next usedAfter

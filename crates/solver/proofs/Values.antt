@@ -8,16 +8,18 @@ use borrow.Author.Tests.{eqb-true, eqb-false, ltb-true, ltb-false}
 use lib.Dec.{T, eqb, ltb, ltb→lt}
 use lib.ListN.{length, getD, take, drop, set, replicate, length-set, length-replicate, length-drop, List·getD-eq-default}
 use lib.Seq.{take-nil, length-take-le, getD-drop, getD-set-same, getD-set-other, ext-getD}
-use Rattle.sets.specs.Lists.{all}
-use Rattle.sets.specs.Set.{Set, has, Subset}
+use Rattle.sets.specs.Lists.{every}
+use Rattle.sets.specs.States.{States, has, Subset}
 use Rattle.sets.proofs.Lists.{Kept, kept-equal, kept-implies, all-kept, any-kept}
-use Rattle.solver.specs.Cells.{Cell, And, Or, Variable, operandsOf, Ordered, Valuation, value, Values, workOut, evaluate, part}
+use Rattle.solver.specs.Cells.{Cell, And, Or, Variable, operandsOf, value, Values, workOut, evaluate, part}
+use Rattle.solver.specs.internal.Forms.{Ordered}
+use Rattle.sets.specs.Valuation.{Valuation}
 use Rattle.solver.specs.Standard.{RightSides}
 
 -- A relation that and and or keep goes from the sets and the values above cell i to the value of cell i.
 module _ {R : Bool → Bool → Type 0} (kept : Kept R) (ρ σ : Valuation) (sets : (k s : ℕ) → R (has (ρ k) s) (has (σ k) s)) where
   pub value-kept : (i : ℕ) (vs ws : List Bool) → ((o : ℕ) → i < o → R (getD vs o false) (getD ws o false))
-      → (c : Cell) → T (all (ltb i) (operandsOf c)) → R (value ρ vs c) (value σ ws c)
+      → (c : Cell) → T (every (ltb i) (operandsOf c)) → R (value ρ vs c) (value σ ws c)
   unfolding operandsOf value
   value-kept i vs ws above (And os) t =
       all-kept kept (ltb i) (λ o. getD vs o false) (λ o. getD ws o false) (λ o h. above o (ltb→lt i o h)) os t
@@ -83,15 +85,15 @@ module _ (cs : List Cell) (ordered : Ordered cs) (ρ : Valuation) where
   values-one vs ws v w = ext-getD false vs ws (v .sized ∙ sym (w .sized)) (λ i h. values-kept kept-equal ρ ρ (λ k s. refl) cs ordered vs ws v w i)
 
   -- The right-hand sides of a block are a part of what is worked out.
-  pub sides-part : {n b : ℕ} {v : Set} → RightSides n cs b ρ v → v ≡ part n b (evaluate cs ρ)
+  pub sides-part : {n b : ℕ} {v : States} → RightSides n cs b ρ v → v ≡ part n b (evaluate cs ρ)
   sides-part {n} {b} s = s .are ∙ ap (λ (vs : List Bool). part n b vs) (values-one (s .values) (evaluate cs ρ) (s .each) evaluate-values)
 
   -- and the other way
-  pub part-sides : {n b : ℕ} {v : Set} → v ≡ part n b (evaluate cs ρ) → RightSides n cs b ρ v
+  pub part-sides : {n b : ℕ} {v : States} → v ≡ part n b (evaluate cs ρ) → RightSides n cs b ρ v
   part-sides e = record { values = evaluate cs ρ; each = evaluate-values; are = e }
 
 -- One valuation gives one set of right-hand sides.
-pub sides-one : (cs : List Cell) → Ordered cs → {n b : ℕ} {σ τ : Valuation} {v w : Set} → RightSides n cs b σ v → RightSides n cs b τ w → σ ≡ τ → v ≡ w
+pub sides-one : (cs : List Cell) → Ordered cs → {n b : ℕ} {σ τ : Valuation} {v w : States} → RightSides n cs b σ v → RightSides n cs b τ w → σ ≡ τ → v ≡ w
 sides-one cs ordered {n} {b} {σ} {τ} s t e =
     sides-part cs ordered σ s ∙ ap (λ (ρ : Valuation). part n b (evaluate cs ρ)) e ∙ sym (sides-part cs ordered τ t)
 

@@ -1,26 +1,20 @@
 -- Conditions 11 and 12 of an equation file.
 use mathlib.Core.Path.{_≡_}
-use mathlib.Core.Bool.{Bool, true, false, _&&_}
-use mathlib.Core.List.{List, [], _∷_}
-use Prim.Native.Nat.{ℕ, zero, suc, _+_, _*_}
+use mathlib.Core.Bool.{Bool, true, cond, _&&_}
+use mathlib.Core.List.{List, [], _∷_, map}
+use Prim.Native.Nat.{ℕ, _+_, _*_}
 use lib.Dec.{eqb, ltb, leb}
-use lib.ListN.{length}
-use Rattle.sets.specs.Lists.{range, all}
+use lib.ListN.{length, take}
+use Rattle.sets.specs.Lists.{numbersFrom, every, sum}
 use Rattle.sets.specs.Size.{stateLimit}
-use Rattle.solver.specs.declared.Cause.the-variants.{Layout, Table}
-use Rattle.solver.specs.declared.Opened.{Opened}
-use Rattle.solver.specs.declared.Opened.the-variants.{File, Unfit}
+use Rattle.sets.specs.Refusals.{between}
 use Rattle.solver.specs.Limits.{blockLimit, cellLimit, operandLimit}
-use Rattle.solver.specs.File.{u32, stateCount, blockCount, cellCount, operandCount, initialState, sizesOf, blocksAt, cellsAt, operandsAt, Entry, entries, operands, listOf}
+use Rattle.solver.specs.File.{u32, stateCount, blockCount, cellCount, operandCount, initialState, blocksAt, cellsAt, operandsAt, Entry, entryAt, entries, operands, listOf}
 
--- from low to high
-abbrev pub between : ℕ → ℕ → ℕ → Bool
-between low high x = leb low x && leb x high
-
--- Condition 11 is that this fails: 36 bytes, version 1, each count in its range, the initial state below n, the offsets, the length.
+-- Condition 11 is that this fails: the bytes of a header, version 1, each count in its range, the initial state below n, the offsets, the length.
 unfoldable pub layoutOk : List ℕ → Bool
-layoutOk e = all (λ test. test)
-    (leb 36 (length e)
+layoutOk e = every (λ test. test)
+    (leb blocksAt (length e)
     ∷ eqb (u32 e 0) 1
     ∷ between 1 stateLimit (stateCount e)
     ∷ between 1 blockLimit (blockCount e)
@@ -37,43 +31,42 @@ layoutOk e = all (λ test. test)
 unfoldable pub blockOk : List ℕ → ℕ → Bool
 blockOk e k = leb (u32 e (blocksAt + 8 * k)) 1 && leb (u32 e (blocksAt + 8 * k + 4) + stateCount e) (cellCount e)
 
+-- a cell of kind 0 or 1, which has a list of operands
+abbrev pub isList : Entry → Bool
+isList x = leb (x .kind) 1
+
 -- how many operands a cell has
-unfoldable pub span : ℕ → ℕ → ℕ
-span zero y = y
-span (suc zero) y = y
-span (suc (suc kind)) y = 0
+unfoldable pub arity : Entry → ℕ
+arity x = cond (isList x) (x .two) 0
 
-module _ (n d c p : ℕ) (ops : List ℕ) where
-  -- an operand of cell i: a cell number above i
-  abbrev pub operandOk : ℕ → ℕ → Bool
-  operandOk i o = ltb i o && ltb o c
+-- how many operands the cells before cell i have
+unfoldable pub operandsBefore : List ℕ → ℕ → ℕ
+operandsBefore e i = sum (map arity (take i (entries e)))
 
-  -- Cell i, where the lists before it have `used` operands: a list starts there, also an empty one; a variable has a block and a state.
-  unfoldable pub entryOk : ℕ → ℕ → ℕ → ℕ → ℕ → Bool
-  entryOk i used zero x y = eqb x used && all (operandOk i) (listOf ops x y)
-  entryOk i used (suc zero) x y = eqb x used && all (operandOk i) (listOf ops x y)
-  entryOk i used (suc (suc zero)) x y = ltb x d && ltb y n
-  entryOk i used (suc (suc (suc kind))) x y = false
+-- an operand of cell i: a cell number above i
+abbrev pub operandOk : List ℕ → ℕ → ℕ → Bool
+operandOk e i o = ltb i o && ltb o (cellCount e)
 
-  -- each cell keeps its rule, and the lists fill the operand table
-  unfoldable pub entriesOk : ℕ → ℕ → List Entry → Bool
-  entriesOk i used [] = eqb used p
-  entriesOk i used (x ∷ xs) = entryOk i used (x .kind) (x .one) (x .two) && entriesOk (i + 1) (used + span (x .kind) (x .two)) xs
+-- the `count` operands from place `from` of the table on, each an operand of cell i
+abbrev pub operandsOk : List ℕ → ℕ → ℕ → ℕ → Bool
+operandsOk e i from count = every (operandOk e i) (listOf (operands e) from count)
 
--- Condition 12 is that this fails: each block, cell and operand keeps its rule.
+-- cell i: a list starts where the lists before it end, also an empty one; any other is of kind 2, a variable, and has a block and a state
+unfoldable pub cellOk : List ℕ → ℕ → Bool
+cellOk e i =
+    let x : Entry = entryAt e i in
+    cond (isList x)
+    (eqb (x .one) (operandsBefore e i) && operandsOk e i (x .one) (x .two))
+    (eqb (x .kind) 2 && ltb (x .one) (blockCount e) && ltb (x .two) (stateCount e))
+
+-- Condition 12 is that this fails: each block and each cell keeps its rule, and the lists of all cells fill the operand table.
 unfoldable pub tablesOk : List ℕ → Bool
 tablesOk e =
-    all (blockOk e) (range 0 (blockCount e))
-    && entriesOk (stateCount e) (blockCount e) (cellCount e) (operandCount e) (operands e) 0 0 (entries e)
+    every (blockOk e) (numbersFrom 0 (blockCount e))
+    && every (cellOk e) (numbersFrom 0 (cellCount e))
+    && eqb (operandsBefore e (cellCount e)) (operandCount e)
 
 -- neither 11 nor 12 holds
 pub record WellFormed (e : List ℕ) : Type 0 where
   pub layout : layoutOk e ≡ true
   pub tables : tablesOk e ≡ true
-
--- what opening a file answers: its counts, or the first of the two conditions that holds
-unfoldable pub opened : List ℕ → Opened
-opened e = elim (layoutOk e) [
-  | true ↦ elim (tablesOk e) [ true ↦ File (sizesOf e) | false ↦ Unfit Table ]
-  | false ↦ Unfit Layout
-]

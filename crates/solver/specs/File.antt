@@ -2,11 +2,10 @@
 use mathlib.Core.Bool.{Bool}
 use mathlib.Core.List.{List, map}
 use Prim.Native.Nat.{ℕ, zero, suc, _+_, _*_}
-use lib.Dec.{T, eqb, leb}
+use lib.Dec.{eqb}
 use lib.ListN.{getD, take, drop}
-use Rattle.sets.specs.Lists.{range, all}
+use Rattle.sets.specs.Lists.{numbersFrom}
 use Rattle.solver.specs.Cells.{Cell, And, Or, Variable}
-use Rattle.solver.specs.declared.Sizes.{Sizes}
 pub use Rattle.solver.specs.declared.Entry.{Entry}
 
 -- the 32-bit number at a place, low byte first
@@ -29,10 +28,6 @@ operandCount e = u32 e 16
 abbrev pub initialState : List ℕ → ℕ
 initialState e = u32 e 20
 
--- the counts and the initial state as the code holds them
-abbrev pub sizesOf : List ℕ → Sizes
-sizesOf e = record { states = stateCount e; blocks = blockCount e; cells = cellCount e; operands = operandCount e; initial = initialState e }
-
 -- where the tables start
 abbrev pub blocksAt : ℕ
 blocksAt = 36
@@ -51,32 +46,28 @@ pub record Block : Type 0 where
 abbrev pub blockAt : List ℕ → ℕ → Block
 blockAt e k = record { sign = eqb (u32 e (blocksAt + 8 * k)) 1; first = u32 e (blocksAt + 8 * k + 4) }
 
--- each block has a cell, of c cells, for each of n states
-unfoldable pub Inside : ℕ → ℕ → List Block → Type 0
-Inside n c bs = T (all (λ b. leb (b .first + n) c) bs)
-
 unfoldable pub blocks : List ℕ → List Block
-blocks e = map (blockAt e) (range 0 (blockCount e))
+blocks e = map (blockAt e) (numbersFrom 0 (blockCount e))
 
 unfoldable pub operands : List ℕ → List ℕ
-operands e = map (λ j. u32 e (operandsAt e + 4 * j)) (range 0 (operandCount e))
+operands e = map (λ j. u32 e (operandsAt e + 4 * j)) (numbersFrom 0 (operandCount e))
 
 -- A cell is three numbers: its kind, and first operand and operand count, or block and state.
 abbrev pub entryAt : List ℕ → ℕ → Entry
 entryAt e i = record { kind = u32 e (cellsAt e + 12 * i); one = u32 e (cellsAt e + 12 * i + 4); two = u32 e (cellsAt e + 12 * i + 8) }
 
 unfoldable pub entries : List ℕ → List Entry
-entries e = map (entryAt e) (range 0 (cellCount e))
+entries e = map (entryAt e) (numbersFrom 0 (cellCount e))
 
 -- the operands of a list that starts at `from` in the operand table
 abbrev pub listOf : List ℕ → ℕ → ℕ → List ℕ
 listOf ops from count = take count (drop from ops)
 
 -- kind 0 is an and, 1 an or, 2 (and above) a variable
-unfoldable pub cellOf : List ℕ → ℕ → ℕ → ℕ → Cell
-cellOf ops zero x y = And (listOf ops x y)
-cellOf ops (suc zero) x y = Or (listOf ops x y)
-cellOf ops (suc (suc kind)) x y = Variable x y
+unfoldable pub entryCell : List ℕ → ℕ → ℕ → ℕ → Cell
+entryCell ops zero x y = And (listOf ops x y)
+entryCell ops (suc zero) x y = Or (listOf ops x y)
+entryCell ops (suc (suc kind)) x y = Variable x y
 
 unfoldable pub cells : List ℕ → List Cell
-cells e = map (λ x. cellOf (operands e) (x .kind) (x .one) (x .two)) (entries e)
+cells e = map (λ x. entryCell (operands e) (x .kind) (x .one) (x .two)) (entries e)

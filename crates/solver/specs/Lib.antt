@@ -2,10 +2,9 @@
 pub mod Limits
 pub mod File
 pub mod Conditions
-pub mod Checks
 pub mod Cells
 pub mod Standard
 pub mod Rounds
 pub mod Outcome
-pub mod Working
-pub mod Examples
+pub mod internal
+pub mod examples

@@ -1,87 +1,87 @@
 -- What solve answers, and what marks and working bytes are afterwards.
 use mathlib.Core.Path.{_≡_}
-use mathlib.Core.Bool.{Bool, true, false, not, _||_}
+use mathlib.Core.Bool.{Bool, false, not, _||_}
 use mathlib.Core.List.{List, [], _∷_, _++_, map}
-use Prim.Native.Nat.{ℕ, zero, suc, _+_, _≤_}
+use Prim.Native.Nat.{ℕ, _+_, _≤_}
 use lib.Dec.{ltb}
 use lib.ListN.{length, getD, drop}
 use Rattle.sets.specs.Size.{wordCount}
-use Rattle.sets.specs.Set.{has, size}
+use Rattle.sets.specs.States.{States, has, size}
 use Rattle.sets.specs.Words.{words, bit}
-use Rattle.solver.specs.Cells.{Valuation, none, evaluate}
+use Rattle.sets.specs.Valuation.{Valuation, none}
+use Rattle.sets.specs.Refusals.{Conditions, firstOf, Outcome, Spent, refused, byRefusal, outcomeBy}
+use Rattle.solver.specs.Cells.{evaluate}
 use Rattle.solver.specs.File.{stateCount, cellCount, initialState, blocks, cells}
 use Rattle.solver.specs.Conditions.{layoutOk, tablesOk}
 use Rattle.solver.specs.Rounds.{Solves, Reached, solved}
 use Rattle.solver.specs.declared.Cause.{Cause}
-use Rattle.solver.specs.declared.Cause.the-variants.{Layout, Table, Memory, Spent}
+use Rattle.solver.specs.declared.Cause.the-variants.{Layout, Table, Memory, Spent as Exceeded}
 use Rattle.solver.specs.declared.Answer.{Answer}
 use Rattle.solver.specs.declared.Answer.the-variants.{Solved, Refused}
 
 -- the paper's number of each cause
-unfoldable pub number : Cause → ℕ
-number Layout = 11
-number Table = 12
-number Memory = 13
-number Spent = 14
-
--- the refusal number (0 if none), the verdict as 1 or 0, the count and the rounds; the last three are 0 after a refusal
-pub record Outcome : Type 0 where
-  pub refusal : ℕ
-  pub verdict : ℕ
-  pub count : ℕ
-  pub rounds : ℕ
-
-abbrev pub refused : ℕ → Outcome
-refused k = record { refusal = k; verdict = 0; count = 0; rounds = 0 }
+unfoldable pub solveNumber : Cause → ℕ
+solveNumber Layout = 11
+solveNumber Table = 12
+solveNumber Memory = 13
+solveNumber Exceeded = 14
 
 -- the outcome that an answer stands for
 unfoldable pub outcome : Answer → Outcome
 outcome (Solved r) = record { refusal = 0; verdict = bit (r .verdict); count = r .count; rounds = r .rounds }
-outcome (Refused cause) = refused (number cause)
+outcome (Refused cause) = refused (solveNumber cause)
 
--- Own rounds: what the rules count without a limit, from block 0 until that block stops.
+-- Own rounds: what the rules count without a limit, from block 0 until that block stops. This is the paper's.
 unfoldable pub OwnRounds : List ℕ → ℕ → Type 0
 OwnRounds e r = (σ : Valuation) × Solves (stateCount e) (cells e) (blocks e) 0 (none (stateCount e)) σ r
 
--- the same as a function: the solution of all blocks, and the rounds
+-- The same by a function that computes: the solution of all blocks, and the rounds.
 unfoldable pub run : List ℕ → Reached
 run e = solved (stateCount e) (cells e) (blocks e) 0 (none (stateCount e))
 
--- the conditions of solve; work and marks are the lent numbers of working bytes and mark words
+-- ---- the conditions in order; work and marks are the lent numbers of working bytes and mark words
+
+-- 11: under 36 bytes, or the version, a count, the initial state, an offset or the length is wrong
 unfoldable pub badLayout : List ℕ → Bool
 badLayout e = not (layoutOk e)
 
+-- 12: a block, cell or operand breaks its rule
 unfoldable pub badTable : List ℕ → Bool
 badTable e = not (tablesOk e)
 
+-- 13: lent memory too short: fewer working bytes than cells, or fewer mark words than a set has
 unfoldable pub tooShort : List ℕ → ℕ → ℕ → Bool
 tooShort e work marks = ltb work (cellCount e) || ltb marks wordCount
 
+-- 14: rounds exceed the limit
 unfoldable pub exceeds : List ℕ → ℕ → Bool
 exceeds e limit = ltb limit (run e .1)
 
+unfoldable pub solveConditions : List ℕ → ℕ → ℕ → ℕ → Conditions
+solveConditions e work marks limit = (11, badLayout e) ∷ (12, badTable e) ∷ (13, tooShort e work marks) ∷ (14, exceeds e limit) ∷ []
+
 -- the number of the first condition that holds, or 0
-unfoldable pub firstOf : List (ℕ × Bool) → ℕ
-firstOf [] = 0
-firstOf (c ∷ cs) = elim (c .1) [ true ↦ c .0 | false ↦ firstOf cs ]
-
 unfoldable pub solveRefusal : List ℕ → ℕ → ℕ → ℕ → ℕ
-solveRefusal e work marks limit =
-    firstOf ((11, badLayout e) ∷ (12, badTable e) ∷ (13, tooShort e work marks) ∷ (14, exceeds e limit) ∷ [])
+solveRefusal e work marks limit = firstOf (solveConditions e work marks limit)
 
--- the verdict (is the initial state marked), the count of marked states and the rounds
+-- Lent memory is enough if 13 does not hold.
+abbrev pub Enough : List ℕ → ℕ → ℕ → Type 0
+Enough e work marks = tooShort e work marks ≡ false
+
+-- ---- what is answered
+
+-- the verdict (is the initial state marked), the count of marked states and the rounds, where the states of v are marked
+abbrev pub reportOf : List ℕ → States → ℕ → Outcome
+reportOf e v rounds = record { refusal = 0; verdict = bit (has v (initialState e)); count = size v; rounds = rounds }
+
+-- marked are the states of block 0's set
 unfoldable pub report : List ℕ → Outcome
-report e = record { refusal = 0; verdict = bit (has (run e .0 0) (initialState e)); count = size (run e .0 0); rounds = run e .1 }
-
--- by a refusal number: what holds after success, or after a refusal
-abbrev pub byRefusal : {A : Type 0} → ℕ → A → A → A
-byRefusal zero success refusal = success
-byRefusal (suc k) success refusal = refusal
+report e = reportOf e (run e .0 0) (run e .1)
 
 unfoldable pub solveOutcome : List ℕ → ℕ → ℕ → ℕ → Outcome
-solveOutcome e work marks limit =
-    let k : ℕ = solveRefusal e work marks limit in
-    byRefusal k (report e) (refused k)
+solveOutcome e work marks limit = outcomeBy (solveConditions e work marks limit) (report e)
+
+-- ---- what lent memory holds afterwards
 
 -- After success the first words are block 0's set; a refusal changes nothing.
 unfoldable pub solveMarks : List ℕ → ℕ → List ℕ → ℕ → List ℕ
@@ -100,9 +100,11 @@ pub record Scratch (c : ℕ) (work after : List ℕ) : Type 0 where
   pub bits : (i : ℕ) → getD bytes i 0 ≤ 1
   pub are : after ≡ bytes ++ drop c work
 
--- What solve promises, with the bytes and words lent and as they are afterwards.
-pub record Answered (e work marks : List ℕ) (limit : ℕ) (answer : Answer) (workAfter marksAfter : List ℕ) : Type 0 where
-  pub answers : outcome answer ≡ solveOutcome e (length work) (length marks) limit
+-- ---- the contract
+
+-- What solve promises of the outcome o of its answer, with the bytes and words lent and as they are afterwards.
+pub record Answered (e work marks : List ℕ) (limit : ℕ) (o : Outcome) (workAfter marksAfter : List ℕ) : Type 0 where
+  pub answers : o ≡ solveOutcome e (length work) (length marks) limit
   pub marks-are : marksAfter ≡ solveMarks e (length work) marks limit
-  pub work-is : ¬ (outcome answer .refusal ≡ 14) → workAfter ≡ solveWork e work (length marks) limit
-  pub work-14 : outcome answer .refusal ≡ 14 → Scratch (cellCount e) work workAfter
+  pub work-is : ¬ Spent o → workAfter ≡ solveWork e work (length marks) limit
+  pub work-14 : Spent o → Scratch (cellCount e) work workAfter

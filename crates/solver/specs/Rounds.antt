@@ -2,9 +2,10 @@
 use mathlib.Core.Path.{_≡_}
 use mathlib.Core.List.{List, [], _∷_}
 use Prim.Native.Nat.{ℕ, zero, suc, _+_, _^_}
-use Rattle.sets.specs.Set.{Set, start}
-use Rattle.sets.specs.Loop.{Run, Worked, iterate}
-use Rattle.solver.specs.Cells.{Cell, Valuation, bind, evaluate, part}
+use Rattle.sets.specs.States.{start}
+use Rattle.sets.specs.Loop.{Loop, Worked, iterate}
+use Rattle.solver.specs.Cells.{Cell, evaluate, part}
+use Rattle.sets.specs.Valuation.{Valuation, bind}
 use Rattle.solver.specs.File.{Block}
 use Rattle.solver.specs.Standard.{RightSides}
 
@@ -13,18 +14,16 @@ abbrev pub Reached : Type 0
 Reached = Valuation × ℕ
 
 module _ (n : ℕ) (cs : List Cell) where
-  -- Solves bs k ρ σ r: from block k, with the sets ρ, the blocks bs are solved at σ after r rounds, as if there were no limit.
+  -- The paper's rule. Solves bs k ρ σ r: from block k, with the sets ρ, the blocks bs are solved at σ after r rounds, as if there were no limit.
   -- The first block starts all false (mu) or all true (nu). In each turn of its loop the later blocks are solved anew, and
-  -- all n right-hand sides are worked out from the sets then held.
+  -- all n right-hand sides are worked out from the sets then held. What the last turn held is the solution.
   unfoldable pub Solves : List Block → ℕ → Valuation → Valuation → ℕ → Type 0
   Solves [] k ρ σ r = (σ ≡ ρ) × (r ≡ 0)
   Solves (b ∷ bs) k ρ σ r =
-      (v : Set)
-      × Run (λ u w q. (τ : Valuation) × Solves bs (suc k) (bind ρ k u) τ q × RightSides n cs (b .first) τ w) (start n (b .sign)) v r
-      × (q : ℕ)
-      × Solves bs (suc k) (bind ρ k v) σ q
+      Loop (λ u τ w q. Solves bs (suc k) (bind ρ k u) τ q × RightSides n cs (b .first) τ w) (start n (b .sign)) σ r
 
-  -- The same by a function that computes: each loop has n + 1 turns at most.
+  -- The same by a function that computes; the paper's rule is Solves. Each loop has n + 1 turns at most. What its last turn held
+  -- is worked out once more from the set where it stops.
   unfoldable pub solved : List Block → ℕ → Valuation → Reached
   solved [] k ρ = (ρ, 0)
   solved (b ∷ bs) k ρ =

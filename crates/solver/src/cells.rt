@@ -12,17 +12,18 @@ ghost use Prim.Native.Nat.{_<_, _≤_};
 ghost use lib.Dec.{eqb};
 ghost use lib.ListN.{getD};
 ghost use Rattle.sets.specs.Size.{stateLimit};
-ghost use Rattle.sets.specs.Lists.{any};
+ghost use Rattle.sets.specs.Lists.{forSome};
 ghost use Rattle.sets.specs.Words.{marked, bit};
 ghost use Rattle.solver.specs.Limits.{blockLimit};
-ghost use Rattle.solver.specs.Cells.{Valuation, value};
-ghost use Rattle.solver.specs.File.{operands, listOf, cellOf};
-ghost use Rattle.solver.specs.Working.{Ready, ListAt, Valued, Evaluated, Applied, truths};
+ghost use Rattle.sets.specs.Valuation.{Valuation};
+ghost use Rattle.solver.specs.Cells.{value};
+ghost use Rattle.solver.specs.File.{operands, listOf, entryCell};
+ghost use Rattle.solver.specs.internal.Working.{Ready, ListAt, Valued, Evaluated, Applied, truths};
 
 // Whether one of the operands from a place of the operand table on has the value wanted.
 fn finds(file: &[u8], sizes: Sizes, from: usize, count: usize, wanted: u8, work: &[u8]) -> bool
     requires { ⌜ Ready (now file) sizes (now work) × ListAt (now file) from count ⌝ }
-    ensures { λ r. ⌜ r ≡ any (λ o. eqb (getD (now (work .entry)) o 0) wanted) (listOf (operands (now (file .entry))) from count) ⌝ }
+    ensures { λ r. ⌜ r ≡ forSome (λ o. eqb (getD (now (work .entry)) o 0) wanted) (listOf (operands (now (file .entry))) from count) ⌝ }
 {
     let mut j = 0;
     while j < count {
@@ -38,7 +39,7 @@ fn finds(file: &[u8], sizes: Sizes, from: usize, count: usize, wanted: u8, work:
 // The value of an and (kind 0), which is false if an operand is, or of an or (kind 1), which is true if one is.
 fn list_value(file: &[u8], sizes: Sizes, kind: usize, from: usize, count: usize, work: &[u8]) -> u8
     requires { ⌜ Ready (now file) sizes (now work) × ListAt (now file) from count × (kind ≤ 1) ⌝ }
-    ensures { λ r. ⌜ ((ρ : Valuation) → r ≡ bit (value ρ (truths (now (work .entry))) (cellOf (operands (now (file .entry))) kind from count))) ⌝ }
+    ensures { λ r. ⌜ ((ρ : Valuation) → r ≡ bit (value ρ (truths (now (work .entry))) (entryCell (operands (now (file .entry))) kind from count))) ⌝ }
 {
     if kind == 0 {
         if finds(file, sizes, from, count, 0, work) {

@@ -13,11 +13,13 @@ ghost use mathlib.Core.Bool.{_&&_};
 ghost use Prim.Native.Nat.{_+_, _<_, _≤_};
 ghost use lib.Dec.{ltb};
 ghost use lib.ListN.{length};
-ghost use Rattle.sets.specs.Lists.{range, all};
-ghost use Rattle.sets.specs.Words.{Decides};
-ghost use Rattle.solver.specs.File.{blockCount, sizesOf};
-ghost use Rattle.solver.specs.Conditions.{layoutOk, blockOk, tablesOk, opened};
-ghost use Rattle.solver.specs.Checks.{Counts, Places, Read, cellsFrom, operandsFrom, listOk, restOk, Spans};
+ghost use Rattle.sets.specs.Lists.{numbersFrom, every};
+ghost use Rattle.sets.specs.internal.Decides.{Decides};
+ghost use Rattle.solver.specs.File.{blockCount};
+ghost use Rattle.solver.specs.internal.Forms.{sizesOf};
+ghost use Rattle.solver.specs.Conditions.{layoutOk, blockOk, operandsBefore, operandsOk, tablesOk};
+ghost use Rattle.solver.specs.internal.Forms.{opened};
+ghost use Rattle.solver.specs.internal.Checks.{Counts, Places, Read, cellsFrom, operandsFrom, restOk, Spans};
 
 // Whether each count is in its range, and the initial state is a state.
 fn counts_hold(sizes: Sizes) -> bool
@@ -101,7 +103,7 @@ fn block_holds(file: &[u8], sizes: Sizes, k: usize) -> bool
 // Whether every block keeps its rule.
 fn blocks_hold(file: &[u8], sizes: Sizes) -> bool
     requires { ⌜ Read (now file) sizes ⌝ }
-    ensures { λ r. ⌜ r ≡ all (blockOk (now (file .entry))) (range 0 (blockCount (now (file .entry)))) ⌝ }
+    ensures { λ r. ⌜ r ≡ every (blockOk (now (file .entry))) (numbersFrom 0 (blockCount (now (file .entry)))) ⌝ }
 {
     let mut k = 0;
     while k < sizes.blocks {
@@ -116,7 +118,7 @@ fn blocks_hold(file: &[u8], sizes: Sizes) -> bool
 // Whether every operand of a list of cell i is a cell number above i.
 fn operands_hold(file: &[u8], sizes: Sizes, i: usize, from: usize, count: usize) -> bool
     requires { ⌜ Read (now file) sizes ⌝ ∗ ⌜ from + count ≤ sizes .operands ⌝ }
-    ensures { λ r. ⌜ r ≡ listOk (now (file .entry)) i from count ⌝ }
+    ensures { λ r. ⌜ r ≡ operandsOk (now (file .entry)) i from count ⌝ }
 {
     let cells = sizes.cells;
     let mut j = 0;
@@ -142,7 +144,7 @@ fn variable_holds(sizes: Sizes, block: usize, state: usize) -> bool
 
 // Whether cell i keeps its rule, where the lists before it have `used` operands, and how many operands it has.
 fn entry_span(file: &[u8], sizes: Sizes, i: usize, used: usize) -> Span
-    requires { ⌜ Read (now file) sizes ⌝ ∗ ⌜ i < sizes .cells ⌝ ∗ ⌜ used ≤ sizes .operands ⌝ }
+    requires { ⌜ Read (now file) sizes ⌝ ∗ ⌜ i < sizes .cells ⌝ ∗ ⌜ used ≡ operandsBefore (now file) i ⌝ ∗ ⌜ used ≤ sizes .operands ⌝ }
     ensures { λ r. ⌜ Spans (now (file .entry)) i used r ⌝ }
 {
     let x = entry_at(file, sizes, i);
@@ -174,7 +176,7 @@ fn entry_span(file: &[u8], sizes: Sizes, i: usize, used: usize) -> Span
 // Whether every cell keeps its rule, and the lists fill the operand table.
 fn cells_hold(file: &[u8], sizes: Sizes) -> bool
     requires { ⌜ Read (now file) sizes ⌝ }
-    ensures { λ r. ⌜ r ≡ restOk (now (file .entry)) 0 0 ⌝ }
+    ensures { λ r. ⌜ r ≡ restOk (now (file .entry)) 0 ⌝ }
 {
     let mut used = 0;
     let mut i = 0;

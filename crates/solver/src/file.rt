@@ -4,7 +4,8 @@ use crate::Sizes;
 ghost use mathlib.Core.Path.{_≡_};
 ghost use Prim.Native.Nat.{_+_, _*_, _^_, _<_, _≤_};
 ghost use lib.ListN.{length};
-ghost use Rattle.solver.specs.File.{u32, sizesOf, cellsAt, operandsAt, entryAt};
+ghost use Rattle.solver.specs.File.{u32, cellsAt, operandsAt, entryAt};
+ghost use Rattle.solver.specs.internal.Forms.{sizesOf};
 
 // How many bytes stand before the first table.
 pub const HEADER: usize = 36;

@@ -9,8 +9,8 @@ use sets::WORDS;
 ghost use mathlib.Core.Path.{_≡_};
 ghost use lib.ListN.{length, replicate};
 ghost use Rattle.solver.specs.File.{cellCount};
-ghost use Rattle.solver.specs.Outcome.{Answered};
-ghost use Rattle.solver.specs.Working.{Opens, Ran};
+ghost use Rattle.solver.specs.Outcome.{outcome, Answered};
+ghost use Rattle.solver.specs.internal.Working.{Opens, Ran};
 
 pub const BLOCKS: usize = 6;
 
@@ -114,7 +114,7 @@ fn run(
 // Solves a file whose conditions 11 and 12 do not hold.
 fn solve_opened(file: &[u8], sizes: Sizes, work: &mut [u8], marks: &mut [u64], limit: u64) -> Answer
     requires { ⌜ Opens (now file) sizes ⌝ }
-    ensures { λ r. ⌜ Answered (now (file .entry)) (now (work .entry)) (now (marks .entry)) limit r (now (work .exit)) (now (marks .exit)) ⌝ }
+    ensures { λ r. ⌜ Answered (now (file .entry)) (now (work .entry)) (now (marks .entry)) limit (outcome r) (now (work .exit)) (now (marks .exit)) ⌝ }
 {
     let c = sizes.cells;
     if work.len() < c {
@@ -139,9 +139,9 @@ fn solve_opened(file: &[u8], sizes: Sizes, work: &mut [u8], marks: &mut [u64], l
     })
 }
 
-// Solves an equation file. Lends c working bytes and the words of a set for the marks.
+// Solves an equation file. Is lent c working bytes, and the words of a set for the marks.
 pub fn solve(file: &[u8], work: &mut [u8], marks: &mut [u64], limit: u64) -> Answer
-    ensures { λ r. ⌜ Answered (now (file .entry)) (now (work .entry)) (now (marks .entry)) limit r (now (work .exit)) (now (marks .exit)) ⌝ }
+    ensures { λ r. ⌜ Answered (now (file .entry)) (now (work .entry)) (now (marks .entry)) limit (outcome r) (now (work .exit)) (now (marks .exit)) ⌝ }
 {
     match open_file(file) {
         Opened::File(sizes) => solve_opened(file, sizes, work, marks, limit),

@@ -8,10 +8,10 @@ use sets::WORDS;
 ghost use mathlib.Core.Path.{_≡_};
 ghost use Prim.Native.Nat.{_+_, _-_, _<_, _≤_};
 ghost use Rattle.sets.specs.Size.{wordCount};
-ghost use Rattle.sets.specs.Set.{start};
+ghost use Rattle.sets.specs.States.{start};
 ghost use Rattle.sets.specs.Words.{words};
 ghost use Rattle.solver.specs.File.{stateCount, blockCount, blockAt};
-ghost use Rattle.solver.specs.Working.{Opens, Ready, Holds, Started, Solving, Turned, starting};
+ghost use Rattle.solver.specs.internal.Working.{Opens, Ready, Holds, Started, Solving, Turned, starting};
 
 // How a round, or the solving of a block, ends.
 pub const REPLACED: u8 = 0;
@@ -41,14 +41,6 @@ pub fn starts(file: &[u8], sizes: Sizes) -> [[u64; WORDS]; BLOCKS]
     sets
 }
 
-// The outermost of the last `left` blocks.
-fn outermost(sizes: Sizes, left: usize) -> usize
-    requires { ⌜ (0 < left) × (left ≤ sizes .blocks) ⌝ }
-    ensures { λ r. ⌜ r ≡ sizes .blocks - left ⌝ }
-{
-    sizes.blocks - left
-}
-
 // Solves the last `left` blocks, which are held where they start, with the sets of those before them held.
 pub fn solve_last(
     file: &[u8],
@@ -67,7 +59,6 @@ pub fn solve_last(
         *status = STABLE;
         return sets;
     }
-    let k = outermost(sizes, left);
     let mut s = sets;
     loop {
         let t = round(file, sizes, s, left, limit, work, rounds, status);
@@ -75,6 +66,7 @@ pub fn solve_last(
             return t;
         }
         // The later blocks go back to where they start.
+        let k = sizes.blocks - left;
         let row = t[k];
         s = sets;
         s[k] = row;
@@ -105,7 +97,7 @@ fn round(
         return s;
     }
     *rounds += 1;
-    let k = outermost(sizes, left);
+    let k = sizes.blocks - left;
     let next = right_sides(file, sizes, s, k, work);
     if sets::equal(&next[k], &sets[k]) {
         *status = STABLE;

@@ -7,7 +7,7 @@ use native.Mathlib.Omega.{arith}
 use borrow.Author.Tests.{not-false, ltb-false}
 use lib.Dec.{T, eqb, ltb, ltb→lt}
 use lib.ListN.{length, length-map, length-append}
-use Rattle.sets.specs.Lists.{all}
+use Rattle.sets.specs.Lists.{every}
 use Rattle.sets.proofs.Lists.{and-left, and-right, length-table}
 use Rattle.cases.specs.Action.{Action}
 use Rattle.cases.specs.Formula.{Formula, False, True, And, Or, Box, Diamond, Variable, Fix, nodes, binders}
@@ -16,10 +16,10 @@ use Rattle.cases.specs.Prefix.{arityIn, formulaArities, actionAt, formulaAt}
 use Rattle.cases.specs.File.{stateCount, labelCount, initialState, transitionCount, nodeCount, actionCount, transitionTable, actionTable, formulaTable}
 use Rattle.cases.specs.File.{transitionPart, formulaPart, transitionIn, nodeIn}
 use Rattle.cases.specs.Case.{caseOf}
-use Rattle.cases.specs.Conditions.{transitionOk, nodeAt, isBinder, badModel, blockCount, tooDeep, Accepted}
+use Rattle.cases.specs.Conditions.{transitionOk, nodeAt, isBinder, badModel, blockTotal, tooDeep, Accepted}
+use Rattle.cases.specs.internal.Tables.{made, formulaOperator, FormulaTable}
 use Rattle.cases.proofs.Spans.{span-length}
-use Rattle.cases.proofs.Trees.{made}
-use Rattle.cases.proofs.TableTrees.{holds, held, each-kind, formulaOperator, FormulaTable, formula-table, formula-at, root}
+use Rattle.cases.proofs.TableTrees.{holds, held, each-kind, formula-table, formula-at, root}
 use Rattle.cases.proofs.Counting.{nodes-span, binders-all}
 use Rattle.cases.proofs.Scopes.{Bound, variable-bound, formula-scoped}
 use Rattle.cases.proofs.Accepting.{Passed, passed}
@@ -32,11 +32,11 @@ use Rattle.translate.proofs.CaseFile.{Fit}
 
 -- the initial state is a state, and the transitions have states and labels
 pub model-holds : (b : List ℕ) → badModel b ≡ false
-    → (initialState b < stateCount b) × (all (transitionOk (stateCount b) (labelCount b)) (transitionTable b) ≡ true)
+    → (initialState b < stateCount b) × (every (transitionOk (stateCount b) (labelCount b)) (transitionTable b) ≡ true)
 unfolding badModel
 model-holds b e =
     let low : Bool = ltb (initialState b) (stateCount b) in
-    let oks : Bool = all (transitionOk (stateCount b) (labelCount b)) (transitionTable b) in
+    let oks : Bool = every (transitionOk (stateCount b) (labelCount b)) (transitionTable b) in
     let good : T (low && oks) = held (low && oks) (not-false (low && oks) e) in
     (ltb→lt (initialState b) (stateCount b) (and-left low oks good), holds oks (and-right low oks good))
 
@@ -88,8 +88,8 @@ module _ (action : ℕ → Action) (t : List Node) (table : FormulaTable t) wher
       ∙ binds-made action 0 (nodeAt t 0 .arg) _ _ (nodeAt t 0 .kind) (table .kinds 0 (root t table))
 
   -- the table's blocks are the binders of the formula that is translated
-  pub blocks-all : length (binderNodes (whole (formulaAt action t 0))) ≡ blockCount t
-  unfolding blockCount
+  pub blocks-all : length (binderNodes (whole (formulaAt action t 0))) ≡ blockTotal t
+  unfolding blockTotal
   blocks-all =
       binders-whole (formulaAt action t 0)
       ∙ rw (binds-root, binders-all action t table)

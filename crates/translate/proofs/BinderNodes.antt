@@ -10,7 +10,7 @@ use borrow.Author.Tests.{eq-eqb, ne-eqb}
 use lib.Dec.{T, eqb, ltb, lt→ltb}
 use lib.ListN.{length, getD, take, drop, length-map}
 use lib.Seq.{drop-cons, drop-drop}
-use Rattle.sets.specs.Lists.{range, all}
+use Rattle.sets.specs.Lists.{numbersFrom, every}
 use Rattle.sets.proofs.Lists.{and-both}
 use Rattle.cases.specs.Action.{Action}
 use Rattle.cases.specs.Formula.{Formula, nodes}
@@ -18,11 +18,12 @@ use Rattle.cases.specs.declared.Node.{Node}
 use Rattle.cases.specs.Prefix.{arityIn, formulaArities, span, endOf, formulaAt}
 use Rattle.cases.specs.Conditions.{nodeAt, isBinder, binderCount}
 use Rattle.cases.specs.Case.{keep}
+use Rattle.cases.specs.internal.Tables.{made, formulaOperator, FormulaTable}
 use Rattle.cases.proofs.Spans.{span-none, span-add, end-next, first-node, exactly-whole, exactly-span, by-operands}
-use Rattle.cases.proofs.Trees.{made, arity-at}
-use Rattle.cases.proofs.TableTrees.{each-kind, formulaOperator, FormulaTable, formula-at, root}
+use Rattle.cases.proofs.Trees.{arity-at}
+use Rattle.cases.proofs.TableTrees.{each-kind, formula-at, root}
 use Rattle.cases.proofs.Counting.{arity-small, nodes-span}
-use Rattle.translate.specs.Whole.{binderNodes, place, blockIn}
+use Rattle.translate.specs.Whole.{binderNodes, indexIn, blockIn}
 use Rattle.translate.proofs.Equations.{increasing}
 
 -- ---- lists from the k numbers from i on
@@ -120,12 +121,12 @@ module _ (action : ℕ → Action) (t : List Node) (table : FormulaTable t) wher
 
 -- ---- binders
 -- keeping is collecting
-keep-collect : (p : ℕ → Bool) (k i : ℕ) → collect (λ j. cond (p j) (j ∷ []) []) i k ≡ keep p (range i k)
-unfolding collect keep range
+keep-collect : (p : ℕ → Bool) (k i : ℕ) → collect (λ j. cond (p j) (j ∷ []) []) i k ≡ keep p (numbersFrom i k)
+unfolding collect keep numbersFrom
 keep-collect p zero i = refl
 keep-collect p (suc k) i = ap (λ (l : List ℕ). cond (p i) (i ∷ []) [] ++ l) (keep-collect p k (suc i)) ∙ go (p i)
   where
-    go : (r : Bool) → cond r (i ∷ []) [] ++ keep p (range (suc i) k) ≡ cond r (i ∷ keep p (range (suc i) k)) (keep p (range (suc i) k))
+    go : (r : Bool) → cond r (i ∷ []) [] ++ keep p (numbersFrom (suc i) k) ≡ cond r (i ∷ keep p (numbersFrom (suc i) k)) (keep p (numbersFrom (suc i) k))
     go true = refl
     go false = refl
 
@@ -140,7 +141,7 @@ module _ (action : ℕ → Action) (t : List Node) (table : FormulaTable t) wher
       refl refl refl refl refl refl refl refl refl k h
 
   -- The binders of the whole formula are those of the table, in order.
-  pub binder-nodes : binderNodes (formulaAt action t 0) ≡ keep (λ i. isBinder (nodeAt t i)) (range 0 (length t))
+  pub binder-nodes : binderNodes (formulaAt action t 0) ≡ keep (λ i. isBinder (nodeAt t i)) (numbersFrom 0 (length t))
   binder-nodes = listed-all action t table (λ a i. binderNodes a) (λ i. cond (isBinder (nodeAt t i)) (i ∷ []) []) own ∙ keep-collect _ (length t) 0
     where
       own : (i : ℕ) → i < length t → binderNodes (formulaAt action t i)
@@ -152,44 +153,44 @@ module _ (action : ℕ → Action) (t : List Node) (table : FormulaTable t) wher
           ∙ rw (arity-at formulaArities t i h) (binders-own i (nodeAt t i .arg) (nodeAt t i .kind) (table .kinds i h) _ _)
 
 -- what is kept of later numbers is greater
-keep-above : (p : ℕ → Bool) (x k i : ℕ) → x < i → T (all (ltb x) (keep p (range i k)))
-unfolding all keep range
+keep-above : (p : ℕ → Bool) (x k i : ℕ) → x < i → T (every (ltb x) (keep p (numbersFrom i k)))
+unfolding every keep numbersFrom
 keep-above p x zero i h = tt
 keep-above p x (suc k) i h = go (p i) (keep-above p x k (suc i) (omega arith))
   where
-    go : (r : Bool) → T (all (ltb x) (keep p (range (suc i) k))) → T (all (ltb x) (cond r (i ∷ keep p (range (suc i) k)) (keep p (range (suc i) k))))
+    go : (r : Bool) → T (every (ltb x) (keep p (numbersFrom (suc i) k))) → T (every (ltb x) (cond r (i ∷ keep p (numbersFrom (suc i) k)) (keep p (numbersFrom (suc i) k))))
     go true rest = and-both (ltb x i) _ (lt→ltb x i h) rest
     go false rest = rest
 
 -- A kept part of a range is increasing.
-keep-increasing : (p : ℕ → Bool) (k i : ℕ) → T (increasing (keep p (range i k)))
-unfolding increasing keep range
+keep-increasing : (p : ℕ → Bool) (k i : ℕ) → T (increasing (keep p (numbersFrom i k)))
+unfolding increasing keep numbersFrom
 keep-increasing p zero i = tt
 keep-increasing p (suc k) i = go (p i) (keep-increasing p k (suc i))
   where
-    go : (r : Bool) → T (increasing (keep p (range (suc i) k))) → T (increasing (cond r (i ∷ keep p (range (suc i) k)) (keep p (range (suc i) k))))
-    go true rest = and-both (all (ltb i) (keep p (range (suc i) k))) _ (keep-above p i k (suc i) (omega arith)) rest
+    go : (r : Bool) → T (increasing (keep p (numbersFrom (suc i) k))) → T (increasing (cond r (i ∷ keep p (numbersFrom (suc i) k)) (keep p (numbersFrom (suc i) k))))
+    go true rest = and-both (every (ltb i) (keep p (numbersFrom (suc i) k))) _ (keep-above p i k (suc i) (omega arith)) rest
     go false rest = rest
 
 -- a binder's place among those from node i on
 binder-place : (t : List Node) (m k i : ℕ) → m < k → i + k ≤ length t → isBinder (nodeAt t (i + m)) ≡ true
-    → place (i + m) (keep (λ j. isBinder (nodeAt t j)) (range i k)) ≡ binderCount (take m (drop i t))
-unfolding place keep range binderCount
+    → indexIn (i + m) (keep (λ j. isBinder (nodeAt t j)) (numbersFrom i k)) ≡ binderCount (take m (drop i t))
+unfolding indexIn keep numbersFrom binderCount
 binder-place t m zero i h l e = absurd (omega arith)
 binder-place t zero (suc k) i h l e =
     let here : isBinder (nodeAt t i) ≡ true = rw (add-zero i) at e in
     rw (add-zero i, here, eq-eqb i i refl)
 binder-place t (suc m) (suc k) i h l e =
     let next : i + suc m ≡ suc i + m = omega arith in
-    let more : place (suc i + m) later ≡ binderCount (take m (drop (suc i) t)) =
+    let more : indexIn (suc i + m) later ≡ binderCount (take m (drop (suc i) t)) =
     binder-place t m k (suc i) (omega arith) (omega arith) (rw next at e) in
     rw (drop-cons t i (record { kind = 0; arg = 0 }) (omega arith), next) (go (isBinder (nodeAt t i)) more)
   where
     later : List ℕ
-    later = keep (λ j. isBinder (nodeAt t j)) (range (suc i) k)
+    later = keep (λ j. isBinder (nodeAt t j)) (numbersFrom (suc i) k)
 
-    go : (r : Bool) → place (suc i + m) later ≡ binderCount (take m (drop (suc i) t))
-        → place (suc i + m) (cond r (i ∷ later) later) ≡ cond r 1 0 + binderCount (take m (drop (suc i) t))
+    go : (r : Bool) → indexIn (suc i + m) later ≡ binderCount (take m (drop (suc i) t))
+        → indexIn (suc i + m) (cond r (i ∷ later) later) ≡ cond r 1 0 + binderCount (take m (drop (suc i) t))
     go true p = rw (ne-eqb (suc i + m) i (λ q. omega arith), p) (omega arith)
     go false p = p ∙ sym (zero-add _)
 

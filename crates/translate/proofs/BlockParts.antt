@@ -13,9 +13,9 @@ use Rattle.sets.specs.Words.{bit}
 use Rattle.solver.specs.File.{Block}
 use Rattle.translate.specs.declared.Shape.{Shape}
 use Rattle.translate.specs.Bytes.{blockNumbers}
-use Rattle.translate.specs.Shapes.{shapeBlocks}
-use Rattle.translate.specs.Parts.{WroteAt, WroteMore}
-use Rattle.translate.specs.Sources.{shapeAt}
+use Rattle.translate.specs.internal.Shapes.{shapeBlocks}
+use Rattle.translate.specs.internal.Parts.{WroteMore}
+use Rattle.translate.specs.internal.Sources.{shapeAt}
 use Rattle.translate.proofs.NumberBytes.{length-blockNumbers}
 use Rattle.translate.proofs.Putting.{wrote-no-more}
 
@@ -74,9 +74,9 @@ pub length-of-binder : (n i : ℕ) (x : Shape) → 7 ≤ x .kind → length (blo
 length-of-binder n i x h = rw (numbers-of-binder n i x h)
 
 -- they are written behind `done` others
-pub wrote-block : (n i : ℕ) (x : Shape) {done sign : ℕ} {s t : List ℕ} → 7 ≤ x .kind → sign ≡ bit (eqb (x .kind) 8)
-    → WroteAt (4 * done) (sign ∷ (i + 1) * n ∷ []) s t → WroteMore done (blockNumbers (shapeBlocks n i (x ∷ []))) s t (done + 2)
-wrote-block n i x h e w = rw (numbers-of-binder n i x h, ← e) (record { wrote = w; count = refl })
+pub wrote-block : (n i : ℕ) (x : Shape) {done sign r : ℕ} {s t : List ℕ} → 7 ≤ x .kind → sign ≡ bit (eqb (x .kind) 8)
+    → WroteMore done (sign ∷ (i + 1) * n ∷ []) s t r → WroteMore done (blockNumbers (shapeBlocks n i (x ∷ []))) s t r
+wrote-block n i x h e w = rw (numbers-of-binder n i x h, ← e) w
 
 pub wrote-no-block : (n i : ℕ) (x : Shape) (done : ℕ) (s : List ℕ) → x .kind < 7 → WroteMore done (blockNumbers (shapeBlocks n i (x ∷ []))) s s done
 wrote-no-block n i x done s h = rw (numbers-of-other n i x h) (wrote-no-more done s)

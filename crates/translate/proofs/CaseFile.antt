@@ -7,7 +7,7 @@ use native.Mathlib.Omega.{arith}
 use native.Mathlib.Nat.{mul-le-mul}
 use lib.Dec.{T, eqb, ltb}
 use lib.ListN.{length}
-use Rattle.sets.specs.Lists.{all, any}
+use Rattle.sets.specs.Lists.{every, forSome}
 use Rattle.sets.specs.Size.{stateLimit}
 use Rattle.sets.proofs.Lists.{and-right, all-mono}
 use Rattle.solver.specs.Limits.{blockLimit, cellLimit, operandLimit}
@@ -22,6 +22,7 @@ use Rattle.translate.specs.Whole.{whole, binderNodes, blockIn}
 use Rattle.translate.specs.Bytes.{systemOf, allOperands, fileOf}
 use Rattle.translate.proofs.AllLaws.{all-distinct, among-all}
 use Rattle.translate.proofs.Counts as counts
+use Rattle.translate.proofs.Unfold.{cells-long}
 use Rattle.translate.proofs.Rules.{closed, place-below, rulesOk, cells-rule, blocks-roomy}
 use Rattle.translate.proofs.ReadBack as back
 use Rattle.translate.proofs.ReadBack.{Ready}
@@ -32,7 +33,7 @@ pub record Fit (c : Case) : Type 0 where
   pub states-low : 1 ≤ c .states
   pub states-high : c .states ≤ stateLimit
   pub initial-low : c .initial < c .states
-  pub transitions-ok : all (transitionOk (c .states) (c .labels)) (c .transitions) ≡ true
+  pub transitions-ok : every (transitionOk (c .states) (c .labels)) (c .transitions) ≡ true
   pub transitions-high : length (c .transitions) ≤ transitionLimit
   pub nodes-high : nodes (c .formula) ≤ nodeLimit
   pub binders-high : length (binderNodes (whole (c .formula))) ≤ blockLimit
@@ -56,26 +57,26 @@ module _ (c : Case) (fit : Fit c) where
 
   pub length-cells : length (systemOf c .cells) ≡ nodes a * n
   unfolding systemOf
-  length-cells = counts.length-cells n ts (blockIn a) a 0
+  length-cells = cells-long n ts (blockIn a) a 0
 
-  pub nodes-high : nodes a ≤ 65
+  pub nodes-high : nodes a ≤ nodeLimit + 1
   nodes-high = omega (arith, counts.nodes-whole (c .formula), fit .nodes-high)
 
   pub cells-high : length (systemOf c .cells) ≤ cellLimit
   cells-high = omega (arith, length-cells, mul-le-mul nodes-high (fit .states-high))
 
-  pub operands-few : length (allOperands (systemOf c .cells)) ≤ nodes a * 2048
+  pub operands-few : length (allOperands (systemOf c .cells)) ≤ nodes a * transitionLimit
   unfolding systemOf
   operands-few =
-      let n-high : n ≤ 1024 = omega (arith, fit .states-high) in
-      let few : length ts ≤ 2048 = omega (arith, counts.length-distinct (c .transitions), fit .transitions-high) in
+      let n-high : 2 * n ≤ transitionLimit = omega (arith, fit .states-high) in
+      let few : length ts ≤ transitionLimit = omega (arith, counts.length-distinct (c .transitions), fit .transitions-high) in
       counts.length-operands n ts (blockIn a) n-high few a 0
 
   pub operands-high : length (allOperands (systemOf c .cells)) ≤ operandLimit
   operands-high = omega (arith, nodes-high, operands-few)
 
   -- the targets of the distinct transitions are states
-  pub ends : T (all (λ t. ltb (t .target) n) ts)
+  pub ends : T (every (λ t. ltb (t .target) n) ts)
   ends =
       all-distinct (λ t. ltb (t .target) n) (c .transitions)
       (all-mono (transitionOk n (c .labels)) (λ t. ltb (t .target) n)
@@ -83,7 +84,7 @@ module _ (c : Case) (fit : Fit c) where
       (c .transitions) (subst T (sym (fit .transitions-ok)) tt))
 
   -- each binder has a block
-  bound : (j : ℕ) → T (any (eqb j) (binderNodes a)) → blockIn a j < length (binderNodes a)
+  bound : (j : ℕ) → T (forSome (eqb j) (binderNodes a)) → blockIn a j < length (binderNodes a)
   unfolding blockIn
   bound j t = place-below j (binderNodes a) t
 

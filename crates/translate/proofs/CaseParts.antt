@@ -9,17 +9,18 @@ use borrow.Author.Tests.{ltb-true, ltb-false}
 use borrow.Rule.Slice.PartAt.{part-to-end}
 use Rattle.cases.specs.Limits.{transitionLimit}
 use Rattle.cases.specs.declared.Header.{Header}
-use Rattle.cases.specs.File.{u16, stateCount, initialState, transitionCount, nodeCount, headerOf}
+use Rattle.cases.specs.File.{stateCount, initialState, transitionCount, nodeCount, headerOf}
 use Rattle.cases.specs.Case.{caseOf}
 use Rattle.cases.specs.Conditions.{nodeAt, isBinder, Accepted}
-use Rattle.cases.specs.Checks.{nodesIn}
+use Rattle.cases.specs.internal.Checks.{nodesIn}
 use Rattle.translate.specs.declared.Shape.{Shape}
 use Rattle.translate.specs.declared.Written.{Written}
+use Rattle.translate.specs.declared.Cause.the-variants.{Memory}
 use Rattle.translate.specs.declared.Written.the-variants.{File, Refused}
 use Rattle.translate.specs.Bytes.{System, systemOf, fileOf}
-use Rattle.translate.specs.Parts.{distinctIn}
-use Rattle.translate.specs.Tabled.{FirstFlags, Tables, HoldsShapes}
-use Rattle.translate.specs.Sources.{Sources, shapeSystem, Emitted}
+use Rattle.translate.specs.internal.Parts.{distinctIn}
+use Rattle.translate.specs.internal.Tabled.{FirstFlags, Tables, HoldsShapes}
+use Rattle.translate.specs.internal.Sources.{Sources, shapeSystem, Emitted}
 use Rattle.translate.specs.Translating.{file, Translated}
 use Rattle.translate.proofs.CaseSources as of-case
 use Rattle.translate.proofs.Translations.{too-short, file-written}
@@ -29,11 +30,11 @@ module _ (b before : List ℕ) (accepted : Accepted b) {w : Written} {after : Li
   ends-by : (r : Bool) → ltb (length before) (length (file b)) ≡ r → Translated b before w after
   unfolding fileOf
   ends-by true e =
-      let is : w ≡ Refused 13 = emitted .answer ∙ ap (λ (x : Bool). cond x (Refused 13) (File (length (file b)))) e in
+      let is : w ≡ Refused Memory = emitted .answer ∙ ap (λ (x : Bool). cond x (Refused Memory) (File (length (file b)))) e in
       let same : after ≡ before = emitted .written ∙ ap (λ (x : Bool). cond x before (file b ++ drop (length (file b)) before)) e in
       rw (is, same) (too-short b before accepted (length (file b)) refl (ltb-true (length before) (length (file b)) e))
   ends-by false e =
-      let is : w ≡ File (length (file b)) = emitted .answer ∙ ap (λ (x : Bool). cond x (Refused 13) (File (length (file b)))) e in
+      let is : w ≡ File (length (file b)) = emitted .answer ∙ ap (λ (x : Bool). cond x (Refused Memory) (File (length (file b)))) e in
       rw is
       (file-written b before accepted (length (file b)) refl (ltb-false (length before) (length (file b)) e)
       (emitted .written ∙ ap (λ (x : Bool). cond x before (file b ++ drop (length (file b)) before)) e))
@@ -45,35 +46,33 @@ module _ (b before : List ℕ) (accepted : Accepted b) {w : Written} {after : Li
 abbrev pub from : List ℕ → ℕ → List ℕ
 from b at = take (length b - at) (drop at b)
 
--- what is known once the header is read
+-- what is known of an accepted case by its header
 pub record Opened (b : List ℕ) (h : Header) : Type 0 where
-  pub header : 20 ≤ length b
-  pub first : h .first ≤ length b
-  pub second : h .second ≤ length b
-  pub third : h .third ≤ length b
-  pub records : 6 * h .transitions ≤ length (from b (h .first))
+  pub transitions : h .«transitions_at» ≤ length b
+  pub actions : h .«actions_at» ≤ length b
+  pub formula : h .«formula_at» ≤ length b
+  pub records : 6 * h .transitions ≤ length (from b (h .«transitions_at»))
   pub few : h .transitions ≤ transitionLimit
-  pub tables : Tables (from b (h .second)) (h .actions) (from b (h .third)) (h .nodes)
+  pub tables : Tables (from b (h .«actions_at»)) (h .actions) (from b (h .«formula_at»)) (h .nodes)
   pub some : 1 ≤ h .nodes
 
 -- and once flags and shapes are worked out
 pub record Held (b first : List ℕ) (shapes : List Shape) (added : ℕ) (h : Header) : Type 0 where
-  pub flags : FirstFlags (from b (h .first)) (h .transitions) first
-  pub nodes : HoldsShapes (from b (h .second)) (h .actions) (from b (h .third)) (h .nodes) shapes
-  pub before : added ≡ cond (isBinder (nodeAt (nodesIn (from b (h .third)) (h .nodes)) 0)) 0 1
+  pub flags : FirstFlags (from b (h .«transitions_at»)) (h .transitions) first
+  pub nodes : HoldsShapes (from b (h .«actions_at»)) (h .actions) (from b (h .«formula_at»)) (h .nodes) shapes
+  pub before : added ≡ cond (isBinder (nodeAt (nodesIn (from b (h .«formula_at»)) (h .nodes)) 0)) 0 1
 
 module _ (b : List ℕ) (accepted : Accepted b) where
   opened-header : Opened b (headerOf b)
   opened-header =
       let p = of-case.parts b accepted in
-      let one = part-to-end b (u16 b 14) in
-      let two = part-to-end b (u16 b 16) in
-      let three = part-to-end b (u16 b 18) in
+      let one = part-to-end b (headerOf b .«transitions_at») in
+      let two = part-to-end b (headerOf b .«actions_at») in
+      let three = part-to-end b (headerOf b .«formula_at») in
       record {
-        header = p .3;
-        first = p .4;
-        second = p .5;
-        third = p .6;
+        transitions = p .3;
+        actions = p .4;
+        formula = p .5;
         records = rw one (p .0);
         few = p .1;
         tables = rw (two, three) (of-case.tables b accepted);
@@ -85,36 +84,36 @@ module _ (b : List ℕ) (accepted : Accepted b) where
 
   module _ (first : List ℕ) (shapes : List Shape) (added : ℕ) where
     sources-header : Held b first shapes added (headerOf b)
-        → Sources (from b (u16 b 14)) first (transitionCount b) shapes (added + nodeCount b) (stateCount b)
+        → Sources (from b (headerOf b .«transitions_at»)) first (transitionCount b) shapes (added + nodeCount b) (stateCount b)
     sources-header held =
-        let one = part-to-end b (u16 b 14) in
-        let two = part-to-end b (u16 b 16) in
-        let three = part-to-end b (u16 b 18) in
+        let one = part-to-end b (headerOf b .«transitions_at») in
+        let two = part-to-end b (headerOf b .«actions_at») in
+        let three = part-to-end b (headerOf b .«formula_at») in
         rw one (of-case.sources b accepted first shapes (added + nodeCount b) (rw one at (held .flags)) (rw (two, three) at (held .nodes))
         (ap (λ (x : ℕ). x + nodeCount b) (rw three at (held .before))))
 
     system-header : Held b first shapes added (headerOf b)
-        → shapeSystem (stateCount b) (initialState b) (distinctIn (from b (u16 b 14)) first (transitionCount b)) (take (added + nodeCount b) shapes) ≡ systemOf (caseOf b)
+        → shapeSystem (stateCount b) (initialState b) (distinctIn (from b (headerOf b .«transitions_at»)) first (transitionCount b)) (take (added + nodeCount b) shapes) ≡ systemOf (caseOf b)
     system-header held =
-        let one = part-to-end b (u16 b 14) in
-        let two = part-to-end b (u16 b 16) in
-        let three = part-to-end b (u16 b 18) in
+        let one = part-to-end b (headerOf b .«transitions_at») in
+        let two = part-to-end b (headerOf b .«actions_at») in
+        let three = part-to-end b (headerOf b .«formula_at») in
         rw one (of-case.system-of b accepted first shapes (added + nodeCount b) (rw one at (held .flags)) (rw (two, three) at (held .nodes))
         (ap (λ (x : ℕ). x + nodeCount b) (rw three at (held .before))))
 
     module _ {h : Header} (e : h ≡ headerOf b) (held : Held b first shapes added h) where
       -- what the writers are handed
-      pub handed : Sources (from b (h .first)) first (h .transitions) shapes (added + h .nodes) (h .states)
+      pub handed : Sources (from b (h .«transitions_at»)) first (h .transitions) shapes (added + h .nodes) (h .states)
       handed =
-          subst (λ (x : Header). Sources (from b (x .first)) first (x .transitions) shapes (added + x .nodes) (x .states)) (sym e)
+          subst (λ (x : Header). Sources (from b (x .«transitions_at»)) first (x .transitions) shapes (added + x .nodes) (x .states)) (sym e)
           (sources-header (subst (Held b first shapes added) e held))
 
       -- what follows from what they leave
       pub left-as : {before : List ℕ} {w : Written} {after : List ℕ}
-          → Emitted (shapeSystem (h .states) (h .initial) (distinctIn (from b (h .first)) first (h .transitions)) (take (added + h .nodes) shapes)) before w after
+          → Emitted (shapeSystem (h .states) (h .initial) (distinctIn (from b (h .«transitions_at»)) first (h .transitions)) (take (added + h .nodes) shapes)) before w after
           → Translated b before w after
       left-as {before} {w} {after} emitted =
-          let is : shapeSystem (h .states) (h .initial) (distinctIn (from b (h .first)) first (h .transitions)) (take (added + h .nodes) shapes) ≡ systemOf (caseOf b) =
-          subst (λ (x : Header). shapeSystem (x .states) (x .initial) (distinctIn (from b (x .first)) first (x .transitions)) (take (added + x .nodes) shapes) ≡ systemOf (caseOf b)) (sym e)
+          let is : shapeSystem (h .states) (h .initial) (distinctIn (from b (h .«transitions_at»)) first (h .transitions)) (take (added + h .nodes) shapes) ≡ systemOf (caseOf b) =
+          subst (λ (x : Header). shapeSystem (x .states) (x .initial) (distinctIn (from b (x .«transitions_at»)) first (x .transitions)) (take (added + x .nodes) shapes) ≡ systemOf (caseOf b)) (sym e)
           (system-header (subst (Held b first shapes added) e held)) in
           ends-translated b before accepted (subst (λ (y : System). Emitted y before w after) is emitted)

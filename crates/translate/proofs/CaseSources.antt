@@ -8,7 +8,7 @@ use borrow.Author.Tests.{not-false}
 use lib.Dec.{T, eqb, ltb, ltb→lt, lt→ltb}
 use lib.ListN.{length, getD, take, length-map}
 use lib.Seq.{getD-take}
-use Rattle.sets.specs.Lists.{range, all}
+use Rattle.sets.specs.Lists.{numbersFrom, every}
 use Rattle.sets.proofs.Lists.{false-true, and-left, and-right, all-at, all-mono, length-table, table-at}
 use Rattle.cases.specs.Limits.{labelLimit, transitionLimit, nodeLimit}
 use Rattle.cases.specs.Action.{Action}
@@ -16,23 +16,24 @@ use Rattle.cases.specs.Formula.{Formula}
 use Rattle.cases.specs.declared.Node.{Node}
 use Rattle.cases.specs.declared.Transition.{Transition}
 use Rattle.cases.specs.Prefix.{arityIn, formulaArities, exactly, endOf, actionAt, formulaAt}
-use Rattle.cases.specs.File.{u16, stateCount, labelCount, initialState, transitionCount, actionCount, nodeCount, transitionPart, actionPart, formulaPart, headerOf}
+use Rattle.cases.specs.File.{stateCount, labelCount, initialState, transitionCount, actionCount, nodeCount, transitionPart, actionPart, formulaPart, headerOf}
 use Rattle.cases.specs.File.{transitionTable, actionTable, formulaTable}
 use Rattle.cases.specs.Case.{caseOf, distinct}
 use Rattle.cases.specs.Conditions.{transitionOk, nodeAt, nodeOk, isBinder, badFormula, Accepted}
-use Rattle.cases.specs.Checks.{transitionsIn, nodesIn}
+use Rattle.cases.specs.internal.Checks.{transitionsIn, nodesIn}
+use Rattle.cases.specs.internal.Tables.{FormulaTable}
 use Rattle.cases.proofs.Spans.{exactly-whole, second-node}
 use Rattle.cases.proofs.Trees.{arity-at}
-use Rattle.cases.proofs.TableTrees.{held, each-kind, FormulaTable, formula-table}
+use Rattle.cases.proofs.TableTrees.{held, each-kind, formula-table}
 use Rattle.cases.proofs.Masks.{whole-actions}
 use Rattle.cases.proofs.ModelRules.{transitions-inside, actions-inside, nodes-inside}
 use Rattle.translate.specs.declared.Shape.{Shape}
 use Rattle.translate.specs.Whole.{whole, blockIn}
 use Rattle.translate.specs.Bytes.{System, systemOf, allOperands}
-use Rattle.translate.specs.Shapes.{shapesFrom, shapeIn, tableShapes}
-use Rattle.translate.specs.Parts.{distinctIn}
-use Rattle.translate.specs.Sources.{shapeSystem, shapeAt, Sources}
-use Rattle.translate.specs.Tabled.{FirstFlags, Tables, HoldsShapes}
+use Rattle.translate.specs.internal.Shapes.{shapesFrom, shapeIn, tableShapes}
+use Rattle.translate.specs.internal.Parts.{distinctIn}
+use Rattle.translate.specs.internal.Sources.{shapeSystem, shapeAt, Sources}
+use Rattle.translate.specs.internal.Tabled.{FirstFlags, Tables, HoldsShapes}
 use Rattle.translate.proofs.AllLaws.{all-distinct}
 use Rattle.translate.proofs.FirstAppearances.{flagged-distinct}
 use Rattle.translate.proofs.TableShapes.{shape-blocks, shape-cells, table-shapes}
@@ -56,7 +57,7 @@ modal-inside a arg =
 pub nodes-pass : (a : ℕ) (t : List Node) → badFormula a t ≡ false → (i : ℕ) → i < length t → T (nodeOk a (nodeAt t i))
 unfolding badFormula
 nodes-pass a t e i h =
-    let oks : Bool = all (nodeOk a) t in
+    let oks : Bool = every (nodeOk a) t in
     let fits : Bool = exactly 1 (map (arityIn formulaArities) t) in
     all-at (nodeOk a) t i (record { kind = 0; arg = 0 }) h (and-left oks fits (held (oks && fits) (not-false (oks && fits) e)))
 
@@ -65,8 +66,8 @@ pub length-table-shapes : (action : ℕ → Action) (t : List Node) → length (
 unfolding tableShapes
 length-table-shapes action t = go (isBinder (nodeAt t 0))
   where
-    go : (r : Bool) → length (cond r (map (shapeIn action t 0) (range 0 (length t)))
-        (record { kind = 8; second = 0; block = 0; labels = 0 } ∷ map (shapeIn action t 1) (range 0 (length t)))) ≡ cond r 0 1 + length t
+    go : (r : Bool) → length (cond r (map (shapeIn action t 0) (numbersFrom 0 (length t)))
+        (record { kind = 8; second = 0; block = 0; labels = 0 } ∷ map (shapeIn action t 1) (numbersFrom 0 (length t)))) ≡ cond r 0 1 + length t
     go true = omega (arith, length-table (shapeIn action t 0) (length t))
     go false = omega (arith, length-table (shapeIn action t 1) (length t))
 
@@ -102,7 +103,7 @@ module _ (action : ℕ → Action) (t : List Node) (table : FormulaTable t) (few
   shapes-fine = go (isBinder (nodeAt t 0))
     where
       rows : ℕ → List Shape
-      rows added = map (shapeIn action t added) (range 0 (length t))
+      rows added = map (shapeIn action t added) (numbersFrom 0 (length t))
 
       row-fine : (added : ℕ) → added ≤ 1 → (i : ℕ) → i < length (rows added) → Fine (shapeAt (rows added) i)
       row-fine added l i h =
@@ -131,10 +132,10 @@ module _ (b : List ℕ) (accepted : Accepted b) where
   pub tables : Tables (actionPart b) (actionCount b) (formulaPart b) (nodeCount b)
   unfolding actionTable formulaTable nodesIn
   tables = record {
-    action-part = actions-inside b (headerOf b) refl (good .lies);
+    action-part = actions-inside (good .lies);
     whole-actions = whole-actions b (good .actions) (good .lies .counts .few-labels);
     blocks = record {
-      node-part = nodes-inside b (headerOf b) refl (good .lies);
+      node-part = nodes-inside (good .lies);
       variable = λ i h k.
           let inside : i < length table = omega (arith, length-formula b) in
           omega (arith, variables-known b accepted i inside k .before);
@@ -147,17 +148,16 @@ module _ (b : List ℕ) (accepted : Accepted b) where
 
   -- its parts and counts are within their limits
   pub parts : (6 * transitionCount b ≤ length (transitionPart b)) × (transitionCount b ≤ transitionLimit) × (1 ≤ nodeCount b)
-      × (20 ≤ length b) × (u16 b 14 ≤ length b) × (u16 b 16 ≤ length b) × (u16 b 18 ≤ length b)
+      × (headerOf b .«transitions_at» ≤ length b) × (headerOf b .«actions_at» ≤ length b) × (headerOf b .«formula_at» ≤ length b)
   parts =
       let l = good .lies in
       let c = l .counts in (
-        transitions-inside b (headerOf b) refl l,
+        transitions-inside l,
         c .few-transitions,
         c .some-node,
-        l .header,
-        omega (arith, l .ends, l .first),
-        omega (arith, l .ends, l .second),
-        omega (arith, l .ends, l .third),
+        omega (arith, l .ends, l .transitions),
+        omega (arith, l .ends, l .actions),
+        omega (arith, l .ends, l .formula),
       )
 
   -- ---- the equations
@@ -173,7 +173,7 @@ module _ (b : List ℕ) (accepted : Accepted b) where
   transitions = distinct (transitionTable b)
 
   -- each label of a distinct transition has a bit in a mask
-  labels-low : T (all (λ t. ltb (t .label) labelLimit) transitions)
+  labels-low : T (every (λ t. ltb (t .label) labelLimit) transitions)
   labels-low =
       let n : ℕ = stateCount b in
       let l : ℕ = labelCount b in
@@ -183,7 +183,7 @@ module _ (b : List ℕ) (accepted : Accepted b) where
       let two : T (ltb (t .source) n && ltb (t .label) l) = and-left (ltb (t .source) n && ltb (t .label) l) (ltb (t .target) n) h in
       let low : t .label < l = ltb→lt (t .label) l (and-right (ltb (t .source) n) (ltb (t .label) l) two) in
       lt→ltb (t .label) labelLimit (omega (arith, good .lies .counts .few-labels)))
-      (transitionTable b) (held (all (transitionOk n l) (transitionTable b)) (model-holds b (good .model) .1)))
+      (transitionTable b) (held (every (transitionOk n l) (transitionTable b)) (model-holds b (good .model) .1)))
 
   -- the shapes of the table are those of the formula that is translated
   shapes-of-table : shapesFrom (blockIn formula) formula 0 ≡ tableShapes action table

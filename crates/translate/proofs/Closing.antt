@@ -5,7 +5,7 @@ use mathlib.Core.List.{List, [], _∷_, map}
 use Prim.Native.Nat.{ℕ, _+_}
 use native.Mathlib.Numerals.{add-one}
 use lib.Dec.{T, eqb, eqb→eq, eqb·suc-suc}
-use Rattle.sets.specs.Lists.{all, any}
+use Rattle.sets.specs.Lists.{every, forSome}
 use Rattle.sets.proofs.Lists.{and-left, and-right, and-both}
 use Rattle.cases.specs.Formula.{Formula, False, True, And, Or, Box, Diamond, Variable, Fix}
 use Rattle.cases.proofs.Scopes.{scoped}
@@ -16,23 +16,23 @@ use Rattle.translate.proofs.Rules.{closed}
 
 -- whether a number is in a list
 abbrev among : List ℕ → ℕ → Bool
-among js j = any (eqb j) js
+among js j = forSome (eqb j) js
 
 -- what is in a list whose numbers are all in js is in js
-among-trans : (i : ℕ) (around js : List ℕ) → T (among around i) → T (all (among js) around) → T (among js i)
-unfolding any all
+among-trans : (i : ℕ) (around js : List ℕ) → T (among around i) → T (every (among js) around) → T (among js i)
+unfolding forSome every
 among-trans i [] js t u = absurd t
 among-trans i (j ∷ around) js t u =
-    go (eqb i j) (λ s. eqb→eq i j s) t (λ s. among-trans i around js s (and-right (among js j) (all (among js) around) u))
+    go (eqb i j) (λ s. eqb→eq i j s) t (λ s. among-trans i around js s (and-right (among js j) (every (among js) around) u))
   where
     go : (b : Bool) → (T b → i ≡ j) → T (b || among around i) → (T (among around i) → T (among js i)) → T (among js i)
-    go true e t h = subst (λ (k : ℕ). T (among js k)) (sym (e tt)) (and-left (among js j) (all (among js) around) u)
+    go true e t h = subst (λ (k : ℕ). T (among js k)) (sym (e tt)) (and-left (among js j) (every (among js) around) u)
     go false e t h = h t
 
 -- a formula that is scoped, where the binders around it and its own are all in js
-closed-from : (js : List ℕ) (a : Formula) (around : List ℕ) → T (scoped around a) → T (all (among js) around) → T (all (among js) (binderNodes a))
+closed-from : (js : List ℕ) (a : Formula) (around : List ℕ) → T (scoped around a) → T (every (among js) around) → T (every (among js) (binderNodes a))
     → T (closed js a)
-unfolding scoped closed binderNodes all
+unfolding scoped closed binderNodes every
 closed-from js False around t u v = tt
 closed-from js True around t u v = tt
 closed-from js (And a b) around t u v =
@@ -48,12 +48,12 @@ closed-from js (Diamond α a) around t u v = closed-from js a around t u v
 closed-from js (Variable i) around t u v = among-trans i around js t u
 closed-from js (Fix sign i a) around t u v =
     closed-from js a (i ∷ around) t
-    (and-both (among js i) (all (among js) around) (and-left (among js i) (all (among js) (binderNodes a)) v) u)
-    (and-right (among js i) (all (among js) (binderNodes a)) v)
+    (and-both (among js i) (every (among js) around) (and-left (among js i) (every (among js) (binderNodes a)) v) u)
+    (and-right (among js i) (every (among js) (binderNodes a)) v)
 
 -- raising keeps what is in a list
 among-raise : (i : ℕ) (around : List ℕ) → among (map (λ j. j + 1) around) (i + 1) ≡ among around i
-unfolding any
+unfolding forSome
 among-raise i [] = refl
 among-raise i (j ∷ around) =
     let one : eqb (i + 1) (j + 1) ≡ eqb i j = rw (add-one i, add-one j) (eqb·suc-suc i j) in
@@ -73,11 +73,11 @@ scoped-raise (Fix sign i a) around = scoped-raise a (i ∷ around)
 
 -- the formula that is translated
 pub closed-whole : (a : Formula) → scoped [] a ≡ true → closed (binderNodes (whole a)) (whole a) ≡ true
-unfolding whole binderNodes closed all
+unfolding whole binderNodes closed every
 closed-whole a s = holds _ (go (bindsFirst a))
   where
     go : (b : Bool) → T (closed (binderNodes (cond b a (Fix true 0 (raise a)))) (cond b a (Fix true 0 (raise a))))
     go true = closed-from (binderNodes a) a [] (subst T (sym s) tt) tt (among-all (binderNodes a))
     go false =
         let js : List ℕ = 0 ∷ binderNodes (raise a) in
-        closed-from js (raise a) [] (subst T (sym (scoped-raise a [] ∙ s)) tt) tt (and-right (among js 0) (all (among js) (binderNodes (raise a))) (among-all js))
+        closed-from js (raise a) [] (subst T (sym (scoped-raise a [] ∙ s)) tt) tt (and-right (among js 0) (every (among js) (binderNodes (raise a))) (among-all js))

@@ -4,13 +4,13 @@ use mathlib.Core.Bool.{Bool, true, false, cond, _&&_}
 use mathlib.Core.List.{List, [], _∷_, _++_, map, append-assoc}
 use Prim.Native.Nat.{ℕ, zero, suc, _+_, _*_, _≤_, _<_}
 use native.Mathlib.Omega.{arith}
-use native.Mathlib.Nat.{add-mul}
 use lib.Dec.{eqb}
 use lib.ListN.{length, length-append, length-map}
 use borrow.Author.Tests.{eqb-true, ne-eqb}
-use Rattle.sets.specs.Lists.{range}
-use Rattle.sets.proofs.Lists.{length-range, length-map-range}
+use Rattle.sets.specs.Lists.{numbersFrom}
+use Rattle.sets.proofs.Lists.{length-range}
 use Rattle.solver.specs.Cells.{Cell, operandsOf}
+use Rattle.cases.specs.Limits.{transitionLimit}
 use Rattle.cases.specs.Action.{Action, accepts}
 use Rattle.cases.specs.Formula.{Formula, False, True, And, Or, Box, Diamond, Variable, Fix, nodes}
 use Rattle.cases.specs.declared.Transition.{Transition}
@@ -90,7 +90,7 @@ length-keep p (x ∷ xs) = go (p x) (length-keep p xs)
 -- at most as many transitions are distinct as there are
 pub length-distinct : (ts : List Transition) → length (distinct ts) ≤ length ts
 unfolding distinct
-length-distinct ts = simp length-map (omega (arith, length-keep (λ i. eqb (copiesBefore ts i) 0) (range 0 (length ts)), length-range 0 (length ts)))
+length-distinct ts = simp length-map (omega (arith, length-keep (λ i. eqb (copiesBefore ts i) 0) (numbersFrom 0 (length ts)), length-range 0 (length ts)))
 
 -- the operands of cells that follow one another
 pub operands-append : (xs ys : List Cell) → allOperands (xs ++ ys) ≡ allOperands xs ++ allOperands ys
@@ -128,8 +128,8 @@ total-same f g e i zero = refl
 total-same f g e i (suc k) = omega (arith, e i, total-same f g e (suc i) k)
 
 -- the operands of a row of cells
-length-row : (f : ℕ → Cell) (i k : ℕ) → length (allOperands (map f (range i k))) ≡ total (λ s. length (operandsOf (f s))) i k
-unfolding allOperands range total
+length-row : (f : ℕ → Cell) (i k : ℕ) → length (allOperands (map f (numbersFrom i k))) ≡ total (λ s. length (operandsOf (f s))) i k
+unfolding allOperands numbersFrom total
 length-row f i zero = refl
 length-row f i (suc k) = simp length-append (omega (arith, length-row f (suc i) k))
 
@@ -181,56 +181,20 @@ module _ (α : Action) where
       let each = total-add (leaving (t ∷ ts)) (hit (t .source) (accepts eqb α (t .label))) (leaving ts) (leaving-cons t ts) i k in
       omega (arith, each, hits-one (t .source) (accepts eqb α (t .label)) i k, leaving-all ts i k)
 
--- k rows more
-rows-one : (x n : ℕ) → (1 + x) * n ≡ n + x * n
-rows-one x n = omega (arith, add-mul 1 x n)
-
-rows-two : (x y n : ℕ) → (1 + x + y) * n ≡ n + (x * n + y * n)
-rows-two x y n = omega (arith, add-mul 1 x n, add-mul (1 + x) y n)
-
 module _ (n : ℕ) (ts : List Transition) (block : ℕ → ℕ) where
   -- the cells of one node
   abbrev pub row : Formula → ℕ → List Cell
-  row a i = map (cellOf n ts block a i) (range 0 n)
-
-  -- a cell for each node and state
-  pub length-cells : (a : Formula) (i : ℕ) → length (cellsFrom n ts block a i) ≡ nodes a * n
-  unfolding cellsFrom nodes
-  length-cells False i = omega (arith, length-map-range (cellOf n ts block False i) 0 n)
-  length-cells True i = omega (arith, length-map-range (cellOf n ts block True i) 0 n)
-  length-cells (And a b) i =
-      simp length-append (omega (
-        arith,
-        length-map-range (cellOf n ts block (And a b) i) 0 n,
-        rows-two (nodes a) (nodes b) n,
-        length-cells a (i + 1),
-        length-cells b (i + 1 + nodes a),
-      ))
-  length-cells (Or a b) i =
-      simp length-append (omega (
-        arith,
-        length-map-range (cellOf n ts block (Or a b) i) 0 n,
-        rows-two (nodes a) (nodes b) n,
-        length-cells a (i + 1),
-        length-cells b (i + 1 + nodes a),
-      ))
-  length-cells (Box α a) i =
-      simp length-append (omega (arith, length-map-range (cellOf n ts block (Box α a) i) 0 n, rows-one (nodes a) n, length-cells a (i + 1)))
-  length-cells (Diamond α a) i =
-      simp length-append (omega (arith, length-map-range (cellOf n ts block (Diamond α a) i) 0 n, rows-one (nodes a) n, length-cells a (i + 1)))
-  length-cells (Variable j) i = omega (arith, length-map-range (cellOf n ts block (Variable j) i) 0 n)
-  length-cells (Fix sign j a) i =
-      simp length-append (omega (arith, length-map-range (cellOf n ts block (Fix sign j a) i) 0 n, rows-one (nodes a) n, length-cells a (i + 1)))
+  row a i = map (cellOf n ts block a i) (numbersFrom 0 n)
 
   -- the operands of one node, over all states
-  module _ (small : n ≤ 1024) (few : length ts ≤ 2048) where
-    row-modal : (i : ℕ) (α : Action) → total (λ s. length (targets n ts block i α s)) 0 n ≤ 2048
+  module _ (small : 2 * n ≤ transitionLimit) (few : length ts ≤ transitionLimit) where
+    row-modal : (i : ℕ) (α : Action) → total (λ s. length (targets n ts block i α s)) 0 n ≤ transitionLimit
     unfolding targets
     row-modal i α =
         let same = total-same (λ s. length (targets n ts block i α s)) (leaving α ts) (λ s. length-map (keep (from s α) ts) _) 0 n in
         omega (arith, same, leaving-all α ts 0 n)
 
-    row-operands : (a : Formula) (i : ℕ) → length (allOperands (row a i)) ≤ 2048
+    row-operands : (a : Formula) (i : ℕ) → length (allOperands (row a i)) ≤ transitionLimit
     unfolding cellOf operandsOf
     row-operands False i = omega (arith, length-row (cellOf n ts block False i) 0 n, total-zero 0 n)
     row-operands True i = omega (arith, length-row (cellOf n ts block True i) 0 n, total-zero 0 n)
@@ -242,7 +206,7 @@ module _ (n : ℕ) (ts : List Transition) (block : ℕ → ℕ) where
     row-operands (Fix sign j a) i = omega (arith, length-row (cellOf n ts block (Fix sign j a) i) 0 n, total-zero 0 n)
 
     -- the operands of a formula
-    pub length-operands : (a : Formula) (i : ℕ) → length (allOperands (cellsFrom n ts block a i)) ≤ nodes a * 2048
+    pub length-operands : (a : Formula) (i : ℕ) → length (allOperands (cellsFrom n ts block a i)) ≤ nodes a * transitionLimit
     unfolding cellsFrom nodes
     length-operands False i = omega (arith, row-operands False i)
     length-operands True i = omega (arith, row-operands True i)

@@ -10,17 +10,20 @@ use borrow.Author.Tests.{eq-eqb, ne-eqb}
 use lib.Dec.{T, eqb, ltb, ltb→lt, lt→ltb, eqb→eq}
 use lib.ListN.{length, getD, take, length-append, List·getD-append}
 use lib.Seq.{getD-append-add, append-snoc, getD-append-seam, take-append-seam}
-use Rattle.sets.specs.Lists.{range, all}
+use Rattle.sets.specs.Lists.{numbersFrom, every}
 use Rattle.sets.proofs.Lists.{and-left, and-right, and-both, all-at}
 use Rattle.solver.specs.File.{Block}
 use Rattle.cases.specs.Formula.{Formula, False, True, And, Or, Box, Diamond, Variable, Fix, nodes}
 use Rattle.cases.specs.declared.Transition.{Transition}
 use Rattle.cases.specs.Case.{keep, copies, copiesBefore, sameTransition, transitionAt, distinct}
-use Rattle.translate.specs.Whole.{raise, bindsFirst, whole, binderNodes, place, blockIn}
+use Rattle.translate.specs.Whole.{raise, bindsFirst, whole, binderNodes, indexIn, blockIn}
+use Rattle.translate.specs.Nodes.{subformulas, Stands}
+use Rattle.translate.specs.Copies.{fresh}
 use Rattle.translate.specs.Tables.{Constant, RHS, Equation, E}
-use Rattle.translate.specs.Plain.{Plain, plain, Unfolding}
+use Rattle.translate.specs.Plain.{Plain, Unfolding}
 use Rattle.translate.specs.Cells.{cellsFrom, blocksFrom}
-use Rattle.translate.proofs.Unfold.{subs, subAt-zero, length-subs, by-parts, Stands, fix-operand, length-cells, unfolded-RHS}
+use Rattle.translate.specs.Equations.{Agree}
+use Rattle.translate.proofs.Unfold.{length-subformulas, by-parts, fix-operand, length-cells, unfolded-RHS}
 
 -- n states, the distinct transitions, the block of each binder, and what stands for an element past the end of a list
 module _ (n : ℕ) (ts : List Transition) (block : ℕ → ℕ) (b₀ : Block) (e₀ : Equation ts block) where
@@ -117,11 +120,11 @@ module _ (n : ℕ) (ts : List Transition) (block : ℕ → ℕ) (b₀ : Block) (
   listed-under {k} f x = listed-join {fs = f ∷ []} refl (listed-none {k = k}) x
 
   listed-both : (a : Formula) {k : ℕ} {gs : List Formula} {bs bs′ : List Block} {es es′ : List (Equation ts block)} {names names′ : List ℕ}
-      → Listed k (subs a) bs es names → Listed (k + nodes a) gs bs′ es′ names′ → Listed k (subs a ++ gs) (bs ++ bs′) (es ++ es′) (names ++ names′)
-  listed-both a {k} x y = listed-join (ap (λ (i : ℕ). k + i) (length-subs a)) x y
+      → Listed k (subformulas a) bs es names → Listed (k + nodes a) gs bs′ es′ names′ → Listed k (subformulas a ++ gs) (bs ++ bs′) (es ++ es′) (names ++ names′)
+  listed-both a {k} x y = listed-join (ap (λ (i : ℕ). k + i) (length-subformulas a)) x y
 
-  listed : (a : Formula) (k : ℕ) → Listed k (subs a) (blocksFrom n a k) (E ts block a) (binderNodes a)
-  unfolding subs blocksFrom E binderNodes
+  listed : (a : Formula) (k : ℕ) → Listed k (subformulas a) (blocksFrom n a k) (E ts block a) (binderNodes a)
+  unfolding subformulas blocksFrom E binderNodes
   listed False k = listed-none
   listed True k = listed-none
   listed (And a b) k = listed-under (And a b) (listed-both a (listed a (k + 1)) (listed b (k + 1 + nodes a)))
@@ -134,7 +137,7 @@ module _ (n : ℕ) (ts : List Transition) (block : ℕ → ℕ) (b₀ : Block) (
 -- There are as many blocks as equations, and as binders.
 module _ (n : ℕ) (ts : List Transition) (block : ℕ → ℕ) (a : Formula) where
   both : Listed n ts block (record { sign = false; first = 0 }) (record { sign = false; of = 0; side = λ s. Constant false })
-      0 (subs a) (blocksFrom n a 0) (E ts block a) (binderNodes a)
+      0 (subformulas a) (blocksFrom n a 0) (E ts block a) (binderNodes a)
   both = listed n ts block _ _ a 0
 
   pub length-blocks : length (blocksFrom n a 0) ≡ length (E ts block a)
@@ -143,27 +146,13 @@ module _ (n : ℕ) (ts : List Transition) (block : ℕ → ℕ) (a : Formula) wh
   pub length-binders : length (binderNodes a) ≡ length (E ts block a)
   length-binders = both .names-long
 
--- Block b of a formula a is equation e of the table, where `name` is the number of the binder and es are its cells, unfolded.
-pub record Agree (n : ℕ) (ts : List Transition) (block : ℕ → ℕ) (a : Formula) (es : ℕ → Plain) (b : Block) (e : Equation ts block) (name : ℕ) : Type 0 where
-  -- the binder's node and body
-  pub node : ℕ
-  pub body : Formula
-  pub binder : Stands a node (Fix (e .sign) name body)
-  pub operand : Stands a (node + 1) body
-  pub sign : b .sign ≡ e .sign
-  pub of : e .of ≡ block name
-  -- the block's cells are those of the body, and their unfoldings the right-hand sides of the equation
-  pub first : b .first ≡ (node + 1) * n
-  pub inside : b .first + n ≤ length (cellsFrom n ts block a 0)
-  pub side : (s : ℕ) → s < n → es (b .first + s) ≡ plain (e .side s)
-
 -- The blocks of a formula are the equations of the table, in order; the numbers of the binders are listed beside them.
-module _ (n : ℕ) (states : 0 < n) (ts : List Transition) (low : T (all (λ t. ltb (t .target) n) ts)) (block : ℕ → ℕ) (a : Formula)
+module _ (n : ℕ) (states : 0 < n) (ts : List Transition) (low : T (every (λ t. ltb (t .target) n) ts)) (block : ℕ → ℕ) (a : Formula)
     (es : ℕ → Plain) (u : Unfolding (cellsFrom n ts block a 0) es) (b₀ : Block) (e₀ : Equation ts block) where
-  agree : {b : Block} {e : Equation ts block} {name : ℕ} → Binder n ts block b₀ e₀ 0 (subs a) b e name → Agree n ts block a es b e name
+  agree : {b : Block} {e : Equation ts block} {name : ℕ} → Binder n ts block b₀ e₀ 0 (subformulas a) b e name → Agree n ts block a es b e name
   agree {b} {e} {name} x =
       let i : ℕ = x .node in
-      let at : Stands a i (Fix (e .sign) name (x .body)) = (rw length-subs at (x .below), subAt-zero a i ∙ x .stands) in
+      let at : Stands a i (Fix (e .sign) name (x .body)) = (rw length-subformulas at (x .below), x .stands) in
       let next : Stands a (i + 1) (x .body) = fix-operand a at in
       let from : b .first ≡ (i + 1) * n = rw zero-add at (x .first) in
       let rows : (i + 1) * n + n ≤ nodes a * n = rw (add-mul (i + 1) 1 n, one-mul n) at (mul-le-mul-right {m = i + 1 + 1} {n = nodes a} n (omega (arith, next .0))) in
@@ -186,17 +175,17 @@ module _ (n : ℕ) (states : 0 < n) (ts : List Transition) (low : T (all (λ t. 
 -- whether each number is below all that follow it
 unfoldable pub increasing : List ℕ → Bool
 increasing [] = true
-increasing (x ∷ xs) = all (ltb x) xs && increasing xs
+increasing (x ∷ xs) = every (ltb x) xs && increasing xs
 
 -- In an increasing list a number's place is where it stands.
-pub place-at : (xs : List ℕ) → T (increasing xs) → (k : ℕ) → k < length xs → place (getD xs k 0) xs ≡ k
-unfolding increasing place
+pub place-at : (xs : List ℕ) → T (increasing xs) → (k : ℕ) → k < length xs → indexIn (getD xs k 0) xs ≡ k
+unfolding increasing indexIn
 place-at [] t k h = absurd (omega arith)
 place-at (x ∷ xs) t zero h = rw (eq-eqb x x refl)
 place-at (x ∷ xs) t (suc k) h =
-    let l : x < getD xs k 0 = ltb→lt _ _ (all-at (ltb x) xs k 0 (omega arith) (and-left (all (ltb x) xs) _ t)) in
+    let l : x < getD xs k 0 = ltb→lt _ _ (all-at (ltb x) xs k 0 (omega arith) (and-left (every (ltb x) xs) _ t)) in
     let e : eqb (getD xs k 0) x ≡ false = ne-eqb (getD xs k 0) x (λ q. omega arith) in
-    rw (e, place-at xs (and-right (all (ltb x) xs) _ t) k (omega arith))
+    rw (e, place-at xs (and-right (every (ltb x) xs) _ t) k (omega arith))
 
 -- So equation k of a formula whose binders' numbers increase is that of block k.
 pub of-own : (ts : List Transition) (a : Formula) → T (increasing (binderNodes a)) → (e₀ : Equation ts (blockIn a)) (k : ℕ)
@@ -218,8 +207,8 @@ raised (Diamond α a) = raised a
 raised (Variable i) = refl
 raised (Fix sign i a) = rw (raised a)
 
-all-raised : (x y : ℕ) → ((z : ℕ) → T (ltb x z) → y < z + 1) → (xs : List ℕ) → T (all (ltb x) xs) → T (all (ltb y) (map (λ i. i + 1) xs))
-unfolding all
+all-raised : (x y : ℕ) → ((z : ℕ) → T (ltb x z) → y < z + 1) → (xs : List ℕ) → T (every (ltb x) xs) → T (every (ltb y) (map (λ i. i + 1) xs))
+unfolding every
 all-raised x y h [] t = tt
 all-raised x y h (z ∷ zs) t =
     and-both (ltb y (z + 1)) _ (lt→ltb y (z + 1) (h z (and-left (ltb x z) _ t))) (all-raised x y h zs (and-right (ltb x z) _ t))
@@ -228,12 +217,12 @@ increasing-raised : (xs : List ℕ) → T (increasing xs) → T (increasing (map
 unfolding increasing
 increasing-raised [] t = tt
 increasing-raised (x ∷ xs) t =
-    and-both (all (ltb (x + 1)) (map (λ i. i + 1) xs)) _
-    (all-raised x (x + 1) (λ z g. omega (arith, ltb→lt x z g)) xs (and-left (all (ltb x) xs) _ t))
-    (increasing-raised xs (and-right (all (ltb x) xs) _ t))
+    and-both (every (ltb (x + 1)) (map (λ i. i + 1) xs)) _
+    (all-raised x (x + 1) (λ z g. omega (arith, ltb→lt x z g)) xs (and-left (every (ltb x) xs) _ t))
+    (increasing-raised xs (and-right (every (ltb x) xs) _ t))
 
-all-positive : (xs : List ℕ) → T (all (ltb 0) (map (λ i. i + 1) xs))
-unfolding all
+all-positive : (xs : List ℕ) → T (every (ltb 0) (map (λ i. i + 1) xs))
+unfolding every
 all-positive [] = tt
 all-positive (x ∷ xs) = and-both (ltb 0 (x + 1)) _ (lt→ltb 0 (x + 1) (omega arith)) (all-positive xs)
 
@@ -245,29 +234,24 @@ increasing-whole a t = go (bindsFirst a)
     go true = t
     go false =
         rw (raised a)
-        (and-both (all (ltb 0) (map (λ i. i + 1) (binderNodes a))) _ (all-positive (binderNodes a)) (increasing-raised (binderNodes a) t))
+        (and-both (every (ltb 0) (map (λ i. i + 1) (binderNodes a))) _ (all-positive (binderNodes a)) (increasing-raised (binderNodes a) t))
 
 -- ---- copies
-
--- the records of a list that equal none of `seen` and none before them
-unfoldable pub fresh : List Transition → List Transition → List Transition
-fresh seen [] = []
-fresh seen (t ∷ ts) = cond (eqb (copies t seen) 0) (t ∷ fresh (seen ++ (t ∷ [])) ts) (fresh (seen ++ (t ∷ [])) ts)
 
 length-snoc : {A : Type 0} (xs : List A) (x : A) → length (xs ++ (x ∷ [])) ≡ suc (length xs)
 length-snoc xs x = length-append xs (x ∷ []) ∙ add-one (length xs)
 
 -- those of the k records from i on that have no equal record before them
 abbrev firsts : List Transition → ℕ → ℕ → List Transition
-firsts ts i k = map (transitionAt ts) (keep (λ j. eqb (copiesBefore ts j) 0) (range i k))
+firsts ts i k = map (transitionAt ts) (keep (λ j. eqb (copiesBefore ts j) 0) (numbersFrom i k))
 
 firsts-next : (ts : List Transition) (i k : ℕ) (t : Transition) (seen : List Transition) → transitionAt ts i ≡ t → take i ts ≡ seen
     → firsts ts i (suc k) ≡ cond (eqb (copies t seen) 0) (t ∷ firsts ts (suc i) k) (firsts ts (suc i) k)
-unfolding range keep copiesBefore
+unfolding numbersFrom keep copiesBefore
 firsts-next ts i k t seen p q = rw (p, q) (go (eqb (copies t seen) 0))
   where
     js : List ℕ
-    js = keep (λ j. eqb (copiesBefore ts j) 0) (range (suc i) k)
+    js = keep (λ j. eqb (copiesBefore ts j) 0) (numbersFrom (suc i) k)
 
     go : (b : Bool) → map (transitionAt ts) (cond b (i ∷ js) js) ≡ cond b (t ∷ firsts ts (suc i) k) (firsts ts (suc i) k)
     go true = rw p
@@ -275,7 +259,7 @@ firsts-next ts i k t seen p q = rw (p, q) (go (eqb (copies t seen) 0))
 
 -- Those that follow the records `seen` are fresh after them.
 firsts-fresh : (ts seen : List Transition) → firsts (seen ++ ts) (length seen) (length ts) ≡ fresh seen ts
-unfolding range keep fresh
+unfolding numbersFrom keep fresh
 firsts-fresh [] seen = refl
 firsts-fresh (t ∷ ts) seen =
     let more : firsts (seen ++ (t ∷ ts)) (suc (length seen)) (length ts) ≡ fresh (seen ++ (t ∷ [])) ts =

@@ -10,11 +10,13 @@ use lib.ListN.{length, take, drop, length-append}
 use borrow.Author.Tests.{lt-ltb, le-ltb}
 use Rattle.cases.specs.declared.Transition.{Transition}
 use Rattle.translate.specs.declared.Shape.{Shape}
+use Rattle.translate.specs.declared.Cause.the-variants.{Memory}
 use Rattle.translate.specs.declared.Written.the-variants.{File, Refused}
 use Rattle.translate.specs.Bytes.{System, allOperands, blockNumbers, cellNumbers, numbers, bytes}
-use Rattle.translate.specs.Shapes.{shapeBlocks, shapeCells}
-use Rattle.translate.specs.Parts.{Wrote, WroteAt, WroteAll, WroteCells, distinctIn}
-use Rattle.translate.specs.Sources.{Sources, Sized, shapeSystem, Emitted}
+use Rattle.translate.specs.internal.Shapes.{shapeBlocks, shapeCells}
+use Rattle.translate.specs.internal.Parts.{Wrote, WroteAt, WroteAll, WroteCells, distinctIn}
+use Rattle.solver.specs.Limits.{cellLimit}
+use Rattle.translate.specs.internal.Sources.{Sources, Sized, shapeSystem, Emitted}
 use Rattle.translate.proofs.NumberBytes.{length-bytes, length-blockNumbers, length-cellNumbers}
 use Rattle.translate.proofs.Putting.{wrote-lent, wrote-more}
 use Rattle.translate.proofs.ReadBack.{length-file}
@@ -47,10 +49,10 @@ module _ (y : System) {c d p room : ℕ} (sized : Sized y c d p room) where
   file-length = rw (sized .blocks, sized .cells, sized .operands) (length-file y)
 
   -- there is no room for the file, or it is written
-  pub short : {s : List ℕ} → length s < 36 + 8 * d + 12 * c + 4 * p → Emitted y s (Refused 13) s
-  short {s} h =
+  pub short : {s t : List ℕ} → length s < 36 + 8 * d + 12 * c + 4 * p → t ≡ s → Emitted y s (Refused Memory) t
+  short {s} h e =
       let no : ltb (length s) (length (bytes (numbers y))) ≡ true = lt-ltb (length s) (length (bytes (numbers y))) (rw file-length h) in
-      record { answer = rw no; written = rw no }
+      record { answer = rw no; written = e ∙ rw no }
 
   pub done : {s t : List ℕ} → 36 + 8 * d + 12 * c + 4 * p ≤ length s → Wrote (numbers y) s t → Emitted y s (File (36 + 8 * d + 12 * c + 4 * p)) t
   done {s} {t} h w =
@@ -63,7 +65,7 @@ module _ {part first : List ℕ} {m : ℕ} {shapes : List Shape} {k n : ℕ} (sr
   ts = distinctIn part first m
 
   -- so many cells fit
-  pub cells-few : k * n ≤ 16640
+  pub cells-few : k * n ≤ cellLimit
   cells-few = mul-le-mul (src .few-nodes) (src .few-states)
 
   -- counted sizes are those of the equations

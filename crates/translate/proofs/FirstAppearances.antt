@@ -9,34 +9,34 @@ use native.Mathlib.Omega.{arith}
 use lib.Dec.{eqb}
 use lib.ListN.{length, getD, set, length-set}
 use lib.Seq.{getD-set-same, getD-set-other}
-use Rattle.sets.specs.Lists.{range}
+use Rattle.sets.specs.Lists.{numbersFrom}
 use Rattle.sets.specs.Words.{bit}
 use Rattle.sets.proofs.Lists.{length-table, table-at}
 use Rattle.solver.proofs.Shown.{bit-back}
 use Rattle.cases.specs.Limits.{transitionLimit}
 use Rattle.cases.specs.File.{transitionIn}
 use Rattle.cases.specs.Case.{keep, distinct, copiesBefore, transitionAt}
-use Rattle.cases.specs.Checks.{transitionsIn}
+use Rattle.cases.specs.internal.Checks.{transitionsIn}
 use Rattle.cases.proofs.Copies.{copies-any}
-use Rattle.translate.specs.Tabled.{FirstFlags}
+use Rattle.translate.specs.internal.Tabled.{FirstFlags}
 
 -- functions and tests that agree on a range pick the same
 same-kept : {B : Type 0} (f g : ℕ → B) (p q : ℕ → Bool) (m s k : ℕ) → s + k ≤ m → ((j : ℕ) → j < m → f j ≡ g j) → ((j : ℕ) → j < m → p j ≡ q j)
-    → map f (keep p (range s k)) ≡ map g (keep q (range s k))
-unfolding keep range
+    → map f (keep p (numbersFrom s k)) ≡ map g (keep q (numbersFrom s k))
+unfolding keep numbersFrom
 same-kept f g p q m s zero h e d = refl
 same-kept f g p q m s (suc k) h e d =
     let rest = same-kept f g p q m (suc s) k (omega arith) e d in
     rw (d s (omega arith)) (picked (q s) rest)
   where
-    picked : (b : Bool) → map f (keep p (range (suc s) k)) ≡ map g (keep q (range (suc s) k))
-        → map f (cond b (s ∷ keep p (range (suc s) k)) (keep p (range (suc s) k))) ≡ map g (cond b (s ∷ keep q (range (suc s) k)) (keep q (range (suc s) k)))
+    picked : (b : Bool) → map f (keep p (numbersFrom (suc s) k)) ≡ map g (keep q (numbersFrom (suc s) k))
+        → map f (cond b (s ∷ keep p (numbersFrom (suc s) k)) (keep p (numbersFrom (suc s) k))) ≡ map g (cond b (s ∷ keep q (numbersFrom (suc s) k)) (keep q (numbersFrom (suc s) k)))
     picked true r = let here = e s (omega arith) in cc
     picked false r = r
 
 -- the flagged transitions are the distinct ones
 pub flagged-distinct : (part : List ℕ) (m : ℕ) (flags : List ℕ) → FirstFlags part m flags
-    → map (transitionIn part) (keep (λ j. eqb (getD flags j 0) 1) (range 0 m)) ≡ distinct (transitionsIn part m)
+    → map (transitionIn part) (keep (λ j. eqb (getD flags j 0) 1) (numbersFrom 0 m)) ≡ distinct (transitionsIn part m)
 unfolding distinct transitionsIn
 flagged-distinct part m flags h =
     rw (length-table (transitionIn part) m)
@@ -45,7 +45,7 @@ flagged-distinct part m flags h =
     (λ j l. ap (λ (x : ℕ). eqb x 1) (h .at j l) ∙ bit-back _))
 
 -- the flag of transition j by the first j + 1 records
-pub flag-any : (part : List ℕ) (m j : ℕ) → j < m → (b : Bool) → b ≡ eqb (copiesBefore (map (transitionIn part) (range 0 (j + 1))) j) 0
+pub flag-any : (part : List ℕ) (m j : ℕ) → j < m → (b : Bool) → b ≡ eqb (copiesBefore (map (transitionIn part) (numbersFrom 0 (j + 1))) j) 0
     → bit b ≡ bit (eqb (copiesBefore (transitionsIn part m) j) 0)
 unfolding transitionsIn
 flag-any part m j h b e = ap bit (e ∙ ap (λ (x : ℕ). eqb x 0) (copies-any (transitionIn part) j m h))

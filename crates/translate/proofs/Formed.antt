@@ -1,65 +1,31 @@
 -- The equation file of a case is well formed, and gives the case's equations back.
-use mathlib.Core.Path.{_≡_, refl, sym, subst}
+use mathlib.Core.Path.{_≡_, refl, sym, ap, ap₂, _∙_}
 use mathlib.Core.Bool.{true, _&&_}
 use mathlib.Core.List.{List, [], _∷_, _++_}
 use Prim.Native.Nat.{ℕ, _+_, _*_, _≤_, _<_}
+use native.Mathlib.Numerals.{add-one}
 use native.Mathlib.Omega.{arith}
 use borrow.Author.Tests.{lt-ltb, le-leb, eq-eqb}
 use lib.Dec.{T, eqb, ltb, leb, ltb→lt, leb→le, le→leb, eqb-refl}
 use lib.ListN.{length, getD, drop, length-append}
-use Rattle.sets.specs.Lists.{range, all}
+use Rattle.sets.specs.Lists.{numbersFrom, every}
 use Rattle.sets.specs.Size.{stateLimit}
 use Rattle.sets.proofs.Lists.{and-both, all-at, all-mono}
 use Rattle.solver.specs.declared.Entry.{Entry}
 use Rattle.solver.specs.Limits.{blockLimit, cellLimit, operandLimit}
 use Rattle.solver.specs.Cells.{Cell, And, Or, Variable, operandsOf}
 use Rattle.solver.specs.File.{u32, stateCount, blockCount, cellCount, operandCount, initialState, blocksAt, cellsAt, operandsAt}
-use Rattle.solver.specs.File.{Block, blockAt, blocks, operands, entries, listOf, cells}
-use Rattle.solver.specs.Conditions.{layoutOk, blockOk, span, entryOk, entriesOk, tablesOk, WellFormed}
+use Rattle.solver.specs.File.{Block, blockAt, blocks, operands, entryAt, entries, cells}
+use Rattle.solver.specs.Conditions.{layoutOk, blockOk, arity, operandsBefore, operandOk, cellOk, tablesOk, WellFormed}
 use Rattle.translate.specs.Bytes.{System, allOperands, numbers, bytes}
+use Rattle.solver.proofs.Tables.{entries-from, before-next}
+use Rattle.solver.proofs.CellRules.{cell-list, cell-variable, arity-list, none-before}
 use Rattle.solver.proofs.Shown.{bit-low}
 use Rattle.cases.proofs.TableTrees.{holds}
 use Rattle.translate.proofs.AllLaws.{range-below}
 use Rattle.translate.proofs.Rules.{ruleOk, rulesOk, rule-first, rule-others, roomy}
 use Rattle.translate.proofs.ReadBack as back
 use Rattle.translate.proofs.ReadBack.{Ready, entriesOf, list-back, list-rest}
-
--- Cells that keep their rules have entries that keep theirs, where ops are the operands and `used` of them are those of the cells before.
-module _ (n d c p : ℕ) (ops : List ℕ) where
-  -- a list that starts where the lists before it end
-  list-ok : (i used : ℕ) (os rest : List ℕ) → drop used ops ≡ os ++ rest → T (all (λ o. ltb i o && ltb o c) os)
-      → T (eqb used used && all (λ o. ltb i o && ltb o c) (listOf ops used (length os)))
-  list-ok i used os rest h t =
-      and-both (eqb used used) _ (eqb-refl used) (subst (λ (l : List ℕ). T (all (λ o. ltb i o && ltb o c) l)) (sym (list-back ops used os rest h)) t)
-
-  -- one entry more
-  entry-more : (i used : ℕ) (x : Entry) (xs : List Entry) → T (entryOk n d c p ops i used (x .kind) (x .one) (x .two))
-      → T (entriesOk n d c p ops (i + 1) (used + span (x .kind) (x .two)) xs) → T (entriesOk n d c p ops i used (x ∷ xs))
-  unfolding entriesOk
-  entry-more i used x xs s t = and-both (entryOk n d c p ops i used (x .kind) (x .one) (x .two)) _ s t
-
-  entries-ok : (i used : ℕ) (cs : List Cell) → drop used ops ≡ allOperands cs → used + length (allOperands cs) ≡ p → T (rulesOk n d c i cs)
-      → T (entriesOk n d c p ops i used (entriesOf used cs))
-  unfolding entriesOk entryOk span entriesOf ruleOk allOperands operandsOf
-  entries-ok i used [] h g t =
-      let full : used ≡ p = omega arith in
-      subst (λ (q : ℕ). T (eqb used q)) full (eqb-refl used)
-  entries-ok i used (And os ∷ cs) h g t =
-      let more : used + length os + length (allOperands cs) ≡ p = omega (arith, length-append os (allOperands cs)) in
-      entry-more i used (record { kind = 0; one = used; two = length os }) (entriesOf (used + length os) cs)
-      (list-ok i used os (allOperands cs) h (rule-first n d c i (And os) cs t))
-      (entries-ok (i + 1) (used + length os) cs (list-rest ops used os (allOperands cs) h) more (rule-others n d c i (And os) cs t))
-  entries-ok i used (Or os ∷ cs) h g t =
-      let more : used + length os + length (allOperands cs) ≡ p = omega (arith, length-append os (allOperands cs)) in
-      entry-more i used (record { kind = 1; one = used; two = length os }) (entriesOf (used + length os) cs)
-      (list-ok i used os (allOperands cs) h (rule-first n d c i (Or os) cs t))
-      (entries-ok (i + 1) (used + length os) cs (list-rest ops used os (allOperands cs) h) more (rule-others n d c i (Or os) cs t))
-  entries-ok i used (Variable k s ∷ cs) h g t =
-      let same : used ≡ used + 0 = omega arith in
-      entry-more i used (record { kind = 2; one = k; two = s }) (entriesOf used cs)
-      (rule-first n d c i (Variable k s) cs t)
-      (subst (λ (q : ℕ). T (entriesOk n d c p ops (i + 1) q (entriesOf used cs))) same
-      (entries-ok (i + 1) used cs h g (rule-others n d c i (Variable k s) cs t)))
 
 -- The file of a system that is ready is well formed.
 module _ (y : System) (ready : Ready y) where
@@ -68,7 +34,7 @@ module _ (y : System) (ready : Ready y) where
 
   -- condition 11 does not hold
   layout-ok : layoutOk e ≡ true
-  unfolding layoutOk all
+  unfolding layoutOk every
   layout-ok =
       let n-is : stateCount e ≡ y .states = back.states-back y ready in
       let d-is : blockCount e ≡ length (y .blocks) = back.block-count-back y ready in
@@ -106,28 +72,88 @@ module _ (y : System) (ready : Ready y) where
       omega (arith, back.first-back y ready k b h, back.states-back y ready, back.cell-count-back y ready) in
       and-both (leb (u32 e (blocksAt + 8 * k)) 1) (leb (u32 e (blocksAt + 8 * k + 4) + stateCount e) (cellCount e)) (le→leb _ _ sign) (le→leb _ _ first)
 
-  blocks-ok : T (all (blockOk e) (range 0 (blockCount e)))
+  blocks-ok : T (every (blockOk e) (numbersFrom 0 (blockCount e)))
   blocks-ok =
       all-mono (λ k. ltb k (blockCount e)) (blockOk e) (λ k t. block-ok k (below k (ltb→lt k (blockCount e) t)))
-      (range 0 (blockCount e)) (range-below 0 (blockCount e) (blockCount e) (omega arith))
+      (numbersFrom 0 (blockCount e)) (range-below 0 (blockCount e) (blockCount e) (omega arith))
     where
       below : (k : ℕ) → k < blockCount e → k < length (y .blocks)
       below k h = omega (arith, back.block-count-back y ready)
 
-  -- each cell and operand does
-  cells-ok : T (entriesOk (stateCount e) (blockCount e) (cellCount e) (operandCount e) (operands e) 0 0 (entries e))
-  cells-ok =
-      rw (
-        back.states-back y ready,
-        back.block-count-back y ready,
-        back.cell-count-back y ready,
-        back.operand-count-back y ready,
-        back.operands-back y ready,
-        back.entries-back y ready,
-      )
-      (entries-ok (y .states) (length (y .blocks)) (length (y .cells)) (length (allOperands (y .cells))) (allOperands (y .cells)) 0 0 (y .cells)
-      refl (omega arith) (ready .rules))
+  -- ---- the cells
+
+  -- cell i has the numbers x, those of the cells after it are xs, and the lists before it have `used` operands
+  module _ (i used : ℕ) (x : Entry) (xs : List Entry) (own : i < cellCount e) (before : operandsBefore e i ≡ used) (here : drop i (entries e) ≡ x ∷ xs) where
+    is : x ≡ entryAt e i
+    is = let s = entries-from e i own in cc
+
+    after : drop (i + 1) (entries e) ≡ xs
+    after = let s = entries-from e i own in cc
+
+    next : operandsBefore e (i + 1) ≡ used + arity x
+    next = before-next e i own ∙ ap₂ (λ (k : ℕ) (a : Entry). k + arity a) before (sym is)
+
+  -- The cells cs from i on keep their rules, and the lists of all cells fill the table.
+  abbrev Good : ℕ → ℕ → List Cell → Type 0
+  Good i used cs = T (every (cellOk e) (numbersFrom i (length cs))) × (operandsBefore e (cellCount e) ≡ used + length (allOperands cs))
+
+  -- one cell more
+  cell-more : (i used past : ℕ) (x : Cell) (cs : List Cell) → past ≡ used + length (operandsOf x) → T (cellOk e i) → Good (i + 1) past cs → Good i used (x ∷ cs)
+  unfolding every numbersFrom allOperands
+  cell-more i used past x cs long s t = (
+    and-both (cellOk e i) _ s (rw (add-one i) at (t .0)),
+    omega (arith, t .1, length-append (operandsOf x) (allOperands cs)),
+  )
+
+  -- a list that starts where the lists before it end
+  list-good : (i used kind : ℕ) (os : List ℕ) (c : Cell) (cs : List Cell) → kind ≤ 1 → operandsOf c ≡ os → i < cellCount e → operandsBefore e i ≡ used
+      → drop i (entries e) ≡ record { kind = kind; one = used; two = length os } ∷ entriesOf (used + length os) cs
+      → drop used (operands e) ≡ os ++ allOperands cs → T (every (operandOk e i) os)
+      → (operandsBefore e (i + 1) ≡ used + length os → drop (i + 1) (entries e) ≡ entriesOf (used + length os) cs
+      → drop (used + length os) (operands e) ≡ allOperands cs → Good (i + 1) (used + length os) cs)
+      → Good i used (c ∷ cs)
+  list-good i used kind os c cs low are own b h o t others =
+      let x : Entry = record { kind = kind; one = used; two = length os } in
+      let xs = entriesOf (used + length os) cs in
+      cell-more i used (used + length os) c cs (rw are refl)
+      (rw (cell-list e i (is i used x xs own b h) low, b, list-back (operands e) used os (allOperands cs) o) (and-both (eqb used used) _ (eqb-refl used) t))
+      (others (next i used x xs own b h ∙ ap (λ (k : ℕ). used + k) (arity-list x low)) (after i used x xs own b h) (list-rest (operands e) used os (allOperands cs) o))
+
+  cells-good : (i used : ℕ) (cs : List Cell) → operandsBefore e i ≡ used → drop i (entries e) ≡ entriesOf used cs → drop used (operands e) ≡ allOperands cs
+      → i + length cs ≡ cellCount e → T (rulesOk (stateCount e) (blockCount e) (cellCount e) i cs) → Good i used cs
+  unfolding every numbersFrom entriesOf ruleOk arity allOperands operandsOf
+  cells-good i used [] b h o l t =
+      let all : cellCount e ≡ i = omega arith in
+      let same : used ≡ used + 0 = omega arith in
+      (tt, ap (operandsBefore e) all ∙ b ∙ same)
+  cells-good i used (And os ∷ cs) b h o l t =
+      list-good i used 0 os (And os) cs (omega arith) refl (omega arith) b h o (rule-first _ _ _ i (And os) cs t)
+      (λ p q r. cells-good (i + 1) (used + length os) cs p q r (omega arith) (rule-others _ _ _ i (And os) cs t))
+  cells-good i used (Or os ∷ cs) b h o l t =
+      list-good i used 1 os (Or os) cs (omega arith) refl (omega arith) b h o (rule-first _ _ _ i (Or os) cs t)
+      (λ p q r. cells-good (i + 1) (used + length os) cs p q r (omega arith) (rule-others _ _ _ i (Or os) cs t))
+  cells-good i used (Variable k s ∷ cs) b h o l t =
+      let x : Entry = record { kind = 2; one = k; two = s } in
+      let xs = entriesOf used cs in
+      let own : i < cellCount e = omega arith in
+      let none : used ≡ used + 0 = omega arith in
+      cell-more i used used (Variable k s) cs none
+      (rw (cell-variable e i (is i used x xs own b h) refl) (rule-first _ _ _ i (Variable k s) cs t))
+      (cells-good (i + 1) used cs (next i used x xs own b h ∙ sym none) (after i used x xs own b h) o (omega arith) (rule-others _ _ _ i (Variable k s) cs t))
+
+  -- so do all cells
+  all-good : Good 0 0 (y .cells)
+  all-good =
+      cells-good 0 0 (y .cells) (sym (none-before e)) (back.entries-back y ready) (back.operands-back y ready) (omega (arith, back.cell-count-back y ready))
+      (rw (back.states-back y ready, back.block-count-back y ready, back.cell-count-back y ready) (ready .rules))
 
   pub ready-formed : WellFormed e
   unfolding tablesOk
-  ready-formed = record { layout = layout-ok; tables = holds _ (and-both (all (blockOk e) (range 0 (blockCount e))) _ blocks-ok cells-ok) }
+  ready-formed = record {
+    layout = layout-ok;
+    tables =
+        let full : operandsBefore e (cellCount e) ≡ operandCount e = omega (arith, all-good .1, back.operand-count-back y ready) in
+        holds _ (and-both (every (blockOk e) (numbersFrom 0 (blockCount e)) && every (cellOk e) (numbersFrom 0 (cellCount e))) _
+        (and-both (every (blockOk e) (numbersFrom 0 (blockCount e))) _ blocks-ok (rw (back.cell-count-back y ready) (all-good .0)))
+        (rw (eq-eqb _ _ full) tt));
+  }

@@ -6,15 +6,15 @@ use native.Mathlib.Numerals.{add-one}
 use native.Mathlib.Omega.{arith}
 use lib.ListN.{length, take, drop, length-append}
 use lib.Seq.{take-suc, take-add, length-take-le}
-use Rattle.sets.specs.Lists.{range}
+use Rattle.sets.specs.Lists.{numbersFrom}
 use Rattle.sets.proofs.Lists.{length-table}
 use Rattle.solver.specs.Cells.{Cell}
 use Rattle.cases.specs.declared.Transition.{Transition}
 use Rattle.translate.specs.declared.Shape.{Shape}
 use Rattle.translate.specs.Bytes.{allOperands}
-use Rattle.translate.specs.Writing.{shapeCell}
-use Rattle.translate.specs.Shapes.{shapeCells}
-use Rattle.translate.specs.Sources.{shapeAt}
+use Rattle.translate.specs.internal.Writing.{shapeCell}
+use Rattle.translate.specs.internal.Shapes.{shapeCells}
+use Rattle.translate.specs.internal.Sources.{shapeAt}
 use Rattle.translate.proofs.Counts.{operands-append}
 
 module _ (n : ℕ) (ts : List Transition) where
@@ -30,11 +30,11 @@ module _ (n : ℕ) (ts : List Transition) where
   unfolding shapeCells
   length-all [] i = omega arith
   length-all (x ∷ xs) i =
-      omega (arith, length-append (map (shapeCell n ts x i) (range 0 n)) (shapeCells n ts (i + 1) xs), length-table (shapeCell n ts x i) n, length-all xs (i + 1))
+      omega (arith, length-append (map (shapeCell n ts x i) (numbersFrom 0 n)) (shapeCells n ts (i + 1) xs), length-table (shapeCell n ts x i) n, length-all xs (i + 1))
 
   -- the cells of node i, of a shape x, and of the first k nodes
   abbrev pub row : Shape → ℕ → List Cell
-  row x i = map (shapeCell n ts x i) (range 0 n)
+  row x i = map (shapeCell n ts x i) (numbersFrom 0 n)
 
   abbrev pub cellsTo : List Shape → ℕ → List Cell
   cellsTo xs k = shapeCells n ts 0 (take k xs)

@@ -1,87 +1,99 @@
--- The promises of the translator, as theorems about its definitions: b is the case file, any list of bytes.
--- By its contract, Translated of specs/Translating.antt, translate answers and writes what refusalIn and file say.
-use mathlib.Core.Path.{_≡_, refl, sym, ap, _∙_}
-use mathlib.Core.Logic.{_⊎_, inl, inr}
-use mathlib.Core.Bool.{Bool, true, false, cond}
-use mathlib.Core.List.{List, [], _∷_, _++_, map-append}
+-- The promises of the translator, of whatever keeps its contract, Translated of specs/Translating.antt: b is the case file, any list of bytes,
+-- w what is answered, before and after the bytes of the buffer.
+use mathlib.Core.Path.{_≡_, sym, ap, _∙_}
+use mathlib.Core.Logic.{_↔_, _⊎_, inl, inr, by-cases}
+use mathlib.Core.Bool.{true}
+use mathlib.Core.List.{List, [], _∷_, _++_, map-append, List·Memᴰ}
 use Prim.Native.Nat.{ℕ, _+_, _*_, _≤_, _<_}
-use native.Mathlib.Omega.{arith}
-use lib.Dec.{eqb, ltb}
+use native.Mathlib.Decide.{ℕ-discrete}
 use lib.ListN.{length, getD, drop}
-use borrow.Author.Tests.{eqb-true, eq-eqb, ne-eqb, lt-ltb, le-ltb}
+use Rattle.sets.specs.Lists.{every}
+use Rattle.sets.specs.Refusals.{numbersOf, NoneHolds, FirstHolds}
+use Rattle.sets.proofs.Refusals.{refusing, member, first-holds, first-answered, none-first}
 use Rattle.solver.specs.Limits.{cellLimit, operandLimit}
 use Rattle.solver.specs.File.{Block, stateCount, blockCount, cellCount, operandCount, initialState, blocks, cells, operands}
 use Rattle.solver.specs.Conditions.{WellFormed}
 use Rattle.cases.specs.Action.{Action}
 use Rattle.cases.specs.Formula.{Formula}
 use Rattle.cases.specs.declared.Transition.{Transition}
-use Rattle.cases.specs.Case.{Case, caseOf, copies, keep, distinct}
+use Rattle.cases.specs.Case.{caseOf, copies, keep, distinct}
 use Rattle.cases.specs.Meaning.{from}
-use Rattle.cases.specs.Conditions.{caseRefusal, Accepted}
+use Rattle.cases.specs.Conditions.{layoutConditions, modelConditions, formulaConditions, caseConditions, caseRefusal, Accepted}
 use Rattle.cases.proofs.TableTrees.{formula-table}
 use Rattle.translate.specs.declared.Written.{Written}
 use Rattle.translate.specs.declared.Written.the-variants.{File, Refused}
-use Rattle.translate.specs.Whole.{whole, binderNodes, blockIn}
-use Rattle.translate.specs.Tables.{RHS, Equation, E}
+use Rattle.translate.specs.Whole.{binderNodes, formulaOf, blockOf, stepsOf}
+use Rattle.translate.specs.Nodes.{Stands}
+use Rattle.translate.specs.Copies.{fresh}
+use Rattle.translate.specs.Tables.{RHS, Equation}
 use Rattle.translate.specs.Cells.{targets, cellsFrom}
 use Rattle.translate.specs.Plain.{Plain, plain, Unfolding}
+use Rattle.translate.specs.Equations.{equationsOf, Agree}
 use Rattle.translate.specs.Bytes.{systemOf, allOperands}
-use Rattle.translate.specs.Translating.{file, refusalIn, number, Translated}
-use Rattle.translate.proofs.Unfold.{Stands, sides, cells-RHS, unfolded-RHS}
-use Rattle.translate.proofs.Equations.{Agree, fresh, blocks-E, of-own, increasing-whole, copy-none, labels-apart}
+use Rattle.translate.specs.Translating.{file, translateConditions, translateRefusal, writtenNumber, writtenLength, fileAfter, Translated}
+use Rattle.translate.proofs.Unfold.{sides, cells-RHS, unfolding-one, cells-ordered, cells-inside, unfolded-RHS}
+use Rattle.translate.proofs.Equations.{blocks-E, of-own, increasing-whole, copy-none, labels-apart}
 use Rattle.translate.proofs.Equations as equations
 use Rattle.translate.proofs.BinderNodes.{increasing-binders}
 use Rattle.translate.proofs.ShapeLaws.{keep-append}
 use Rattle.translate.proofs.CaseFile as of
-use Rattle.cases.proofs.Accepting.{refusal-low, passed}
+use Rattle.cases.proofs.Accepting.{passed}
+use Rattle.translate.proofs.Translations.{some-number, unrefused, lacks-room, own-number}
 use Rattle.translate.proofs.AcceptedCases.{fit}
 
 -- ---- the answer
 
+-- an answer with no number is a file
+written : (w : Written) {k : ℕ} → writtenNumber w ≡ 0 → writtenLength w ≡ k → w ≡ File k
+unfolding writtenNumber writtenLength
+written (File j) z e = ap File e
+written (Refused cause) z e = absurd (some-number cause z)
+
 -- Of what translate answers and leaves:
 module _ {b before after : List ℕ} {w : Written} (t : Translated b before w after) where
   -- The refusal number is the first condition's that holds, 0 if none does.
-  pub answers : number w ≡ refusalIn b (length before)
-  unfolding number
-  answers = rw (t .answer) (go (refusalIn b (length before)) (eqb (refusalIn b (length before)) 0) refl)
-    where
-      go : (r : ℕ) (x : Bool) → eqb r 0 ≡ x → number (cond x (File (length (file b))) (Refused r)) ≡ r
-      go r true e = sym (eqb-true r 0 e)
-      go r false e = refl
+  pub answers : writtenNumber w ≡ translateRefusal b (length before)
+  answers = t .number
 
   -- After a refusal nothing changed.
-  pub refused-unchanged : ¬ (number w ≡ 0) → after ≡ before
-  refused-unchanged h = t .bytes ∙ rw (ne-eqb (refusalIn b (length before)) 0 (λ z. h (answers ∙ z)))
+  pub refused-unchanged : ¬ (writtenNumber w ≡ 0) → after ≡ before
+  unfolding fileAfter
+  refused-unchanged h = t .bytes ∙ refusing (translateRefusal b (length before)) _ before (λ z. h (answers ∙ z))
 
   -- Otherwise the file stands at the start, all beyond it is unchanged, and its length is answered.
-  pub writes : number w ≡ 0 → (after ≡ file b ++ drop (length (file b)) before) × (w ≡ File (length (file b)))
-  writes z =
-      let yes : eqb (refusalIn b (length before)) 0 ≡ true = eq-eqb (refusalIn b (length before)) 0 (sym answers ∙ z) in
-      (t .bytes ∙ rw yes, t .answer ∙ rw yes)
+  pub writes : writtenNumber w ≡ 0 → (after ≡ file b ++ drop (length (file b)) before) × (w ≡ File (length (file b)))
+  unfolding fileAfter
+  writes z = let none : translateRefusal b (length before) ≡ 0 = sym answers ∙ z in (t .bytes ∙ rw none, written w z (t .size ∙ rw none))
 
--- A case that is accepted is written exactly if there is room for its file.
-pub written-when : (b : List ℕ) (room : ℕ) → Accepted b → length (file b) ≤ room → refusalIn b room ≡ 0
-unfolding refusalIn
-written-when b room accepted h = rw (eq-eqb (caseRefusal b) 0 accepted, le-ltb room (length (file b)) h)
+  -- A file is written exactly if the case is accepted and there is room for its file.
+  pub written-when : writtenNumber w ≡ 0 ↔ Accepted b × (length (file b) ≤ length before)
+  written-when = rw answers (unrefused b (length before))
 
-pub too-short-when : (b : List ℕ) (room : ℕ) → Accepted b → room < length (file b) → refusalIn b room ≡ 13
-unfolding refusalIn
-too-short-when b room accepted h = rw (eq-eqb (caseRefusal b) 0 accepted, lt-ltb room (length (file b)) h)
+  -- The number is 13 exactly if the case is accepted and there is no room.
+  pub too-short-when : writtenNumber w ≡ 13 ↔ Accepted b × (length before < length (file b))
+  too-short-when = rw answers (lacks-room b (length before))
 
--- A case that is refused is refused with its number, whatever the room.
-pub refused-when : (b : List ℕ) (room : ℕ) → ¬ Accepted b → refusalIn b room ≡ caseRefusal b
-unfolding refusalIn
-refused-when b room h = rw (ne-eqb (caseRefusal b) 0 h)
+  -- A case that is not accepted is refused with its own number, whatever the room.
+  pub refused-when : ¬ Accepted b → writtenNumber w ≡ caseRefusal b
+  refused-when d = answers ∙ own-number b (length before) d
 
--- So the number is one of 1 to 10, or 13, or there is none.
-pub one-number : (b : List ℕ) (room : ℕ) → (refusalIn b room ≤ 10) ⊎ (refusalIn b room ≡ 13)
-unfolding refusalIn
-one-number b room = go (eqb (caseRefusal b) 0) (ltb room (length (file b)))
-  where
-    go : (x y : Bool) → (cond x (cond y 13 0) (caseRefusal b) ≤ 10) ⊎ (cond x (cond y 13 0) (caseRefusal b) ≡ 13)
-    go true true = inr refl
-    go true false = inl (omega arith)
-    go false y = inl (refusal-low b)
+  -- The number is that of a condition, or there is none.
+  pub one-number : (writtenNumber w ≡ 0) ⊎ List·Memᴰ (writtenNumber w) (numbersOf (translateConditions b (length before)))
+  unfolding translateRefusal
+  one-number = by-cases (ℕ-discrete (writtenNumber w) 0) inl (λ d. inr (rw answers (member (translateConditions b (length before)) (rw answers at d))))
+
+  -- That condition holds, and none before it.
+  pub first-condition : (k : ℕ) → ¬ (k ≡ 0) → writtenNumber w ≡ k ↔ FirstHolds (translateConditions b (length before)) k
+  unfolding translateRefusal
+  first-condition k d = (
+    λ h. let z = sym answers ∙ h in rw z at (first-holds (translateConditions b (length before)) (λ y. d (sym z ∙ y))),
+    λ f. answers ∙ first-answered (translateConditions b (length before)) k f,
+  )
+
+  -- Where a file is written none holds.
+  pub no-condition : writtenNumber w ≡ 0 ↔ NoneHolds (translateConditions b (length before))
+  unfolding translateRefusal translateConditions caseConditions layoutConditions modelConditions formulaConditions every
+  no-condition = rw answers (none-first (translateConditions b (length before)) tt)
 
 -- ---- transitions
 
@@ -102,29 +114,18 @@ two-operands n block i s α us t u vs h p q x y =
 
 -- Of an accepted case:
 module _ (b : List ℕ) (accepted : Accepted b) where
-  abbrev c : Case
-  c = caseOf b
-
-  abbrev n : ℕ
-  n = c .states
-
-  -- the formula that is translated, with the added nu, and the distinct transitions
-  abbrev a : Formula
-  a = whole (c .formula)
-
-  abbrev ts : List Transition
-  ts = distinct (c .transitions)
-
   -- The file passes conditions 11 and 12.
   pub well-formed : WellFormed (file b)
-  well-formed = of.formed c (fit b accepted)
+  well-formed = of.formed (caseOf b) (fit b accepted)
 
   -- Read back it has the same states, initial state, blocks, cells and operands, and as many of them.
-  pub read-back : (stateCount (file b) ≡ n) × (initialState (file b) ≡ c .initial)
-      × (blockCount (file b) ≡ length (systemOf c .blocks)) × (cellCount (file b) ≡ length (systemOf c .cells))
-      × (operandCount (file b) ≡ length (allOperands (systemOf c .cells)))
-      × (blocks (file b) ≡ systemOf c .blocks) × (cells (file b) ≡ systemOf c .cells) × (operands (file b) ≡ allOperands (systemOf c .cells))
+  pub read-back : (stateCount (file b) ≡ caseOf b .states) × (initialState (file b) ≡ caseOf b .initial)
+      × (blockCount (file b) ≡ length (systemOf (caseOf b) .blocks)) × (cellCount (file b) ≡ length (systemOf (caseOf b) .cells))
+      × (operandCount (file b) ≡ length (allOperands (systemOf (caseOf b) .cells)))
+      × (blocks (file b) ≡ systemOf (caseOf b) .blocks) × (cells (file b) ≡ systemOf (caseOf b) .cells)
+      × (operands (file b) ≡ allOperands (systemOf (caseOf b) .cells))
   read-back =
+      let c = caseOf b in
       let f = fit b accepted in (
         of.states-back c f,
         of.initial-back c f,
@@ -137,41 +138,69 @@ module _ (b : List ℕ) (accepted : Accepted b) where
       )
 
   -- Its length is 36 + 8d + 12c + 4p, with c and p within the limits.
-  pub file-length : length (file b) ≡ 36 + 8 * length (systemOf c .blocks) + 12 * length (systemOf c .cells) + 4 * length (allOperands (systemOf c .cells))
-  file-length = of.length-file c (fit b accepted)
+  pub file-length : length (file b)
+      ≡ 36 + 8 * length (systemOf (caseOf b) .blocks) + 12 * length (systemOf (caseOf b) .cells) + 4 * length (allOperands (systemOf (caseOf b) .cells))
+  file-length = of.length-file (caseOf b) (fit b accepted)
 
-  pub within-limits : (length (systemOf c .cells) ≤ cellLimit) × (length (allOperands (systemOf c .cells)) ≤ operandLimit)
-  within-limits = (of.cells-high c (fit b accepted), of.operands-high c (fit b accepted))
+  pub within-limits : (length (systemOf (caseOf b) .cells) ≤ cellLimit) × (length (allOperands (systemOf (caseOf b) .cells)) ≤ operandLimit)
+  within-limits = (of.cells-high (caseOf b) (fit b accepted), of.operands-high (caseOf b) (fit b accepted))
 
-  -- The file's cells can be unfolded along their operands.
+  own : (es : ℕ → Plain) → Unfolding (cells (file b)) es
+      → Unfolding (cellsFrom (caseOf b .states) (stepsOf (caseOf b)) (blockOf (caseOf b)) (formulaOf (caseOf b)) 0) es
+  unfolding systemOf
+  own es u = rw (of.cells-back (caseOf b) (fit b accepted)) at u
+
+  -- The file's cells can be unfolded along their operands,
   pub cells-unfold : (es : ℕ → Plain) × Unfolding (cells (file b)) es
   unfolding systemOf
   cells-unfold =
+      let c = caseOf b in
+      let f = fit b accepted in (
+        sides (c .states) (stepsOf c) (blockOf c) (formulaOf c),
+        rw (of.cells-back c f) (cells-RHS (c .states) (f .states-low) (stepsOf c) (of.ends c f) (blockOf c) (formulaOf c)),
+      )
+
+  -- and in one way only.
+  pub unfolds-once : (ds es : ℕ → Plain) → Unfolding (cells (file b)) ds → Unfolding (cells (file b)) es
+      → (i : ℕ) → i < length (cells (file b)) → ds i ≡ es i
+  unfolding systemOf
+  unfolds-once ds es u w i h =
+      let c = caseOf b in
       let f = fit b accepted in
-      (sides n ts (blockIn a) a, rw (of.cells-back c f) (cells-RHS n (f .states-low) ts (of.ends c f) (blockIn a) a))
+      unfolding-one (cellsFrom (c .states) (stepsOf c) (blockOf c) (formulaOf c) 0)
+      (cells-ordered (c .states) (f .states-low) (stepsOf c) (of.ends c f) (blockOf c) (formulaOf c))
+      (cells-inside (c .states) (f .states-low) (stepsOf c) (of.ends c f) (blockOf c) (formulaOf c))
+      ds es (own ds u) (own es w) i (rw (of.cells-back c f) at h)
 
   module _ (es : ℕ → Plain) (u : Unfolding (cells (file b)) es) where
-    own : Unfolding (cellsFrom n ts (blockIn a) a 0) es
-    unfolding systemOf
-    own = rw (of.cells-back c (fit b accepted)) at u
-
     -- However that is done, cell i * n + s is exactly the table's right-hand side of node i in state s.
-    pub cell-RHS : {i : ℕ} {x : Formula} → Stands a i x → (s : ℕ) → s < n → es (i * n + s) ≡ plain (RHS ts (blockIn a) x s)
-    cell-RHS = let f = fit b accepted in unfolded-RHS n (f .states-low) ts (of.ends c f) (blockIn a) a es own
+    pub cell-RHS : {i : ℕ} {x : Formula} → Stands (formulaOf (caseOf b)) i x → (s : ℕ) → s < caseOf b .states
+        → es (i * caseOf b .states + s) ≡ plain (RHS (stepsOf (caseOf b)) (blockOf (caseOf b)) x s)
+    cell-RHS =
+        let c = caseOf b in
+        let f = fit b accepted in
+        unfolded-RHS (c .states) (f .states-low) (stepsOf c) (of.ends c f) (blockOf c) (formulaOf c) es (own es u)
 
     -- Block k of the file is equation k of the table: its sign, its variable, and its right-hand side in each state.
-    pub block-E : (b₀ : Block) (e₀ : Equation ts (blockIn a)) (k : ℕ) → k < length (E ts (blockIn a) a)
-        → Agree n ts (blockIn a) a es (getD (blocks (file b)) k b₀) (getD (E ts (blockIn a) a) k e₀) (getD (binderNodes a) k 0)
+    pub block-E : (b₀ : Block) (e₀ : Equation (stepsOf (caseOf b)) (blockOf (caseOf b))) (k : ℕ) → k < length (equationsOf (caseOf b))
+        → Agree (caseOf b .states) (stepsOf (caseOf b)) (blockOf (caseOf b)) (formulaOf (caseOf b)) es
+        (getD (blocks (file b)) k b₀) (getD (equationsOf (caseOf b)) k e₀) (getD (binderNodes (formulaOf (caseOf b))) k 0)
     unfolding systemOf
     block-E b₀ e₀ k h =
+        let c = caseOf b in
         let f = fit b accepted in
-        rw (of.blocks-back c f) (blocks-E n (f .states-low) ts (of.ends c f) (blockIn a) a es own b₀ e₀ k h)
+        rw (of.blocks-back c f) (blocks-E (c .states) (f .states-low) (stepsOf c) (of.ends c f) (blockOf c) (formulaOf c) es (own es u) b₀ e₀ k h)
 
   -- There are as many blocks as equations, and equation k is that of block k.
-  pub as-many-blocks : length (blocks (file b)) ≡ length (E ts (blockIn a) a)
+  pub as-many-blocks : length (blocks (file b)) ≡ length (equationsOf (caseOf b))
   unfolding systemOf
-  as-many-blocks = ap length (of.blocks-back c (fit b accepted)) ∙ equations.length-blocks n ts (blockIn a) a
+  as-many-blocks =
+      let c = caseOf b in
+      ap length (of.blocks-back c (fit b accepted)) ∙ equations.length-blocks (c .states) (stepsOf c) (blockOf c) (formulaOf c)
 
-  pub own-variable : (e₀ : Equation ts (blockIn a)) (k : ℕ) → k < length (E ts (blockIn a) a) → getD (E ts (blockIn a) a) k e₀ .of ≡ k
+  pub own-variable : (e₀ : Equation (stepsOf (caseOf b)) (blockOf (caseOf b))) (k : ℕ) → k < length (equationsOf (caseOf b))
+      → getD (equationsOf (caseOf b)) k e₀ .of ≡ k
   unfolding caseOf
-  own-variable = of-own ts a (increasing-whole (c .formula) (increasing-binders _ _ (formula-table _ _ (passed b accepted .formula))))
+  own-variable =
+      of-own (stepsOf (caseOf b)) (formulaOf (caseOf b))
+      (increasing-whole (caseOf b .formula) (increasing-binders _ _ (formula-table _ _ (passed b accepted .formula))))

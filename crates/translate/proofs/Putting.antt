@@ -4,9 +4,9 @@ use mathlib.Core.List.{List, [], _∷_, _++_, append-assoc, append-nil}
 use Prim.Native.Nat.{ℕ, _+_, _-_, _*_, _≤_, _/_, _%_}
 use native.Mathlib.Omega.{arith}
 use lib.ListN.{length, take, drop, set, length-append, length-drop, take-append-drop, drop-of-length-le}
-use lib.Seq.{take-all, take-at, drop-at, drop-drop}
+use lib.Seq.{take-all, take-at, drop-at, drop-drop, length-take-le}
 use Rattle.translate.specs.Bytes.{bytes}
-use Rattle.translate.specs.Parts.{Wrote, WroteAt, WroteMore, WroteAll}
+use Rattle.translate.specs.internal.Parts.{Wrote, WroteAt, WroteMore, WroteAll}
 use Rattle.translate.proofs.NumberBytes.{length-bytes}
 
 -- the bytes of two lists follow one another
@@ -59,9 +59,22 @@ wrote-no-numbers s = record { wrote = wrote-none s; count = refl }
 pub wrote-no-more : (done : ℕ) (s : List ℕ) → WroteMore done [] s s done
 wrote-no-more done s = record { wrote = wrote-none-at (4 * done) s; count = omega arith }
 
-pub wrote-behind : (done : ℕ) {xs s ys : List ℕ} {r : ℕ} → WroteAll xs (take (length s - 4 * done) (drop (4 * done) s)) ys r
-    → WroteMore done xs s (take (4 * done) s ++ (ys ++ drop (length s - 4 * done) (drop (4 * done) s))) (done + r)
-wrote-behind done w = record { wrote = wrote-lent (4 * done) (w .wrote); count = ap (λ (k : ℕ). done + k) (w .count) }
+-- What is written behind numbers that are behind others is behind those.
+pub wrote-further : {xs ys s t u : List ℕ} {done next r : ℕ} → 4 * done ≤ length s → WroteMore done xs s t next → WroteMore next ys t u r
+    → WroteMore done (xs ++ ys) s u r
+wrote-further {xs} {ys} {s} {t} {u} {done} {next} h p q =
+    let e : 4 * next ≡ 4 * done + 4 * length xs = omega (arith, p .count) in
+    let front : length (take (4 * done) s) ≡ 4 * done = length-take-le (4 * done) s h in
+    let both : length (take (4 * done) s ++ bytes xs) ≡ 4 * next = omega (arith, length-append (take (4 * done) s) (bytes xs), length-bytes xs) in
+    let r : List ℕ = drop (4 * length xs) (drop (4 * done) s) in
+    let is : t ≡ (take (4 * done) s ++ bytes xs) ++ r = p .wrote .exact ∙ sym (append-assoc (take (4 * done) s) (bytes xs) r) in
+    let head : take (4 * next) t ≡ take (4 * done) s ++ bytes xs = ap (take (4 * next)) is ∙ take-at (take (4 * done) s ++ bytes xs) r (4 * next) both in
+    let tail : drop (4 * next) t ≡ r = ap (drop (4 * next)) is ∙ drop-at (take (4 * done) s ++ bytes xs) r (4 * next) both in
+    let k : 4 * length xs + 4 * length ys ≡ 4 * length (xs ++ ys) = omega (arith, length-append xs ys) in
+    record {
+      wrote = record { exact = q .wrote .exact ∙ rw (head, tail, bytes-append xs ys, drop-drop (4 * length ys) (4 * length xs) (drop (4 * done) s), k, append-assoc, append-assoc) };
+      count = omega (arith, p .count, q .count, length-append xs ys);
+    }
 
 pub wrote-on : {xs ys s t u : List ℕ} {done r : ℕ} → WroteAll xs s t done → WroteMore done ys t u r → WroteAll (xs ++ ys) s u r
 wrote-on {xs} {ys} p q = record {

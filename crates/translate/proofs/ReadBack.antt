@@ -8,7 +8,7 @@ use native.Mathlib.Nat.{zero-add}
 use lib.Dec.{T, ltb, ltb→lt, leb→le}
 use lib.ListN.{length, getD, take, drop, length-append, List·getD-append}
 use lib.Seq.{ext-getD, getD-append-add, take-append-seam, drop-append-seam, drop-drop}
-use Rattle.sets.specs.Lists.{range, all}
+use Rattle.sets.specs.Lists.{numbersFrom, every}
 use Rattle.sets.specs.Size.{stateLimit}
 use Rattle.sets.specs.Words.{bit}
 use Rattle.sets.proofs.Lists.{and-left, and-right, length-map-range, getD-map-range}
@@ -16,7 +16,7 @@ use Rattle.solver.specs.declared.Entry.{Entry}
 use Rattle.solver.specs.Limits.{blockLimit, cellLimit, operandLimit}
 use Rattle.solver.specs.Cells.{Cell, And, Or, Variable, operandsOf}
 use Rattle.solver.specs.File.{u32, stateCount, blockCount, cellCount, operandCount, initialState, blocksAt, cellsAt, operandsAt}
-use Rattle.solver.specs.File.{Block, blockAt, blocks, operands, entryAt, entries, listOf, cellOf, cells}
+use Rattle.solver.specs.File.{Block, blockAt, blocks, operands, entryAt, entries, listOf, entryCell, cells}
 use Rattle.solver.proofs.Shown.{bit-low, bit-back}
 use Rattle.translate.specs.Bytes.{System, allOperands, blockNumbers, cellNumbers, numbers, bytes}
 use Rattle.translate.proofs.NumberBytes.{Fits, none, more, fits-append, length-bytes, length-blockNumbers, length-cellNumbers, number-at}
@@ -32,23 +32,23 @@ pub record Ready (y : System) : Type 0 where
   pub cells-low : 1 ≤ length (y .cells)
   pub cells-high : length (y .cells) ≤ cellLimit
   pub operands-high : length (allOperands (y .cells)) ≤ operandLimit
-  pub roomy-blocks : T (all (roomy (y .states) (length (y .cells))) (y .blocks))
+  pub roomy-blocks : T (every (roomy (y .states) (length (y .cells))) (y .blocks))
   pub rules : T (rulesOk (y .states) (length (y .blocks)) (length (y .cells)) 0 (y .cells))
 
 -- the numbers of blocks fit
-fits-blocks : (n c : ℕ) → c ≤ cellLimit → (bs : List Block) → T (all (roomy n c) bs) → Fits (blockNumbers bs)
-unfolding blockNumbers all
+fits-blocks : (n c : ℕ) → c ≤ cellLimit → (bs : List Block) → T (every (roomy n c) bs) → Fits (blockNumbers bs)
+unfolding blockNumbers every
 fits-blocks n c h [] t = none
 fits-blocks n c h (b ∷ bs) t =
-    let room : b .first + n ≤ c = leb→le (b .first + n) c (and-left (roomy n c b) (all (roomy n c) bs) t) in
+    let room : b .first + n ≤ c = leb→le (b .first + n) c (and-left (roomy n c b) (every (roomy n c) bs) t) in
     more (bit (b .sign)) (omega (arith, bit-low (b .sign)))
-    (more (b .first) (omega arith) (fits-blocks n c h bs (and-right (roomy n c b) (all (roomy n c) bs) t)))
+    (more (b .first) (omega arith) (fits-blocks n c h bs (and-right (roomy n c b) (every (roomy n c) bs) t)))
 
 -- n states, d blocks, c cells, p operands
 module _ (n d c p : ℕ) (n-high : n ≤ stateLimit) (d-high : d ≤ blockLimit) (c-high : c ≤ cellLimit) (p-high : p ≤ operandLimit) where
   -- the numbers of cells fit
   fits-cells : (i used : ℕ) (cs : List Cell) → used + length (allOperands cs) ≤ p → T (rulesOk n d c i cs) → Fits (cellNumbers used cs)
-  unfolding cellNumbers allOperands operandsOf ruleOk all
+  unfolding cellNumbers allOperands operandsOf ruleOk every
   fits-cells i used [] h t = none
   fits-cells i used (And os ∷ cs) h t =
       let room : used + length os + length (allOperands cs) ≤ p = omega (arith, length-append os (allOperands cs)) in
@@ -65,17 +65,17 @@ module _ (n d c p : ℕ) (n-high : n ≤ stateLimit) (d-high : d ≤ blockLimit)
       more 2 (omega arith) (more k (omega arith) (more s (omega arith) (fits-cells (i + 1) used cs h (rule-others n d c i (Variable k s) cs t))))
 
   -- the operands of a list fit
-  fits-list : (i : ℕ) (os : List ℕ) → T (all (λ o. ltb i o && ltb o c) os) → Fits os
-  unfolding all
+  fits-list : (i : ℕ) (os : List ℕ) → T (every (λ o. ltb i o && ltb o c) os) → Fits os
+  unfolding every
   fits-list i [] t = none
   fits-list i (o ∷ os) t =
-      let rule : T (ltb i o && ltb o c) = and-left (ltb i o && ltb o c) (all (λ o. ltb i o && ltb o c) os) t in
+      let rule : T (ltb i o && ltb o c) = and-left (ltb i o && ltb o c) (every (λ o. ltb i o && ltb o c) os) t in
       let low : o < c = ltb→lt o c (and-right (ltb i o) (ltb o c) rule) in
-      more o (omega arith) (fits-list i os (and-right (ltb i o && ltb o c) (all (λ o. ltb i o && ltb o c) os) t))
+      more o (omega arith) (fits-list i os (and-right (ltb i o && ltb o c) (every (λ o. ltb i o && ltb o c) os) t))
 
   -- all operands fit
   fits-operands : (i : ℕ) (cs : List Cell) → T (rulesOk n d c i cs) → Fits (allOperands cs)
-  unfolding allOperands operandsOf ruleOk all
+  unfolding allOperands operandsOf ruleOk every
   fits-operands i [] t = none
   fits-operands i (And os ∷ cs) t =
       fits-append (fits-list i os (rule-first n d c i (And os) cs t)) (fits-operands (i + 1) cs (rule-others n d c i (And os) cs t))
@@ -84,11 +84,11 @@ module _ (n d c p : ℕ) (n-high : n ≤ stateLimit) (d-high : d ≤ blockLimit)
   fits-operands i (Variable k s ∷ cs) t = fits-operands (i + 1) cs (rule-others n d c i (Variable k s) cs t)
 
 -- A table whose elements are those of a list is the list.
-table-is : {A : Type 0} (a : A) (f : ℕ → A) (xs : List A) → ((i : ℕ) → i < length xs → f i ≡ getD xs i a) → map f (range 0 (length xs)) ≡ xs
+table-is : {A : Type 0} (a : A) (f : ℕ → A) (xs : List A) → ((i : ℕ) → i < length xs → f i ≡ getD xs i a) → map f (numbersFrom 0 (length xs)) ≡ xs
 table-is a f xs h =
-    ext-getD a (map f (range 0 (length xs))) xs (length-map-range f 0 (length xs)) (λ i g. at i (omega (arith, length-map-range f 0 (length xs))))
+    ext-getD a (map f (numbersFrom 0 (length xs))) xs (length-map-range f 0 (length xs)) (λ i g. at i (omega (arith, length-map-range f 0 (length xs))))
   where
-    at : (i : ℕ) → i < length xs → getD (map f (range 0 (length xs))) i a ≡ getD xs i a
+    at : (i : ℕ) → i < length xs → getD (map f (numbersFrom 0 (length xs))) i a ≡ getD xs i a
     at i g = getD-map-range f 0 (length xs) i a g ∙ ap f (zero-add i) ∙ h i g
 
 -- a block's two numbers, and its sign out of the first
@@ -155,11 +155,11 @@ module _ (ops : List ℕ) (used : ℕ) (os rest : List ℕ) (left : drop used op
 
 -- a cell out of its entry
 abbrev cellFor : List ℕ → Entry → Cell
-cellFor ops x = cellOf ops (x .kind) (x .one) (x .two)
+cellFor ops x = entryCell ops (x .kind) (x .one) (x .two)
 
 -- the cells of entries
 cells-back : (ops : List ℕ) (used : ℕ) (cs : List Cell) → drop used ops ≡ allOperands cs → map (cellFor ops) (entriesOf used cs) ≡ cs
-unfolding entriesOf cellOf allOperands operandsOf
+unfolding entriesOf entryCell allOperands operandsOf
 cells-back ops used [] h = refl
 cells-back ops used (And os ∷ cs) h =
     ap₂ (λ (l : List ℕ) (xs : List Cell). And l ∷ xs) (list-back ops used os (allOperands cs) h)
@@ -201,7 +201,7 @@ module _ (y : System) where
   module _ (ready : Ready y) where
     -- they fit
     fits-numbers : Fits (numbers y)
-    unfolding numbers all
+    unfolding numbers every
     fits-numbers =
         let n-low : y .initial < y .states = ready .initial-low in
         let n-high : y .states ≤ stateLimit = ready .states-high in
@@ -311,7 +311,7 @@ module _ (y : System) where
     -- the tables
     pub blocks-back : blocks e ≡ y .blocks
     unfolding blocks
-    blocks-back = ap (λ (k : ℕ). map (blockAt e) (range 0 k)) block-count-back ∙ table-is (blockAt e 0) (blockAt e) (y .blocks) at
+    blocks-back = ap (λ (k : ℕ). map (blockAt e) (numbersFrom 0 k)) block-count-back ∙ table-is (blockAt e 0) (blockAt e) (y .blocks) at
       where
         at : (k : ℕ) → k < d → blockAt e k ≡ getD (y .blocks) k (blockAt e 0)
         at k h = rw (sign-back k (blockAt e 0) h, first-back k (blockAt e 0) h, bit-back) refl
@@ -319,14 +319,14 @@ module _ (y : System) where
     pub operands-back : operands e ≡ allOperands (y .cells)
     unfolding operands
     operands-back =
-        ap (λ (k : ℕ). map (λ j. u32 e (operandsAt e + 4 * j)) (range 0 k)) operand-count-back
+        ap (λ (k : ℕ). map (λ j. u32 e (operandsAt e + 4 * j)) (numbersFrom 0 k)) operand-count-back
         ∙ table-is 0 (λ j. u32 e (operandsAt e + 4 * j)) (allOperands (y .cells)) operand-word
 
     pub entries-back : entries e ≡ entriesOf 0 (y .cells)
     unfolding entries
     entries-back =
         let long : length (entriesOf 0 (y .cells)) ≡ c = length-entriesOf 0 (y .cells) in
-        ap (λ (k : ℕ). map (entryAt e) (range 0 k)) (cell-count-back ∙ sym long)
+        ap (λ (k : ℕ). map (entryAt e) (numbersFrom 0 k)) (cell-count-back ∙ sym long)
         ∙ table-is (entryAt e 0) (entryAt e) (entriesOf 0 (y .cells)) (λ i h. at i (omega arith))
       where
         at : (i : ℕ) → i < c → entryAt e i ≡ getD (entriesOf 0 (y .cells)) i (entryAt e 0)

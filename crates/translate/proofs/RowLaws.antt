@@ -9,8 +9,8 @@ use Rattle.solver.specs.Cells.{Cell}
 use Rattle.cases.specs.declared.Transition.{Transition}
 use Rattle.translate.specs.declared.Shape.{Shape}
 use Rattle.translate.specs.Bytes.{allOperands, cellNumbers}
-use Rattle.translate.specs.Parts.{WroteAll, WroteCells, WroteCellsAt}
-use Rattle.translate.specs.Sources.{shapeAt}
+use Rattle.translate.specs.internal.Parts.{WroteAll, WroteCells, WroteCellsAt}
+use Rattle.translate.specs.internal.Sources.{shapeAt}
 use Rattle.translate.proofs.Putting.{wrote-none, wrote-no-numbers, wrote-lent}
 use Rattle.translate.proofs.ShapeLaws.{wrote-cells-on}
 use Rattle.translate.proofs.NodeParts.{row, cellsTo, cells-none, cells-more, length-cells-to}

@@ -8,23 +8,23 @@ use borrow.Author.Tests.{eq-eqb, ne-eqb}
 use lib.Dec.{eqb}
 use lib.ListN.{length, take, drop, set, replicate, length-append, length-replicate, length-set, length-map, length-drop}
 use lib.Seq.{take-suc-set}
-use Rattle.sets.specs.Lists.{range}
+use Rattle.sets.specs.Lists.{numbersFrom}
 use Rattle.sets.proofs.Lists.{length-table}
 use Rattle.cases.specs.Limits.{nodeLimit}
 use Rattle.cases.specs.Action.{Action}
 use Rattle.cases.specs.declared.Node.{Node}
 use Rattle.cases.specs.Prefix.{arityIn, formulaArities, endOf}
 use Rattle.cases.specs.File.{nodeIn}
-use Rattle.cases.specs.Masks.{maskOf}
+use Rattle.cases.specs.internal.Masks.{maskOf}
 use Rattle.cases.specs.Conditions.{nodeAt, isBinder, binderCount}
-use Rattle.cases.specs.Checks.{nodesIn}
+use Rattle.cases.specs.internal.Checks.{nodesIn}
 use Rattle.cases.proofs.FormulaRules.{length-nodes}
 use Rattle.cases.proofs.Copies.{take-map-range}
 use Rattle.cases.proofs.Spans.{span-length}
 use Rattle.cases.proofs.PrefixRules.{node-in}
 use Rattle.translate.specs.declared.Shape.{Shape}
-use Rattle.translate.specs.Shapes.{shapeIn, tableShapes}
-use Rattle.translate.specs.Tabled.{Blocks, Tables}
+use Rattle.translate.specs.internal.Shapes.{shapeIn, tableShapes}
+use Rattle.translate.specs.internal.Tabled.{Blocks, Tables}
 use Rattle.translate.proofs.ShapeLaws.{map-range-more}
 
 -- the first j nodes of a part's f nodes
@@ -124,7 +124,7 @@ nu = record { kind = 8; second = 0; block = 0; labels = 0 }
 module _ (action : ℕ → Action) (table : List Node) (added : ℕ) where
   -- the nodes that are put before the root, and the first i nodes
   unfoldable pub shapesTo : ℕ → List Shape
-  shapesTo i = replicate added nu ++ map (shapeIn action table added) (range 0 i)
+  shapesTo i = replicate added nu ++ map (shapeIn action table added) (numbersFrom 0 i)
 
   -- all of them
   pub all-shapes : added ≡ cond (isBinder (nodeAt table 0)) 0 1 → shapesTo (length table) ≡ tableShapes action table
@@ -132,8 +132,8 @@ module _ (action : ℕ → Action) (table : List Node) (added : ℕ) where
   all-shapes = go (isBinder (nodeAt table 0))
     where
       go : (b : Bool) → added ≡ cond b 0 1
-          → replicate added nu ++ map (shapeIn action table added) (range 0 (length table))
-          ≡ cond b (map (shapeIn action table 0) (range 0 (length table))) (nu ∷ map (shapeIn action table 1) (range 0 (length table)))
+          → replicate added nu ++ map (shapeIn action table added) (numbersFrom 0 (length table))
+          ≡ cond b (map (shapeIn action table 0) (numbersFrom 0 (length table))) (nu ∷ map (shapeIn action table 1) (numbersFrom 0 (length table)))
       go true e = rw e
       go false e = rw e
 
@@ -148,7 +148,7 @@ module _ (action : ℕ → Action) (table : List Node) (added : ℕ) where
     pub starts : take (added + i) shapes ≡ shapesTo i
 
   pub shapes-none : added ≤ 1 → ShapesBefore 0 (replicate (nodeLimit + 1) nu)
-  unfolding shapesTo range
+  unfolding shapesTo numbersFrom
   shapes-none h = record { within = omega arith; long = refl; starts = go added h }
     where
       go : (k : ℕ) → k ≤ 1 → take (k + 0) (replicate (nodeLimit + 1) nu) ≡ replicate k nu ++ []
@@ -169,8 +169,8 @@ module _ (action : ℕ → Action) (table : List Node) (added : ℕ) where
             ap (λ (k : ℕ). take k (set shapes (added + i) x)) next
             ∙ take-suc-set shapes (added + i) x inside
             ∙ ap (λ (l : List Shape). l ++ (x ∷ [])) (s .starts)
-            ∙ append-assoc (replicate added nu) (map (shapeIn action table added) (range 0 i)) (x ∷ [])
-            ∙ ap (λ (y : Shape). replicate added nu ++ (map (shapeIn action table added) (range 0 i) ++ (y ∷ []))) e
+            ∙ append-assoc (replicate added nu) (map (shapeIn action table added) (numbersFrom 0 i)) (x ∷ [])
+            ∙ ap (λ (y : Shape). replicate added nu ++ (map (shapeIn action table added) (numbersFrom 0 i) ++ (y ∷ []))) e
             ∙ ap (λ (l : List Shape). replicate added nu ++ l) (sym (map-range-more (shapeIn action table added) i));
       }
 

@@ -10,9 +10,9 @@ use borrow.Author.Tests.{eq-eqb, ne-eqb}
 use lib.Dec.{T, eqb, ltb, ltb→lt}
 use lib.ListN.{length, take, getD, length-append, length-map, List·getD-eq-default}
 use lib.Seq.{take-all}
-use Rattle.sets.specs.Lists.{range, all}
-use Rattle.sets.specs.Set.{Set}
-use Rattle.sets.specs.Words.{number, words, marked, bit}
+use Rattle.sets.specs.Lists.{numbersFrom, every}
+use Rattle.sets.specs.States.{States}
+use Rattle.sets.specs.Words.{fromBits, words, marked, bit}
 use Rattle.sets.proofs.Lists.{and-left, and-right, length-table, table-at}
 use Rattle.sets.proofs.Words.{marked-words}
 use Rattle.solver.specs.Cells.{Cell, operandsOf}
@@ -20,35 +20,35 @@ use Rattle.cases.specs.Limits.{labelLimit}
 use Rattle.cases.specs.Action.{Action, accepts}
 use Rattle.cases.specs.Formula.{Formula, False, True, And, Or, Box, Diamond, Variable, Fix}
 use Rattle.cases.specs.declared.Transition.{Transition}
-use Rattle.cases.specs.Masks.{maskOf}
+use Rattle.cases.specs.internal.Masks.{maskOf}
 use Rattle.cases.specs.Case.{keep}
 use Rattle.cases.specs.Meaning.{from}
 use Rattle.cases.specs.File.{transitionIn}
 use Rattle.translate.specs.Bytes.{allOperands, cellNumbers}
 use Rattle.translate.specs.Cells.{targets, cellOf}
 use Rattle.translate.specs.declared.Shape.{Shape}
-use Rattle.translate.specs.Writing.{shapeOf, leaves, shapeOperands, shapeKind, shapeCell}
+use Rattle.translate.specs.internal.Writing.{shapeOf, leaves, shapeOperands, shapeKind, shapeCell}
 use Rattle.translate.proofs.NumberBytes.{length-cellNumbers}
 use Rattle.translate.proofs.Counts.{operands-append}
 use Rattle.translate.proofs.Putting.{wrote-none, wrote-no-more, wrote-more}
-use Rattle.translate.specs.Parts.{WroteAt, WroteMore, WroteCells, WroteCellsAt, flagged, distinctIn, leavesAt, leaving, targetCells, targetCell}
+use Rattle.translate.specs.internal.Parts.{WroteAt, WroteMore, WroteCells, WroteCellsAt, flagged, distinctIn, leavesAt, leaving, targetCells, targetCell}
 
 -- bit x of an action formula's mask says whether label x is accepted
 pub mask-bit : (α : Action) (x : ℕ) → x < labelLimit → marked (maskOf α ∷ []) x ≡ accepts eqb α x
 unfolding words
 mask-bit α x h =
-    let v : Set = map (accepts eqb α) (range 0 labelLimit) in
+    let v : States = map (accepts eqb α) (numbersFrom 0 labelLimit) in
     let e : take labelLimit v ≡ v = take-all labelLimit v (omega (arith, length-table (accepts eqb α) labelLimit)) in
-    ap (λ (u : Set). marked (number u ∷ []) x) (sym e) ∙ marked-words 1 v x (omega arith) ∙ table-at (accepts eqb α) labelLimit x false h
+    ap (λ (u : States). marked (fromBits u ∷ []) x) (sym e) ∙ marked-words 1 v x (omega arith) ∙ table-at (accepts eqb α) labelLimit x false h
 
 -- tests that agree on the elements of a list keep the same ones
-pub keep-same : {A : Type 0} (u p q : A → Bool) → ((x : A) → T (u x) → p x ≡ q x) → (xs : List A) → T (all u xs) → keep p xs ≡ keep q xs
-unfolding keep all
+pub keep-same : {A : Type 0} (u p q : A → Bool) → ((x : A) → T (u x) → p x ≡ q x) → (xs : List A) → T (every u xs) → keep p xs ≡ keep q xs
+unfolding keep every
 keep-same u p q h [] t = refl
-keep-same u p q h (x ∷ xs) t = rw (h x (and-left (u x) (all u xs) t), keep-same u p q h xs (and-right (u x) (all u xs) t))
+keep-same u p q h (x ∷ xs) t = rw (h x (and-left (u x) (every u xs) t), keep-same u p q h xs (and-right (u x) (every u xs) t))
 
 -- n states, the distinct transitions and the block of each binder
-module _ (n : ℕ) (ts : List Transition) (low : T (all (λ t. ltb (t .label) labelLimit) ts)) (block : ℕ → ℕ) where
+module _ (n : ℕ) (ts : List Transition) (low : T (every (λ t. ltb (t .label) labelLimit) ts)) (block : ℕ → ℕ) where
   -- the transitions from s that a mask takes are those whose labels are accepted
   leaves-from : (α : Action) (s : ℕ) → keep (leaves s (maskOf α)) ts ≡ keep (from s α) ts
   leaves-from α s =
@@ -87,14 +87,14 @@ mark-high labels x h =
 -- ---- records and rows, one by one
 
 -- one number more
-range-more : (i k : ℕ) → range i (suc k) ≡ range i k ++ ((i + k) ∷ [])
-unfolding range
+range-more : (i k : ℕ) → numbersFrom i (suc k) ≡ numbersFrom i k ++ ((i + k) ∷ [])
+unfolding numbersFrom
 range-more i zero = rw add-zero
 range-more i (suc k) =
     let e : suc i + k ≡ i + suc k = omega arith in
     ap (λ (l : List ℕ). i ∷ l) (range-more (suc i) k ∙ rw e)
 
-pub map-range-more : {A : Type 0} (f : ℕ → A) (k : ℕ) → map f (range 0 (k + 1)) ≡ map f (range 0 k) ++ (f k ∷ [])
+pub map-range-more : {A : Type 0} (f : ℕ → A) (k : ℕ) → map f (numbersFrom 0 (k + 1)) ≡ map f (numbersFrom 0 k) ++ (f k ∷ [])
 map-range-more f k = rw (add-one, range-more 0 k, map-append, zero-add)
 
 -- the kept elements of two lists follow one another
@@ -183,7 +183,7 @@ module _ (part first : List ℕ) (s labels : ℕ) where
       go false = refl
 
   pub degree-none : length (leaving part first s labels 0) ≡ 0
-  unfolding leaving distinctIn keep range
+  unfolding leaving distinctIn keep numbersFrom
   degree-none = refl
 
   -- of some records no more leave s than of all
@@ -203,7 +203,7 @@ module _ (part first : List ℕ) (s labels : ℕ) where
       )
 
   pub targets-none : (base : ℕ) → targetCells base (leaving part first s labels 0) ≡ []
-  unfolding targetCells leaving distinctIn keep range
+  unfolding targetCells leaving distinctIn keep numbersFrom
   targets-none base = refl
 
 -- ---- cells and operands, one by one
@@ -341,7 +341,7 @@ module _ (n : ℕ) (ts : List Transition) (x : Shape) (i s : ℕ) where
 -- The cells of a node, state by state.
 module _ (n : ℕ) (ts : List Transition) (x : Shape) (i : ℕ) where
   abbrev row : ℕ → List Cell
-  row k = map (shapeCell n ts x i) (range 0 k)
+  row k = map (shapeCell n ts x i) (numbersFrom 0 k)
 
   -- the operands of one state more
   pub row-operands : (s : ℕ) → allOperands (row (s + 1)) ≡ allOperands (row s) ++ shapeOperands n ts x i s
@@ -352,7 +352,7 @@ module _ (n : ℕ) (ts : List Transition) (x : Shape) (i : ℕ) where
 
   -- no cell is written
   pub wrote-no-cells : (used : ℕ) (before : List ℕ) → WroteCells used (row 0) before before used
-  unfolding range cellNumbers allOperands
+  unfolding numbersFrom cellNumbers allOperands
   wrote-no-cells used before = record { wrote = wrote-none before; count = sym (add-zero used) }
 
   -- one state's cell more is written
@@ -363,7 +363,7 @@ module _ (n : ℕ) (ts : List Transition) (x : Shape) (i : ℕ) where
       (wrote-cells-on (e ∙ ap (λ (k : ℕ). 12 * k) (sym (length-table (shapeCell n ts x i) s))) p q)
 
   pub row-none : allOperands (row 0) ≡ []
-  unfolding range allOperands
+  unfolding numbersFrom allOperands
   row-none = refl
 
   -- those of the first states and of state s are among those of all

@@ -9,7 +9,7 @@ use native.Mathlib.Omega.{arith}
 use borrow.Author.Tests.{ne-eqb}
 use lib.Dec.{eqb, leb, eqb·suc-suc}
 use lib.ListN.{length, getD, take, length-append}
-use Rattle.sets.specs.Lists.{range}
+use Rattle.sets.specs.Lists.{numbersFrom}
 use Rattle.solver.specs.Cells.{Cell}
 use Rattle.solver.specs.File.{Block}
 use Rattle.cases.specs.Action.{Action}
@@ -17,15 +17,16 @@ use Rattle.cases.specs.Formula.{Formula, False, True, And, Or, Box, Diamond, Va
 use Rattle.cases.specs.declared.Node.{Node}
 use Rattle.cases.specs.declared.Transition.{Transition}
 use Rattle.cases.specs.Prefix.{arityIn, formulaArities, endOf, formulaAt}
-use Rattle.cases.specs.Masks.{maskOf}
+use Rattle.cases.specs.internal.Masks.{maskOf}
 use Rattle.cases.specs.Conditions.{nodeAt, isBinder, binderCount}
-use Rattle.cases.proofs.Trees.{made, arity-at}
-use Rattle.cases.proofs.TableTrees.{each-kind, formulaOperator, FormulaTable, formula-at, root}
+use Rattle.cases.specs.internal.Tables.{made, formulaOperator, FormulaTable}
+use Rattle.cases.proofs.Trees.{arity-at}
+use Rattle.cases.proofs.TableTrees.{each-kind, formula-at, root}
 use Rattle.translate.specs.declared.Shape.{Shape}
 use Rattle.translate.specs.Cells.{cellOf, cellsFrom, blocksFrom}
-use Rattle.translate.specs.Whole.{raise, bindsFirst, whole, binderNodes, place, blockIn}
-use Rattle.translate.specs.Writing.{shapeOf, shapeCell}
-use Rattle.translate.specs.Shapes.{shapesFrom, shapeCells, shapeBlocks, shapeIn, tableShapes}
+use Rattle.translate.specs.Whole.{raise, bindsFirst, whole, binderNodes, indexIn, blockIn}
+use Rattle.translate.specs.internal.Writing.{shapeOf, shapeCell}
+use Rattle.translate.specs.internal.Shapes.{shapesFrom, shapeCells, shapeBlocks, shapeIn, tableShapes}
 use Rattle.translate.proofs.Counts.{nodes-raise}
 use Rattle.translate.proofs.Equations.{raised}
 use Rattle.translate.proofs.BinderNodes.{collect, operandLists, second-at, listed-all, block-of-binder}
@@ -103,13 +104,13 @@ shape-blocks n block (Fix false j a) i = rw (shape-blocks n block a (i + 1))
 module _ (n : ℕ) (ts : List Transition) (block : ℕ → ℕ)
     (shape-cell : (x : Formula) (i s : ℕ) → shapeCell n ts (shapeOf block x i) i s ≡ cellOf n ts block x i s) where
   -- the cells of a node are those of its shape
-  node-cells : (x : Formula) (i : ℕ) → map (shapeCell n ts (shapeOf block x i) i) (range 0 n) ≡ map (cellOf n ts block x i) (range 0 n)
-  node-cells x i = λ k. map (λ s. shape-cell x i s k) (range 0 n)
+  node-cells : (x : Formula) (i : ℕ) → map (shapeCell n ts (shapeOf block x i) i) (numbersFrom 0 n) ≡ map (cellOf n ts block x i) (numbersFrom 0 n)
+  node-cells x i = λ k. map (λ s. shape-cell x i s k) (numbersFrom 0 n)
 
   cells-both : (a : Formula) (i : ℕ) (ys : List Shape) {us vs : List Cell}
       → shapeCells n ts i (shapesFrom block a i) ≡ us → shapeCells n ts (i + nodes a) ys ≡ vs → shapeCells n ts i (shapesFrom block a i ++ ys) ≡ us ++ vs
   unfolding shapeCells
-  cells-both = written-both (shapeCells n ts) (λ x i. map (shapeCell n ts x i) (range 0 n)) (λ i. refl) (λ i x xs. refl) block
+  cells-both = written-both (shapeCells n ts) (λ x i. map (shapeCell n ts x i) (numbersFrom 0 n)) (λ i. refl) (λ i x xs. refl) block
 
   -- The cells of a formula's shapes are the formula's cells.
   pub shape-cells : (a : Formula) (i : ℕ) → shapeCells n ts i (shapesFrom block a i) ≡ cellsFrom n ts block a i
@@ -174,8 +175,8 @@ module _ (block higher : ℕ → ℕ) (rises : (j : ℕ) → higher (j + 1) ≡ 
   shapes-raise (Fix sign j a) i = ap₂ _∷_ (shape-raise (Fix sign j a) i) (shapes-raise a (i + 1))
 
 -- a number's place stays where all numbers rise by one
-place-raise : (j : ℕ) (xs : List ℕ) → place (j + 1) (map (λ i. i + 1) xs) ≡ place j xs
-unfolding place
+place-raise : (j : ℕ) (xs : List ℕ) → indexIn (j + 1) (map (λ i. i + 1) xs) ≡ indexIn j xs
+unfolding indexIn
 place-raise j [] = refl
 place-raise j (x ∷ xs) =
     let one : eqb (j + 1) (x + 1) ≡ eqb j x = rw (add-one j, add-one x) (eqb·suc-suc j x) in
@@ -183,9 +184,9 @@ place-raise j (x ∷ xs) =
 
 -- a nu before a raised formula is block 0, and blocks rise by one
 block-raise : (a : Formula) (j : ℕ) → blockIn (Fix true 0 (raise a)) (j + 1) ≡ blockIn a j + 1
-unfolding blockIn binderNodes place
+unfolding blockIn binderNodes indexIn
 block-raise a j =
-    rw (ne-eqb (j + 1) 0 (λ q. omega arith), raised a, place-raise j (binderNodes a)) (sym (add-one (place j (binderNodes a))))
+    rw (ne-eqb (j + 1) 0 (λ q. omega arith), raised a, place-raise j (binderNodes a)) (sym (add-one (indexIn j (binderNodes a))))
 
 -- ---- tables
 -- the second operand of a table's shape, one higher
@@ -214,8 +215,8 @@ shapes-up action t [] = refl
 shapes-up action t (i ∷ is) = ap₂ _∷_ (shape-up action t i) (shapes-up action t is)
 
 -- single items are a map
-collect-map : {A : Type 0} (f : ℕ → A) (k i : ℕ) → collect (λ j. f j ∷ []) i k ≡ map f (range i k)
-unfolding collect range
+collect-map : {A : Type 0} (f : ℕ → A) (k i : ℕ) → collect (λ j. f j ∷ []) i k ≡ map f (numbersFrom i k)
+unfolding collect numbersFrom
 collect-map f zero i = refl
 collect-map f (suc k) i = ap (λ (l : List _). f i ∷ l) (collect-map f k (suc i))
 
@@ -269,21 +270,21 @@ module _ (action : ℕ → Action) (t : List Node) (table : FormulaTable t) wher
         (λ e. second-at action t table i h (arity-at formulaArities t i h ∙ e)))
 
     -- The shapes of the table's formula are those of its nodes.
-    formula-shapes : shapesFrom (blockIn root-formula) root-formula 0 ≡ map (shapeIn action t 0) (range 0 (length t))
+    formula-shapes : shapesFrom (blockIn root-formula) root-formula 0 ≡ map (shapeIn action t 0) (numbersFrom 0 (length t))
     formula-shapes =
         listed-all action t table (shapesFrom (blockIn root-formula)) (λ i. shapeIn action t 0 i ∷ []) node-shapes
         ∙ collect-map (shapeIn action t 0) (length t) 0
 
     -- The shapes of the formula that is translated are those of the table.
     pub table-shapes : shapesFrom (blockIn (whole root-formula)) (whole root-formula) 0 ≡ tableShapes action t
-    unfolding whole tableShapes shapesFrom shapeOf blockIn binderNodes place
+    unfolding whole tableShapes shapesFrom shapeOf blockIn binderNodes indexIn
     table-shapes = rw root-binds (go (isBinder (nodeAt t 0)))
       where
         go : (r : Bool) → shapesFrom (blockIn (cond r root-formula (Fix true 0 (raise root-formula)))) (cond r root-formula (Fix true 0 (raise root-formula))) 0
-            ≡ cond r (map (shapeIn action t 0) (range 0 (length t)))
-            (record { kind = 8; second = 0; block = 0; labels = 0 } ∷ map (shapeIn action t 1) (range 0 (length t)))
+            ≡ cond r (map (shapeIn action t 0) (numbersFrom 0 (length t)))
+            (record { kind = 8; second = 0; block = 0; labels = 0 } ∷ map (shapeIn action t 1) (numbersFrom 0 (length t)))
         go true = formula-shapes
         go false =
             ap (λ (xs : List Shape). record { kind = 8; second = 0; block = 0; labels = 0 } ∷ xs)
             (shapes-raise (blockIn root-formula) (blockIn (Fix true 0 (raise root-formula))) (block-raise root-formula) root-formula 0
-            ∙ ap (map up) formula-shapes ∙ shapes-up action t (range 0 (length t)))
+            ∙ ap (map up) formula-shapes ∙ shapes-up action t (numbersFrom 0 (length t)))

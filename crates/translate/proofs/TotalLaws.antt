@@ -3,25 +3,25 @@ use mathlib.Core.Path.{_≡_, ap, _∙_}
 use mathlib.Core.List.{List, map}
 use Prim.Native.Nat.{ℕ, _+_, _<_}
 use lib.ListN.{length, length-append}
-use Rattle.sets.specs.Lists.{range}
+use Rattle.sets.specs.Lists.{numbersFrom}
 use Rattle.cases.specs.declared.Transition.{Transition}
 use Rattle.translate.specs.declared.Shape.{Shape}
 use Rattle.translate.specs.Bytes.{allOperands}
-use Rattle.translate.specs.Writing.{shapeOperands, shapeCell}
-use Rattle.translate.specs.Sources.{shapeAt}
+use Rattle.translate.specs.internal.Writing.{shapeOperands, shapeCell}
+use Rattle.translate.specs.internal.Sources.{shapeAt}
 use Rattle.translate.proofs.ShapeLaws.{row-operands, row-none}
 use Rattle.translate.proofs.NodeParts.{row, cellsTo, cells-none, operands-more}
 
 module _ (n : ℕ) (ts : List Transition) where
   -- the operands of node i, of a shape x, in its first s states
   abbrev pub stateTotal : Shape → ℕ → ℕ → ℕ
-  stateTotal x i s = length (allOperands (map (shapeCell n ts x i) (range 0 s)))
+  stateTotal x i s = length (allOperands (map (shapeCell n ts x i) (numbersFrom 0 s)))
 
   pub states-none : (x : Shape) (i : ℕ) → stateTotal x i 0 ≡ 0
   states-none x i = ap length (row-none n ts x i)
 
   pub states-more : (x : Shape) (i s : ℕ) → stateTotal x i (s + 1) ≡ stateTotal x i s + length (shapeOperands n ts x i s)
-  states-more x i s = ap length (row-operands n ts x i s) ∙ length-append (allOperands (map (shapeCell n ts x i) (range 0 s))) (shapeOperands n ts x i s)
+  states-more x i s = ap length (row-operands n ts x i s) ∙ length-append (allOperands (map (shapeCell n ts x i) (numbersFrom 0 s))) (shapeOperands n ts x i s)
 
   -- the operands of the first k nodes
   abbrev pub nodeTotal : List Shape → ℕ → ℕ

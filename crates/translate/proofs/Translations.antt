@@ -1,40 +1,84 @@
--- The three ways a translation ends.
-use mathlib.Core.Path.{_≡_, sym, _∙_}
-use mathlib.Core.Bool.{true, false}
-use mathlib.Core.List.{List, _++_}
+-- When a translation is refused, and the three ways it ends.
+use mathlib.Core.Path.{_≡_, sym, ap, _∙_}
+use mathlib.Core.Logic.{_↔_}
+use mathlib.Core.List.{List, [], _++_}
 use Prim.Native.Nat.{ℕ, _≤_, _<_}
 use native.Mathlib.Omega.{arith}
-use lib.Dec.{eqb}
 use lib.ListN.{length, drop}
-use borrow.Author.Tests.{eq-eqb, ne-eqb, lt-ltb, le-ltb}
-use Rattle.cases.specs.Conditions.{caseRefusal, Accepted}
-use Rattle.translate.specs.Translating.{file, refusalIn, Translated}
+use borrow.Author.Tests.{lt-ltb, le-ltb, ltb-true, ltb-false}
+use Rattle.sets.specs.Lists.{every}
+use Rattle.sets.proofs.Refusals.{Without, one-of-first, reached, none-reached, refusing}
+use Rattle.cases.specs.Conditions.{layoutConditions, modelConditions, formulaConditions, caseConditions, caseRefusal, Accepted}
+use Rattle.cases.specs.Opening.{caseNumber}
+use Rattle.cases.specs.declared.Cause.{Cause as Cause′}
+use Rattle.cases.proofs.Openings.{some-number as case-number}
+use Rattle.translate.specs.Translating.{file, translateConditions, translateRefusal, translateNumber, writtenNumber, writtenLength, fileAfter, Translated}
+use Rattle.translate.specs.declared.Cause.{Cause}
+use Rattle.translate.specs.declared.Cause.the-variants.{Open, Memory}
 use Rattle.translate.specs.declared.Written.the-variants.{File, Refused}
 
+module _ (b : List ℕ) where
+  -- No condition of a case has the number 0, and none the number 13.
+  none-0 : Without 0 (caseConditions b)
+  unfolding caseConditions layoutConditions modelConditions formulaConditions every
+  none-0 = tt
+
+  none-13 : Without 13 (caseConditions b)
+  unfolding caseConditions layoutConditions modelConditions formulaConditions every
+  none-13 = tt
+
+  module _ (room : ℕ) where
+    -- There is no refusal exactly if the case is accepted and there is room for its file.
+    pub unrefused : translateRefusal b room ≡ 0 ↔ Accepted b × (length (file b) ≤ room)
+    unfolding translateRefusal translateConditions caseRefusal
+    unrefused =
+        let r = none-reached (caseConditions b) 13 _ (λ z. omega arith) none-0 in (
+          λ e. let x = r .0 e in (x .0, ltb-false room (length (file b)) (x .1)),
+          λ x. r .1 (x .0, le-ltb room (length (file b)) (x .1)),
+        )
+
+    -- It is refused with 13 exactly if it is accepted and there is no room.
+    pub lacks-room : translateRefusal b room ≡ 13 ↔ Accepted b × (room < length (file b))
+    unfolding translateRefusal translateConditions caseRefusal every
+    lacks-room =
+        let r = reached (caseConditions b) 13 _ [] (λ z. omega arith) none-0 none-13 tt in (
+          λ e. let x = r .0 e in (x .0, ltb-true room (length (file b)) (x .1)),
+          λ x. r .1 (x .0, lt-ltb room (length (file b)) (x .1)),
+        )
+
+    -- A case that is not accepted is refused with its own number.
+    pub own-number : ¬ Accepted b → translateRefusal b room ≡ caseRefusal b
+    unfolding translateRefusal translateConditions caseRefusal
+    own-number d = one-of-first (caseConditions b) _ d
+
+-- 0 is the number of no cause
+pub some-number : (cause : Cause) → ¬ (translateNumber cause ≡ 0)
+unfolding translateNumber
+some-number (Open cause) e = case-number cause e
+some-number Memory e = omega arith
+
 module _ (b before : List ℕ) where
-  -- by the refusal number
-  ends-refused : (r : ℕ) → refusalIn b (length before) ≡ r → ¬ (r ≡ 0) → Translated b before (Refused r) before
-  ends-refused r e h =
-      let no : eqb (refusalIn b (length before)) 0 ≡ false = ne-eqb (refusalIn b (length before)) 0 (λ z. h (sym e ∙ z)) in
-      record { answer = rw (no, e); bytes = rw no }
+  refuses : (cause : Cause) → translateRefusal b (length before) ≡ translateNumber cause → Translated b before (Refused cause) before
+  unfolding writtenNumber writtenLength fileAfter
+  refuses cause e =
+      let some : ¬ (translateRefusal b (length before) ≡ 0) = λ z. some-number cause (sym e ∙ z) in
+      record { number = sym e; size = sym (refusing _ (length (file b)) 0 some); bytes = sym (refusing _ _ before some) }
 
   -- the case is refused
-  pub case-refused : (r : ℕ) → r ≡ caseRefusal b → ¬ (r ≡ 0) → Translated b before (Refused r) before
-  unfolding refusalIn
-  case-refused r e h = ends-refused r (rw (ne-eqb (caseRefusal b) 0 (λ z. h (e ∙ z)), e)) h
+  pub case-refused : {cause : Cause′} → caseNumber cause ≡ caseRefusal b → Translated b before (Refused (Open cause)) before
+  unfolding translateNumber
+  case-refused {cause} e = refuses (Open cause) (own-number b (length before) (λ z. case-number cause (e ∙ z)) ∙ sym e)
 
   module _ (accepted : Accepted b) where
     -- the buffer is too short
-    pub too-short : (k : ℕ) → k ≡ length (file b) → length before < k → Translated b before (Refused 13) before
-    unfolding refusalIn
-    too-short k e h =
-        ends-refused 13 (rw (eq-eqb (caseRefusal b) 0 accepted, lt-ltb (length before) (length (file b)) (rw (sym e) h))) (λ z. absurd (omega (arith, z)))
+    pub too-short : (k : ℕ) → k ≡ length (file b) → length before < k → Translated b before (Refused Memory) before
+    unfolding translateNumber
+    too-short k e h = refuses Memory (lacks-room b (length before) .1 (accepted, rw (sym e) h))
 
     -- the file is written
     pub file-written : (k : ℕ) → k ≡ length (file b) → k ≤ length before → {after : List ℕ} → after ≡ file b ++ drop k before
         → Translated b before (File k) after
-    unfolding refusalIn
-    file-written k e h w =
-        let none : refusalIn b (length before) ≡ 0 = rw (eq-eqb (caseRefusal b) 0 accepted, le-ltb (length before) (length (file b)) (rw (sym e) h)) in
-        let yes : eqb (refusalIn b (length before)) 0 ≡ true = eq-eqb (refusalIn b (length before)) 0 none in
-        record { answer = rw (yes, e); bytes = w ∙ rw (yes, e) }
+    unfolding writtenNumber writtenLength fileAfter
+    file-written k e h {after} w =
+        let none : translateRefusal b (length before) ≡ 0 = unrefused b (length before) .1 (accepted, rw (sym e) h) in
+        record { number = sym none; size = e ∙ sym (rw none); bytes = w ∙ ap (λ (j : ℕ). file b ++ drop j before) e ∙ sym (rw none) }

@@ -2,57 +2,38 @@
 use mathlib.Core.Path.{_≡_, refl, sym, ap, ap₂, _∙_}
 use mathlib.Core.Bool.{Bool, true, false, cond, _&&_}
 use mathlib.Core.List.{List, [], _∷_, _++_, map, append-nil}
-use Prim.Native.Nat.{ℕ, zero, suc, _+_, _*_, _-_, _/_, _%_, _≤_, _<_}
+use Prim.Native.Nat.{ℕ, zero, suc, _+_, _*_, _/_, _%_, _≤_, _<_}
 use native.Mathlib.Nat.{zero-add, add-zero, suc-add, add-assoc, zero-mul, one-mul, add-mul, mod-lt, div-add-mod', div-lt-iff-lt-mul, mul-le-mul-right}
 use native.Mathlib.Omega.{arith}
 use lib.Arith.{digits-lt, digits-div, digits-mod}
 use lib.Dec.{T, eqb, ltb, ltb→lt, lt→ltb}
 use lib.ListN.{length, getD, length-append, List·getD-append}
 use lib.Seq.{getD-append-add}
-use Rattle.sets.specs.Lists.{range, all}
+use Rattle.sets.specs.Lists.{numbersFrom, every}
 use Rattle.sets.proofs.Lists.{length-map-range, getD-map-range, and-left, and-right, and-both, all-mono}
-use Rattle.solver.specs.Cells.{Cell, operandsOf, Ordered}
+use Rattle.solver.specs.Cells.{Cell, operandsOf}
+use Rattle.solver.specs.internal.Forms.{Ordered}
 use Rattle.cases.specs.Action.{Action, accepts}
 use Rattle.cases.specs.Formula.{Formula, False, True, And, Or, Box, Diamond, Variable, Fix, nodes}
 use Rattle.cases.specs.declared.Transition.{Transition}
 use Rattle.cases.specs.Case.{keep}
 use Rattle.cases.specs.Meaning.{from}
+use Rattle.translate.specs.Nodes.{subformulas, Stands}
 use Rattle.translate.specs.Tables.{Expression, Sat⇒, Sat∧, each, RHS}
 use Rattle.translate.specs.Plain.{Plain, All, Any, more, leftOut, plain, plains, chosen, unfolded, Unfolding}
 use Rattle.translate.specs.Cells.{targets, cellOf, cellsFrom}
 
--- the subformulas of a formula, node by node in prefix order
-unfoldable pub subs : Formula → List Formula
-subs False = False ∷ []
-subs True = True ∷ []
-subs (And a b) = And a b ∷ (subs a ++ subs b)
-subs (Or a b) = Or a b ∷ (subs a ++ subs b)
-subs (Box α a) = Box α a ∷ subs a
-subs (Diamond α a) = Diamond α a ∷ subs a
-subs (Variable i) = Variable i ∷ []
-subs (Fix sign i a) = Fix sign i a ∷ subs a
-
--- the subformula at node i of a formula that stands at node k
-unfoldable pub subAt : Formula → ℕ → ℕ → Formula
-subAt a k i = getD (subs a) (i - k) False
-
--- there is one for each node
-pub length-subs : (a : Formula) → length (subs a) ≡ nodes a
-unfolding subs nodes
-length-subs False = refl
-length-subs True = refl
-length-subs (And a b) = omega (arith, length-append (subs a) (subs b), length-subs a, length-subs b)
-length-subs (Or a b) = omega (arith, length-append (subs a) (subs b), length-subs a, length-subs b)
-length-subs (Box α a) = omega (arith, length-subs a)
-length-subs (Diamond α a) = omega (arith, length-subs a)
-length-subs (Variable i) = refl
-length-subs (Fix sign i a) = omega (arith, length-subs a)
-
-pub subAt-zero : (a : Formula) (i : ℕ) → subAt a 0 i ≡ getD (subs a) i False
-unfolding subAt
-subAt-zero a i =
-    let e : i - 0 ≡ i = omega arith in
-    rw e
+-- There is a subformula for each node.
+pub length-subformulas : (a : Formula) → length (subformulas a) ≡ nodes a
+unfolding subformulas nodes
+length-subformulas False = refl
+length-subformulas True = refl
+length-subformulas (And a b) = omega (arith, length-append (subformulas a) (subformulas b), length-subformulas a, length-subformulas b)
+length-subformulas (Or a b) = omega (arith, length-append (subformulas a) (subformulas b), length-subformulas a, length-subformulas b)
+length-subformulas (Box α a) = omega (arith, length-subformulas a)
+length-subformulas (Diamond α a) = omega (arith, length-subformulas a)
+length-subformulas (Variable i) = refl
+length-subformulas (Fix sign i a) = omega (arith, length-subformulas a)
 
 -- What holds of each element of two lists, by its place in both together, holds of each element of both together.
 pub by-parts : {A : Type 0} (d : A) (xs ys : List A) (P : ℕ → A → Type 0) → ((i : ℕ) → i < length xs → P i (getD xs i d))
@@ -64,7 +45,7 @@ by-parts d (x ∷ xs) ys P low high (suc i) h =
 
 -- Node j of the formula f, which stands at place i of a list, stands at place i + j.
 abbrev Inner : List Formula → ℕ → Formula → Type 0
-Inner fs i f = (j : ℕ) → j < nodes f → (i + j < length fs) × (getD fs (i + j) False ≡ getD (subs f) j False)
+Inner fs i f = (j : ℕ) → j < nodes f → (i + j < length fs) × (getD fs (i + j) False ≡ getD (subformulas f) j False)
 
 -- formulas that are listed with all their subformulas
 record Nested (fs : List Formula) : Type 0 where
@@ -86,17 +67,17 @@ nested-join {fs} {gs} a b = record { inner = by-parts False fs gs (Inner (fs ++ 
         let (l, e) = b .inner i h j g in
         (simp length-append (omega arith), rw add-assoc (getD-append-add fs gs (i + j) False ∙ e))
 
-nested-cons : (a : Formula) (fs : List Formula) → subs a ≡ a ∷ fs → Nested fs → Nested (a ∷ fs)
+nested-cons : (a : Formula) (fs : List Formula) → subformulas a ≡ a ∷ fs → Nested fs → Nested (a ∷ fs)
 nested-cons a fs e w = record { inner = at }
   where
     at : (i : ℕ) → i < length (a ∷ fs) → Inner (a ∷ fs) i (getD (a ∷ fs) i False)
-    at zero h j g = rw (zero-add, e) (omega (arith, length-subs a, ap length e), refl)
+    at zero h j g = rw (zero-add, e) (omega (arith, length-subformulas a, ap length e), refl)
     at (suc i) h j g =
         let (l, q) = w .inner i (omega arith) j g in
         rw suc-add (omega arith, q)
 
-nested : (a : Formula) → Nested (subs a)
-unfolding subs
+nested : (a : Formula) → Nested (subformulas a)
+unfolding subformulas
 nested False = nested-cons False [] refl nested-none
 nested True = nested-cons True [] refl nested-none
 nested (And a b) = nested-cons (And a b) _ refl (nested-join (nested a) (nested b))
@@ -106,21 +87,16 @@ nested (Diamond α a) = nested-cons (Diamond α a) _ refl (nested a)
 nested (Variable i) = nested-cons (Variable i) [] refl nested-none
 nested (Fix sign i a) = nested-cons (Fix sign i a) _ refl (nested a)
 
--- the formula x stands at node i of a
-abbrev pub Stands : Formula → ℕ → Formula → Type 0
-Stands a i x = (i < nodes a) × (subAt a 0 i ≡ x)
-
 -- Node j of a formula that stands at node i stands at node i + j.
 pub inner : (a : Formula) {i : ℕ} {f : Formula} → Stands a i f → {j : ℕ} {x : Formula} → Stands f j x → Stands a (i + j) x
 inner a {i} {f} (h, e) {j} (g, q) =
-    let e′ : getD (subs a) i False ≡ f = sym (subAt-zero a i) ∙ e in
-    let g′ : j < nodes (getD (subs a) i False) = rw e′ g in
-    let (l, r) = nested a .inner i (rw length-subs h) j g′ in
-    (rw length-subs at l, subAt-zero a (i + j) ∙ r ∙ ap (λ (b : Formula). getD (subs b) j False) e′ ∙ sym (subAt-zero f j) ∙ q)
+    let g′ : j < nodes (getD (subformulas a) i False) = rw e g in
+    let (l, r) = nested a .inner i (rw length-subformulas h) j g′ in
+    (rw length-subformulas at l, r ∙ ap (λ (b : Formula). getD (subformulas b) j False) e ∙ q)
 
 -- A formula stands at its own first node.
 pub first : (a : Formula) → Stands a 0 a
-unfolding subAt subs nodes
+unfolding subformulas nodes
 first False = (omega arith, refl)
 first True = (omega arith, refl)
 first (And a b) = (omega arith, refl)
@@ -131,52 +107,52 @@ first (Variable i) = (omega arith, refl)
 first (Fix sign i a) = (omega arith, refl)
 
 -- Operands, by what is listed below a formula: the first is the next node, and the second follows the first one's nodes.
-operand-first : (f x : Formula) (gs : List Formula) → subs f ≡ f ∷ (subs x ++ gs) → Stands f 1 x
+operand-first : (f x : Formula) (gs : List Formula) → subformulas f ≡ f ∷ (subformulas x ++ gs) → Stands f 1 x
 operand-first f x gs e =
     let (l, q) = first x in
-    let h : length (subs f) ≡ suc (nodes x + length gs) = ap length e ∙ ap suc (length-append (subs x) gs ∙ ap (λ (m : ℕ). m + length gs) (length-subs x)) in
-    let r : getD (subs f) 1 False ≡ x =
-    ap (λ (fs : List Formula). getD fs 1 False) e ∙ List·getD-append (subs x) gs False 0 (rw length-subs l) ∙ sym (subAt-zero x 0) ∙ q in
-    (omega (arith, length-subs f), subAt-zero f 1 ∙ r)
+    let h : length (subformulas f) ≡ suc (nodes x + length gs) = ap length e ∙ ap suc (length-append (subformulas x) gs ∙ ap (λ (m : ℕ). m + length gs) (length-subformulas x)) in
+    let r : getD (subformulas f) 1 False ≡ x =
+    ap (λ (fs : List Formula). getD fs 1 False) e ∙ List·getD-append (subformulas x) gs False 0 (rw length-subformulas l) ∙ q in
+    (omega (arith, length-subformulas f), r)
 
-operand-second : (f x y : Formula) → subs f ≡ f ∷ (subs x ++ subs y) → Stands f (1 + nodes x) y
+operand-second : (f x y : Formula) → subformulas f ≡ f ∷ (subformulas x ++ subformulas y) → Stands f (1 + nodes x) y
 operand-second f x y e =
     let (l, q) = first y in
-    let h : length (subs f) ≡ suc (nodes x + nodes y) = ap length e ∙ ap suc (length-append (subs x) (subs y) ∙ ap₂ _+_ (length-subs x) (length-subs y)) in
-    let m : 1 + nodes x ≡ suc (length (subs x) + 0) = omega (arith, length-subs x) in
-    let r : getD (subs f) (1 + nodes x) False ≡ y =
-    rw (e, m) (getD-append-add (subs x) (subs y) 0 False ∙ sym (subAt-zero y 0) ∙ q) in
-    (omega (arith, length-subs f), subAt-zero f (1 + nodes x) ∙ r)
+    let h : length (subformulas f) ≡ suc (nodes x + nodes y) = ap length e ∙ ap suc (length-append (subformulas x) (subformulas y) ∙ ap₂ _+_ (length-subformulas x) (length-subformulas y)) in
+    let m : 1 + nodes x ≡ suc (length (subformulas x) + 0) = omega (arith, length-subformulas x) in
+    let r : getD (subformulas f) (1 + nodes x) False ≡ y =
+    rw (e, m) (getD-append-add (subformulas x) (subformulas y) 0 False ∙ q) in
+    (omega (arith, length-subformulas f), r)
 
 -- The operands of node i: the first is node i + 1, and a second one, after x, is node i + 1 + nodes x.
 module _ (a : Formula) {i : ℕ} where
-  next : {f x : Formula} (gs : List Formula) → subs f ≡ f ∷ (subs x ++ gs) → Stands a i f → Stands a (i + 1) x
+  next : {f x : Formula} (gs : List Formula) → subformulas f ≡ f ∷ (subformulas x ++ gs) → Stands a i f → Stands a (i + 1) x
   next {f} {x} gs e h = inner a h (operand-first f x gs e)
 
-  two : {f x y : Formula} → subs f ≡ f ∷ (subs x ++ subs y) → Stands a i f → Stands a (i + 1) x × Stands a (i + 1 + nodes x) y
-  two {f} {x} {y} e h = (next (subs y) e h, rw (← add-assoc) at (inner a h (operand-second f x y e)))
+  two : {f x y : Formula} → subformulas f ≡ f ∷ (subformulas x ++ subformulas y) → Stands a i f → Stands a (i + 1) x × Stands a (i + 1 + nodes x) y
+  two {f} {x} {y} e h = (next (subformulas y) e h, rw (← add-assoc) at (inner a h (operand-second f x y e)))
 
-  one : {f x : Formula} → subs f ≡ f ∷ subs x → Stands a i f → Stands a (i + 1) x
+  one : {f x : Formula} → subformulas f ≡ f ∷ subformulas x → Stands a i f → Stands a (i + 1) x
   one {f} {x} e h = next [] (rw append-nil e) h
 
   pub and-operands : {x y : Formula} → Stands a i (And x y) → Stands a (i + 1) x × Stands a (i + 1 + nodes x) y
-  unfolding subs
+  unfolding subformulas
   and-operands h = two refl h
 
   pub or-operands : {x y : Formula} → Stands a i (Or x y) → Stands a (i + 1) x × Stands a (i + 1 + nodes x) y
-  unfolding subs
+  unfolding subformulas
   or-operands h = two refl h
 
   pub box-operand : {α : Action} {x : Formula} → Stands a i (Box α x) → Stands a (i + 1) x
-  unfolding subs
+  unfolding subformulas
   box-operand h = one refl h
 
   pub diamond-operand : {α : Action} {x : Formula} → Stands a i (Diamond α x) → Stands a (i + 1) x
-  unfolding subs
+  unfolding subformulas
   diamond-operand h = one refl h
 
   pub fix-operand : {sign : Bool} {j : ℕ} {x : Formula} → Stands a i (Fix sign j x) → Stands a (i + 1) x
-  unfolding subs
+  unfolding subformulas
   fix-operand h = one refl h
 
 -- n states, and the cell of a formula at a node in a state
@@ -190,10 +166,10 @@ module _ (n : ℕ) (cell : Formula → ℕ → ℕ → Cell) where
     long : length cs ≡ length fs * n
     each : (j : ℕ) → j < length fs → Row cs k j (getD fs j False)
 
-  laid-row : (k : ℕ) (f : Formula) → Laid k (f ∷ []) (map (cell f k) (range 0 n))
+  laid-row : (k : ℕ) (f : Formula) → Laid k (f ∷ []) (map (cell f k) (numbersFrom 0 n))
   laid-row k f = record { long = length-map-range (cell f k) 0 n ∙ sym (one-mul n); each = at }
     where
-      at : (j : ℕ) → j < length (f ∷ []) → Row (map (cell f k) (range 0 n)) k j (getD (f ∷ []) j False)
+      at : (j : ℕ) → j < length (f ∷ []) → Row (map (cell f k) (numbersFrom 0 n)) k j (getD (f ∷ []) j False)
       at zero h s g = rw (zero-mul, zero-add, add-zero) (getD-map-range (cell f k) 0 n s (Cell.And []) g ∙ ap (cell f k) (zero-add s))
       at (suc j) h s g = absurd (omega arith)
 
@@ -218,16 +194,16 @@ module _ (n : ℕ) (ts : List Transition) (block : ℕ → ℕ) where
 
   -- a row of a formula, then those of its operands
   laid-under : {f : Formula} {k : ℕ} {fs : List Formula} {cs : List Cell} → Laid n cell (k + 1) fs cs
-      → Laid n cell k (f ∷ fs) (map (cell f k) (range 0 n) ++ cs)
+      → Laid n cell k (f ∷ fs) (map (cell f k) (numbersFrom 0 n) ++ cs)
   laid-under {f} {k} x = laid-join n cell {fs = f ∷ []} refl (laid-row n cell k f) x
 
-  laid-both : (a : Formula) {k : ℕ} {gs : List Formula} {cs ds : List Cell} → Laid n cell k (subs a) cs → Laid n cell (k + nodes a) gs ds
-      → Laid n cell k (subs a ++ gs) (cs ++ ds)
-  laid-both a {k} x y = laid-join n cell (ap (λ (i : ℕ). k + i) (length-subs a)) x y
+  laid-both : (a : Formula) {k : ℕ} {gs : List Formula} {cs ds : List Cell} → Laid n cell k (subformulas a) cs → Laid n cell (k + nodes a) gs ds
+      → Laid n cell k (subformulas a ++ gs) (cs ++ ds)
+  laid-both a {k} x y = laid-join n cell (ap (λ (i : ℕ). k + i) (length-subformulas a)) x y
 
   -- The cells of a formula at node k are a row for each of its nodes.
-  laid : (a : Formula) (k : ℕ) → Laid n cell k (subs a) (cellsFrom n ts block a k)
-  unfolding subs cellsFrom
+  laid : (a : Formula) (k : ℕ) → Laid n cell k (subformulas a) (cellsFrom n ts block a k)
+  unfolding subformulas cellsFrom
   laid False k = laid-row n cell k False
   laid True k = laid-row n cell k True
   laid (And a b) k = laid-under (laid-both a (laid a (k + 1)) (laid b (k + 1 + nodes a)))
@@ -237,18 +213,21 @@ module _ (n : ℕ) (ts : List Transition) (block : ℕ → ℕ) where
   laid (Variable i) k = laid-row n cell k (Variable i)
   laid (Fix sign i a) k = laid-under (laid a (k + 1))
 
-  -- A formula at node 0 has a cell for each node and state,
-  pub length-cells : (a : Formula) → length (cellsFrom n ts block a 0) ≡ nodes a * n
-  length-cells a = laid a 0 .long ∙ ap (λ (m : ℕ). m * n) (length-subs a)
+  -- A formula has a cell for each node and state,
+  pub cells-long : (a : Formula) (k : ℕ) → length (cellsFrom n ts block a k) ≡ nodes a * n
+  cells-long a k = laid a k .long ∙ ap (λ (m : ℕ). m * n) (length-subformulas a)
 
-  -- and cell i * n + s is that of node i in state s.
+  pub length-cells : (a : Formula) → length (cellsFrom n ts block a 0) ≡ nodes a * n
+  length-cells a = cells-long a 0
+
+  -- and cell i * n + s of a formula at node 0 is that of node i in state s.
   pub cell-at : (a : Formula) (i s : ℕ) → i < nodes a → s < n
-      → getD (cellsFrom n ts block a 0) (i * n + s) (Cell.And []) ≡ cellOf n ts block (subAt a 0 i) i s
-  cell-at a i s h g = rw (subAt-zero a i) (laid a 0 .each i (rw length-subs h) s g ∙ ap (λ (j : ℕ). cell (getD (subs a) i False) j s) (zero-add i))
+      → getD (cellsFrom n ts block a 0) (i * n + s) (Cell.And []) ≡ cellOf n ts block (getD (subformulas a) i False) i s
+  cell-at a i s h g = laid a 0 .each i (rw length-subformulas h) s g ∙ ap (λ (j : ℕ). cell (getD (subformulas a) i False) j s) (zero-add i)
 
   -- Any cell c is that of node c / n in state c % n.
   place : 0 < n → (a : Formula) (c : ℕ) → c < length (cellsFrom n ts block a 0)
-      → (c / n < nodes a) × (c % n < n) × (getD (cellsFrom n ts block a 0) c (Cell.And []) ≡ cellOf n ts block (subAt a 0 (c / n)) (c / n) (c % n))
+      → (c / n < nodes a) × (c % n < n) × (getD (cellsFrom n ts block a 0) c (Cell.And []) ≡ cellOf n ts block (getD (subformulas a) (c / n) False) (c / n) (c % n))
   place states a c h =
       let l : c / n < nodes a = div-lt-iff-lt-mul states .1 (rw length-cells at h) in
       let g : c % n < n = mod-lt c states in
@@ -267,10 +246,10 @@ module _ (es : ℕ → Plain) (sat : Bool → Expression → Expression) (kept :
   put-one false c t f g e us vs p q r = r
 
   put : (n i s : ℕ) (α : Action) (side : ℕ → Expression) → ((u : ℕ) → u < n → es (i * n + u) ≡ plain (side u))
-      → (ts : List Transition) → T (all (λ t. ltb (t .target) n) ts)
+      → (ts : List Transition) → T (every (λ t. ltb (t .target) n) ts)
       → plains (each (λ t. sat (accepts eqb α (t .label)) (side (t .target))) (keep (λ t. eqb (t .source) s) ts))
       ≡ chosen es (map (λ t. i * n + t .target) (keep (from s α) ts))
-  unfolding keep all each plains chosen
+  unfolding keep every each plains chosen
   put n i s α side h [] l = refl
   put n i s α side h (t ∷ ts) l =
       put-one (eqb (t .source) s) (accepts eqb α (t .label)) t _ _ (side (t .target)) _ _ refl
@@ -278,9 +257,9 @@ module _ (es : ℕ → Plain) (sat : Bool → Expression → Expression) (kept :
 
 -- The right-hand side of the table for each cell, without Sat: cell c is that of node c / n in state c % n.
 abbrev pub sides : ℕ → List Transition → (ℕ → ℕ) → Formula → ℕ → Plain
-sides n ts block a c = plain (RHS ts block (subAt a 0 (c / n)) (c % n))
+sides n ts block a c = plain (RHS ts block (getD (subformulas a) (c / n) False) (c % n))
 
-module _ (n : ℕ) (states : 0 < n) (ts : List Transition) (low : T (all (λ t. ltb (t .target) n) ts)) (block : ℕ → ℕ) (a : Formula) where
+module _ (n : ℕ) (states : 0 < n) (ts : List Transition) (low : T (every (λ t. ltb (t .target) n) ts)) (block : ℕ → ℕ) (a : Formula) where
   -- that of the formula x at node i in state s
   pub side-at : {i : ℕ} {x : Formula} → Stands a i x → (s : ℕ) → s < n → sides n ts block a (i * n + s) ≡ plain (RHS ts block x s)
   side-at {i} (h, e) s g = rw (digits-div i g, digits-mod i g, e)
@@ -309,24 +288,24 @@ module _ (n : ℕ) (states : 0 < n) (ts : List Transition) (low : T (all (λ t. 
       at : (c : ℕ) → c < length (cellsFrom n ts block a 0) → sides n ts block a c ≡ unfolded (sides n ts block a) (getD (cellsFrom n ts block a 0) c (Cell.And []))
       at c h =
           let (l, g, e) = place n ts block states a c h in
-          rw e (rule-at (subAt a 0 (c / n)) (l, refl) (c % n) g)
+          rw e (rule-at (getD (subformulas a) (c / n) False) (l, refl) (c % n) g)
 
 -- each operand is a cell
 unfoldable pub OperandsInside : List Cell → Type 0
-OperandsInside cs = (i : ℕ) → i < length cs → T (all (λ o. ltb o (length cs)) (operandsOf (getD cs i (Cell.And []))))
+OperandsInside cs = (i : ℕ) → i < length cs → T (every (λ o. ltb o (length cs)) (operandsOf (getD cs i (Cell.And []))))
 
 -- Cells whose operands are cells above them unfold in one way.
 module _ (cs : List Cell) (ordered : Ordered cs) (inside : OperandsInside cs) (ds es : ℕ → Plain) (u : Unfolding cs ds) (w : Unfolding cs es) where
-  chosen-same : (i : ℕ) → ((o : ℕ) → i < o → o < length cs → ds o ≡ es o) → (os : List ℕ) → T (all (ltb i) os) → T (all (λ o. ltb o (length cs)) os)
+  chosen-same : (i : ℕ) → ((o : ℕ) → i < o → o < length cs → ds o ≡ es o) → (os : List ℕ) → T (every (ltb i) os) → T (every (λ o. ltb o (length cs)) os)
       → chosen ds os ≡ chosen es os
-  unfolding all chosen
+  unfolding every chosen
   chosen-same i h [] l m = refl
   chosen-same i h (o ∷ os) l m =
       ap₂ more (h o (ltb→lt i o (and-left (ltb i o) _ l)) (ltb→lt o _ (and-left (ltb o (length cs)) _ m)))
       (chosen-same i h os (and-right (ltb i o) _ l) (and-right (ltb o (length cs)) _ m))
 
   unfolded-same : (i : ℕ) → ((o : ℕ) → i < o → o < length cs → ds o ≡ es o) → (c : Cell)
-      → T (all (ltb i) (operandsOf c)) → T (all (λ o. ltb o (length cs)) (operandsOf c)) → unfolded ds c ≡ unfolded es c
+      → T (every (ltb i) (operandsOf c)) → T (every (λ o. ltb o (length cs)) (operandsOf c)) → unfolded ds c ≡ unfolded es c
   unfolding operandsOf unfolded
   unfolded-same i h (Cell.And os) l m = ap All (chosen-same i h os l m)
   unfolded-same i h (Cell.Or os) l m = ap Any (chosen-same i h os l m)
@@ -343,7 +322,7 @@ module _ (cs : List Cell) (ordered : Ordered cs) (inside : OperandsInside cs) (d
   unfolding-one i h = one-from (length cs) i (omega arith) h
 
 -- The cells of a formula are such cells.
-module _ (n : ℕ) (states : 0 < n) (ts : List Transition) (low : T (all (λ t. ltb (t .target) n) ts)) (block : ℕ → ℕ) (a : Formula) where
+module _ (n : ℕ) (states : 0 < n) (ts : List Transition) (low : T (every (λ t. ltb (t .target) n) ts)) (block : ℕ → ℕ) (a : Formula) where
   -- what a number o is that is an operand of cell c
   abbrev good : ℕ → ℕ → Bool
   good c o = ltb c o && ltb o (nodes a * n)
@@ -355,29 +334,29 @@ module _ (n : ℕ) (states : 0 < n) (ts : List Transition) (low : T (all (λ t. 
       let y : (i + 1) * n ≤ j * n = mul-le-mul-right n (omega arith) in
       and-both (ltb (i * n + s) (j * n + u)) _ (lt→ltb (i * n + s) (j * n + u) (omega arith)) (lt→ltb (j * n + u) (nodes a * n) (digits-lt l r))
 
-  good-targets : (i s : ℕ) (α : Action) → i + 1 < nodes a → s < n → (us : List Transition) → T (all (λ t. ltb (t .target) n) us)
-      → T (all (good (i * n + s)) (map (λ t. (i + 1) * n + t .target) (keep (from s α) us)))
-  unfolding all keep
+  good-targets : (i s : ℕ) (α : Action) → i + 1 < nodes a → s < n → (us : List Transition) → T (every (λ t. ltb (t .target) n) us)
+      → T (every (good (i * n + s)) (map (λ t. (i + 1) * n + t .target) (keep (from s α) us)))
+  unfolding every keep
   good-targets i s α h g [] l = tt
   good-targets i s α h g (t ∷ us) l =
       go (from s α t) (good-at i (i + 1) s (t .target) (omega arith) h g (ltb→lt _ _ (and-left (ltb (t .target) n) _ l)))
       (good-targets i s α h g us (and-right (ltb (t .target) n) _ l))
     where
       go : (b : Bool) → T (good (i * n + s) ((i + 1) * n + t .target))
-          → T (all (good (i * n + s)) (map (λ t. (i + 1) * n + t .target) (keep (from s α) us)))
-          → T (all (good (i * n + s)) (map (λ t. (i + 1) * n + t .target) (cond b (t ∷ keep (from s α) us) (keep (from s α) us))))
+          → T (every (good (i * n + s)) (map (λ t. (i + 1) * n + t .target) (keep (from s α) us)))
+          → T (every (good (i * n + s)) (map (λ t. (i + 1) * n + t .target) (cond b (t ∷ keep (from s α) us) (keep (from s α) us))))
       go true x y = and-both (good (i * n + s) ((i + 1) * n + t .target)) _ x y
       go false x y = y
 
   good-both : (i m s : ℕ) → s < n → i + 1 < nodes a → i + 1 + m < nodes a
-      → T (all (good (i * n + s)) (((i + 1) * n + s) ∷ ((i + 1 + m) * n + s) ∷ []))
-  unfolding all
+      → T (every (good (i * n + s)) (((i + 1) * n + s) ∷ ((i + 1 + m) * n + s) ∷ []))
+  unfolding every
   good-both i m s g p q =
       and-both (good (i * n + s) ((i + 1) * n + s)) _ (good-at i (i + 1) s s (omega arith) p g g)
       (and-both (good (i * n + s) ((i + 1 + m) * n + s)) _ (good-at i (i + 1 + m) s s (omega arith) q g g) tt)
 
-  good-operands : (f : Formula) {i : ℕ} → Stands a i f → (s : ℕ) → s < n → T (all (good (i * n + s)) (operandsOf (cellOf n ts block f i s)))
-  unfolding all operandsOf cellOf targets
+  good-operands : (f : Formula) {i : ℕ} → Stands a i f → (s : ℕ) → s < n → T (every (good (i * n + s)) (operandsOf (cellOf n ts block f i s)))
+  unfolding every operandsOf cellOf targets
   good-operands False h s g = tt
   good-operands True h s g = tt
   good-operands (And x y) {i} h s g =
@@ -391,10 +370,10 @@ module _ (n : ℕ) (states : 0 < n) (ts : List Transition) (low : T (all (λ t. 
   good-operands (Variable j) h s g = tt
   good-operands (Fix sign j x) h s g = tt
 
-  good-cell : (c : ℕ) → c < length (cellsFrom n ts block a 0) → T (all (good c) (operandsOf (getD (cellsFrom n ts block a 0) c (Cell.And []))))
+  good-cell : (c : ℕ) → c < length (cellsFrom n ts block a 0) → T (every (good c) (operandsOf (getD (cellsFrom n ts block a 0) c (Cell.And []))))
   good-cell c h =
       let (l, g, e) = place n ts block states a c h in
-      rw e (rw (div-add-mod' c n) at (good-operands (subAt a 0 (c / n)) (l, refl) (c % n) g))
+      rw e (rw (div-add-mod' c n) at (good-operands (getD (subformulas a) (c / n) False) (l, refl) (c % n) g))
 
   pub cells-ordered : Ordered (cellsFrom n ts block a 0)
   unfolding Ordered

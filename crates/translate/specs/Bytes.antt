@@ -4,10 +4,9 @@ use Prim.Native.Nat.{ℕ, _+_, _*_, _/_, _%_}
 use lib.ListN.{length}
 use Rattle.sets.specs.Words.{bit}
 use Rattle.solver.specs.Cells.{Cell, And, Or, Variable, operandsOf}
-use Rattle.solver.specs.File.{Block}
-use Rattle.cases.specs.Formula.{Formula}
-use Rattle.cases.specs.Case.{Case, distinct}
-use Rattle.translate.specs.Whole.{whole, blockIn}
+use Rattle.solver.specs.File.{Block, blocksAt}
+use Rattle.cases.specs.Case.{Case}
+use Rattle.translate.specs.Whole.{formulaOf, blockOf, stepsOf}
 use Rattle.translate.specs.Cells.{cellsFrom, blocksFrom}
 
 -- the equations of a case: its blocks, cells and operands
@@ -18,14 +17,12 @@ pub record System : Type 0 where
   pub cells : List Cell
 
 unfoldable pub systemOf : Case → System
-systemOf c =
-    let a : Formula = whole (c .formula) in
-    record {
-      states = c .states;
-      initial = c .initial;
-      blocks = blocksFrom (c .states) a 0;
-      cells = cellsFrom (c .states) (distinct (c .transitions)) (blockIn a) a 0;
-    }
+systemOf c = record {
+  states = c .states;
+  initial = c .initial;
+  blocks = blocksFrom (c .states) (formulaOf c) 0;
+  cells = cellsFrom (c .states) (stepsOf c) (blockOf c) (formulaOf c) 0;
+}
 
 -- operand lists follow one another in cell order
 unfoldable pub allOperands : List Cell → List ℕ
@@ -49,7 +46,7 @@ unfoldable pub numbers : System → List ℕ
 numbers y =
     let d : ℕ = length (y .blocks) in
     let c : ℕ = length (y .cells) in
-    (1 ∷ y .states ∷ d ∷ c ∷ length (allOperands (y .cells)) ∷ y .initial ∷ 36 ∷ (36 + 8 * d) ∷ (36 + 8 * d + 12 * c) ∷ [])
+    (1 ∷ y .states ∷ d ∷ c ∷ length (allOperands (y .cells)) ∷ y .initial ∷ blocksAt ∷ (blocksAt + 8 * d) ∷ (blocksAt + 8 * d + 12 * c) ∷ [])
     ++ (blockNumbers (y .blocks) ++ (cellNumbers 0 (y .cells) ++ allOperands (y .cells)))
 
 -- a number of 32 bits, low byte first

@@ -1,7 +1,7 @@
 -- The cells and blocks of a formula: cell i * n + s is the right-hand side of node i in state s.
 use mathlib.Core.List.{List, [], _∷_, _++_, map}
 use Prim.Native.Nat.{ℕ, _+_, _*_}
-use Rattle.sets.specs.Lists.{range}
+use Rattle.sets.specs.Lists.{numbersFrom}
 use Rattle.solver.specs.Cells.{Cell}
 use Rattle.solver.specs.File.{Block}
 use Rattle.cases.specs.Action.{Action}
@@ -29,14 +29,14 @@ module _ (n : ℕ) (ts : List Transition) (block : ℕ → ℕ) where
 
   -- the cells of a formula at node i, node by node in prefix order
   unfoldable pub cellsFrom : Formula → ℕ → List Cell
-  cellsFrom False i = map (cellOf False i) (range 0 n)
-  cellsFrom True i = map (cellOf True i) (range 0 n)
-  cellsFrom (And a b) i = map (cellOf (And a b) i) (range 0 n) ++ (cellsFrom a (i + 1) ++ cellsFrom b (i + 1 + nodes a))
-  cellsFrom (Or a b) i = map (cellOf (Or a b) i) (range 0 n) ++ (cellsFrom a (i + 1) ++ cellsFrom b (i + 1 + nodes a))
-  cellsFrom (Box α a) i = map (cellOf (Box α a) i) (range 0 n) ++ cellsFrom a (i + 1)
-  cellsFrom (Diamond α a) i = map (cellOf (Diamond α a) i) (range 0 n) ++ cellsFrom a (i + 1)
-  cellsFrom (Variable j) i = map (cellOf (Variable j) i) (range 0 n)
-  cellsFrom (Fix sign j a) i = map (cellOf (Fix sign j a) i) (range 0 n) ++ cellsFrom a (i + 1)
+  cellsFrom False i = map (cellOf False i) (numbersFrom 0 n)
+  cellsFrom True i = map (cellOf True i) (numbersFrom 0 n)
+  cellsFrom (And a b) i = map (cellOf (And a b) i) (numbersFrom 0 n) ++ (cellsFrom a (i + 1) ++ cellsFrom b (i + 1 + nodes a))
+  cellsFrom (Or a b) i = map (cellOf (Or a b) i) (numbersFrom 0 n) ++ (cellsFrom a (i + 1) ++ cellsFrom b (i + 1 + nodes a))
+  cellsFrom (Box α a) i = map (cellOf (Box α a) i) (numbersFrom 0 n) ++ cellsFrom a (i + 1)
+  cellsFrom (Diamond α a) i = map (cellOf (Diamond α a) i) (numbersFrom 0 n) ++ cellsFrom a (i + 1)
+  cellsFrom (Variable j) i = map (cellOf (Variable j) i) (numbersFrom 0 n)
+  cellsFrom (Fix sign j a) i = map (cellOf (Fix sign j a) i) (numbersFrom 0 n) ++ cellsFrom a (i + 1)
 
 -- the blocks of a formula at node i: a binder's right-hand sides are the cells of its body, node i + 1
 unfoldable pub blocksFrom : ℕ → Formula → ℕ → List Block

@@ -4,6 +4,8 @@ use mathlib.Core.List.{List, [], _∷_, _++_}
 use Prim.Native.Nat.{ℕ, suc, _+_}
 use lib.Dec.{eqb}
 use Rattle.cases.specs.Formula.{Formula, False, True, And, Or, Box, Diamond, Variable, Fix}
+use Rattle.cases.specs.declared.Transition.{Transition}
+use Rattle.cases.specs.Case.{Case, distinct}
 
 -- all node numbers one higher
 unfoldable pub raise : Formula → Formula
@@ -41,10 +43,20 @@ binderNodes (Variable i) = []
 binderNodes (Fix sign i a) = i ∷ binderNodes a
 
 -- the place of a number in a list
-unfoldable pub place : ℕ → List ℕ → ℕ
-place i [] = 0
-place i (j ∷ js) = cond (eqb i j) 0 (suc (place i js))
+unfoldable pub indexIn : ℕ → List ℕ → ℕ
+indexIn i [] = 0
+indexIn i (j ∷ js) = cond (eqb i j) 0 (suc (indexIn i js))
 
 -- Blocks are the binders in prefix order: the block of the binder at node i.
 unfoldable pub blockIn : Formula → ℕ → ℕ
-blockIn a i = place i (binderNodes a)
+blockIn a i = indexIn i (binderNodes a)
+
+-- Of a case: the formula that is translated, the block of each of its binders, and its distinct transitions.
+abbrev pub formulaOf : Case → Formula
+formulaOf c = whole (c .formula)
+
+abbrev pub blockOf : Case → ℕ → ℕ
+blockOf c = blockIn (formulaOf c)
+
+abbrev pub stepsOf : Case → List Transition
+stepsOf c = distinct (c .transitions)

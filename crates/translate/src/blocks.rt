@@ -1,18 +1,18 @@
 // Writing the blocks of an equation file: one for each binder of the formula.
 use crate::Shape;
-use crate::bytes::put_two;
+use crate::bytes::put_two_behind;
 use crate::shapes::SHAPES;
 ghost use mathlib.Core.Path.{_≡_};
 ghost use mathlib.Core.List.{[], _∷_};
-ghost use Prim.Native.Nat.{ℕ, _+_, _-_, _*_, _≤_, _<_};
+ghost use Prim.Native.Nat.{ℕ, _+_, _*_, _≤_};
 ghost use lib.Dec.{eqb};
 ghost use lib.ListN.{length, take};
 ghost use Rattle.sets.specs.Size.{stateLimit};
 ghost use Rattle.sets.specs.Words.{bit};
 ghost use Rattle.cases.specs.Limits.{nodeLimit};
 ghost use Rattle.translate.specs.Bytes.{blockNumbers};
-ghost use Rattle.translate.specs.Parts.{WroteMore, WroteAll};
-ghost use Rattle.translate.specs.Shapes.{shapeBlocks};
+ghost use Rattle.translate.specs.internal.Parts.{WroteMore, WroteAll};
+ghost use Rattle.translate.specs.internal.Shapes.{shapeBlocks};
 
 // How many of the first k nodes are binders.
 pub fn block_count(shapes: [Shape; SHAPES], k: usize) -> usize
@@ -47,18 +47,7 @@ fn write_block(out: &mut [u8], done: usize, n: usize, x: Shape, i: usize) -> usi
     if x.kind < 7 {
         return done;
     }
-    let at = 4 * done;
-    let first = (i + 1) * n;
-    put_two(&mut out[at..], sign_number(x.kind), first);
-    done + 2
-}
-
-// The outermost of the last `left` of k nodes.
-fn outermost(k: usize, left: usize) -> usize
-    requires { ⌜ (0 < left) × (left ≤ k) ⌝ }
-    ensures { λ r. ⌜ r ≡ k - left ⌝ }
-{
-    k - left
+    put_two_behind(out, done, sign_number(x.kind), (i + 1) * n)
 }
 
 // The blocks of the first k nodes, where there are n states. Answers how many numbers are written.
@@ -68,13 +57,9 @@ pub fn write_blocks(out: &mut [u8], n: usize, shapes: [Shape; SHAPES], k: usize)
     ensures { λ r. ⌜ WroteAll (blockNumbers (shapeBlocks n 0 (take k shapes))) (now (out .entry)) (now (out .exit)) r ⌝ }
 {
     let mut done: usize = 0;
-    let mut left = k;
-    while 0 < left {
-        let i = outermost(k, left);
+    for i in 0..k {
         let x = shapes[i];
-        let more = write_block(out, done, n, x, i);
-        done = more;
-        left -= 1;
+        done = write_block(out, done, n, x, i);
     }
     done
 }

@@ -2,7 +2,7 @@
 ghost use mathlib.Core.List.{[], _∷_};
 ghost use Prim.Native.Nat.{_+_, _*_, _^_, _<_, _≤_};
 ghost use lib.ListN.{length};
-ghost use Rattle.translate.specs.Parts.{Wrote, WroteAt};
+ghost use Rattle.translate.specs.internal.Parts.{Wrote, WroteAt, WroteMore};
 
 // One number.
 pub fn put(part: &mut [u8], x: usize)
@@ -30,6 +30,16 @@ pub fn put_two(part: &mut [u8], x: usize, y: usize)
 {
     put(part, x);
     put_at(part, 4, y);
+}
+
+// Two numbers behind `done` others. Answers how many are then written.
+pub fn put_two_behind(part: &mut [u8], done: usize, x: usize, y: usize) -> usize
+    requires { ⌜ 4 * (done + 2) ≤ length (now part) ⌝ }
+    ensures { λ r. ⌜ WroteMore done (x ∷ y ∷ []) (now (part .entry)) (now (part .exit)) r ⌝ }
+{
+    let at = 4 * done;
+    put_two(&mut part[at..], x, y);
+    done + 2
 }
 
 // Three numbers.

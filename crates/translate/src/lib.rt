@@ -9,7 +9,8 @@ mod totals;
 use blocks::block_count;
 use blocks::write_blocks;
 use bytes::put_header;
-use cases::header_of;
+use cases::Header;
+use cases::Opened;
 use rows::write_all_cells;
 use rows::write_all_operands;
 use shapes::SHAPES;
@@ -17,18 +18,26 @@ use shapes::added_before;
 use shapes::first_appearances;
 use shapes::shapes_of;
 use totals::operand_total;
+ghost use mathlib.Core.Path.{_≡_};
 ghost use Prim.Native.Nat.{_+_, _*_};
 ghost use lib.ListN.{length, take};
+ghost use Rattle.cases.specs.File.{headerOf};
 ghost use Rattle.cases.specs.Conditions.{Accepted};
 ghost use Rattle.translate.specs.Bytes.{numbers};
-ghost use Rattle.translate.specs.Parts.{Wrote, distinctIn};
-ghost use Rattle.translate.specs.Sources.{Sources, Sized, shapeSystem, Emitted};
-ghost use Rattle.translate.specs.Translating.{Translated};
+ghost use Rattle.translate.specs.internal.Parts.{Wrote, distinctIn};
+ghost use Rattle.translate.specs.internal.Sources.{Sources, Sized, shapeSystem, Emitted};
+ghost use Rattle.translate.specs.Translating.{translateNumber, Translated};
 
-// The length of the file that was written, or the number of the refusal.
+// Why no file is written: found on opening the case, or the buffer is too short.
+pub enum Cause {
+    Open(cases::Cause),
+    Memory,
+}
+
+// The length of the file that was written, or why there is none.
 pub enum Written {
     File(usize),
-    Refused(u8),
+    Refused(Cause),
 }
 
 // What the writers need of a node: its kind as in the formula table, the node of a second operand, the block of a binder or variable,
@@ -86,21 +95,20 @@ fn emit(
     let p = operand_total(part, first, m, n, shapes, k);
     let size = 36 + 8 * d + 12 * (k * n) + 4 * p;
     if out.len() < size {
-        return Written::Refused(13);
+        return Written::Refused(Cause::Memory);
     }
     fill(out, part, first, m, shapes, k, n, initial, d, p);
     Written::File(size)
 }
 
 // The equation file of an accepted case. First appearances are found once, and the labels that a node accepts once.
-fn write_case(case: &[u8], out: &mut [u8]) -> Written
-    requires { ⌜ Accepted (now case) ⌝ }
+fn write_case(case: &[u8], h: Header, out: &mut [u8]) -> Written
+    requires { ⌜ Accepted (now case) ⌝ ∗ ⌜ h ≡ headerOf (now case) ⌝ }
     ensures { λ w. ⌜ Translated (now (case .entry)) (now (out .entry)) w (now (out .exit)) ⌝ }
 {
-    let h = header_of(case);
-    let records = h.first;
-    let actions = h.second;
-    let formula = h.third;
+    let records = h.transitions_at;
+    let actions = h.actions_at;
+    let formula = h.formula_at;
     let first = first_appearances(&case[records..], h.transitions);
     let shapes = shapes_of(&case[actions..], h.actions, &case[formula..], h.nodes);
     let k = added_before(&case[formula..], h.nodes) + h.nodes;
@@ -120,9 +128,18 @@ fn write_case(case: &[u8], out: &mut [u8]) -> Written
 pub fn translate(case: &[u8], out: &mut [u8]) -> Written
     ensures { λ w. ⌜ Translated (now (case .entry)) (now (out .entry)) w (now (out .exit)) ⌝ }
 {
-    let cause = cases::refusal(case);
-    if cause != 0 {
-        return Written::Refused(cause);
+    match cases::open(case) {
+        Opened::Accepted(h) => write_case(case, h, out),
+        Opened::Refused(cause) => Written::Refused(Cause::Open(cause)),
     }
-    write_case(case, out)
+}
+
+// The number of a cause.
+pub fn number_of(cause: Cause) -> u8
+    ensures { λ r. ⌜ r ≡ translateNumber cause ⌝ }
+{
+    match cause {
+        Cause::Open(cause) => cases::number_of(cause),
+        Cause::Memory => 13,
+    }
 }

@@ -2,7 +2,7 @@
 use crate::Shape;
 use crate::bytes::put_at;
 use crate::bytes::put_three_at;
-use crate::bytes::put_two;
+use crate::bytes::put_two_behind;
 use crate::shapes::is_modal;
 use crate::shapes::is_pair;
 use cases::number_at;
@@ -11,14 +11,14 @@ ghost use mathlib.Core.Path.{_≡_};
 ghost use mathlib.Core.List.{[], _∷_, map};
 ghost use Prim.Native.Nat.{ℕ, _+_, _*_, _^_, _<_, _≤_};
 ghost use lib.ListN.{length};
-ghost use Rattle.sets.specs.Lists.{range};
+ghost use Rattle.sets.specs.Lists.{numbersFrom};
 ghost use Rattle.sets.specs.Size.{stateLimit};
 ghost use Rattle.sets.specs.Words.{marked};
 ghost use Rattle.cases.specs.Limits.{transitionLimit, nodeLimit};
 ghost use Rattle.cases.specs.File.{transitionIn};
 ghost use Rattle.translate.specs.Bytes.{allOperands};
-ghost use Rattle.translate.specs.Writing.{shapeKind, shapeOperands, shapeCell};
-ghost use Rattle.translate.specs.Parts.{WroteMore, WroteAll, WroteCellsAt, WroteCells, Recorded, Placed, distinctIn, leavesAt, leaving, targetCells, targetCell};
+ghost use Rattle.translate.specs.internal.Writing.{shapeKind, shapeOperands, shapeCell};
+ghost use Rattle.translate.specs.internal.Parts.{WroteMore, WroteCellsAt, WroteCells, Recorded, Placed, distinctIn, leavesAt, leaving, targetCells, targetCell};
 
 // Whether bit x of a mask of labels is 1. A label past its bits is not in it.
 fn marks(labels: u64, x: usize) -> bool
@@ -89,30 +89,8 @@ fn write_target(
     done
 }
 
-// The operands of a box or diamond in state s. Answers how many.
-pub fn write_targets(
-    out: &mut [u8],
-    part: &[u8],
-    first: &[u8],
-    m: usize,
-    base: usize,
-    s: usize,
-    labels: u64,
-) -> usize
-    requires { ⌜ Recorded (now part) (now first) m × (base < 2 ^ 32)
-        × (4 * length (leaving (now part) (now first) s labels m) ≤ length (now out)) ⌝ }
-    ensures { λ r. ⌜ WroteAll (targetCells base (leaving (now (part .entry)) (now (first .entry)) s labels m)) (now (out .entry)) (now (out .exit)) r ⌝ }
-{
-    let mut done: usize = 0;
-    for j in 0..m {
-        let more = write_target(out, done, part, first, j, base, s, labels);
-        done = more;
-    }
-    done
-}
-
-// The same behind `done` numbers.
-fn write_targets_behind(
+// The operands of a box or diamond in state s, behind `done` numbers. Answers how many numbers are then written.
+fn write_targets(
     out: &mut [u8],
     done: usize,
     part: &[u8],
@@ -126,19 +104,11 @@ fn write_targets_behind(
         × (4 * (done + length (leaving (now part) (now first) s labels m)) ≤ length (now out)) ⌝ }
     ensures { λ r. ⌜ WroteMore done (targetCells base (leaving (now (part .entry)) (now (first .entry)) s labels m)) (now (out .entry)) (now (out .exit)) r ⌝ }
 {
-    let at = 4 * done;
-    let more = write_targets(&mut out[at..], part, first, m, base, s, labels);
-    done + more
-}
-
-// Two operands behind `done` numbers.
-fn write_pair(out: &mut [u8], done: usize, x: usize, y: usize) -> usize
-    requires { ⌜ 4 * (done + 2) ≤ length (now out) ⌝ }
-    ensures { λ r. ⌜ WroteMore done (x ∷ y ∷ []) (now (out .entry)) (now (out .exit)) r ⌝ }
-{
-    let at = 4 * done;
-    put_two(&mut out[at..], x, y);
-    done + 2
+    let mut next = done;
+    for j in 0..m {
+        next = write_target(out, next, part, first, j, base, s, labels);
+    }
+    next
 }
 
 // The kind of the cells of a node of this kind.
@@ -201,12 +171,11 @@ pub fn write_cells(
     used: usize,
 ) -> usize
     requires { ⌜ Recorded (now part) (now first) m × (x .kind ≤ 8) × (12 * n ≤ length (now out)) × (m ≤ transitionLimit) × (n ≤ stateLimit) × (used < 2 ^ 32) ⌝ }
-    ensures { λ r. ⌜ ((i : ℕ) → WroteCells used (map (shapeCell n (distinctIn (now (part .entry)) (now (first .entry)) m) x i) (range 0 n)) (now (out .entry)) (now (out .exit)) r) ⌝ }
+    ensures { λ r. ⌜ ((i : ℕ) → WroteCells used (map (shapeCell n (distinctIn (now (part .entry)) (now (first .entry)) m) x i) (numbersFrom 0 n)) (now (out .entry)) (now (out .exit)) r) ⌝ }
 {
     let mut next = used;
     for s in 0..n {
-        let more = write_cell(out, 12 * s, part, first, m, x, s, next);
-        next = more;
+        next = write_cell(out, 12 * s, part, first, m, x, s, next);
     }
     next
 }
@@ -237,17 +206,18 @@ fn write_state(
 {
     let low = row(i + 1, n);
     if is_pair(x.kind) {
-        return write_pair(out, done, low + s, row(x.second, n) + s);
+        return put_two_behind(out, done, low + s, row(x.second, n) + s);
     }
     if is_modal(x.kind) {
-        return write_targets_behind(out, done, part, first, m, low, s, x.labels);
+        return write_targets(out, done, part, first, m, low, s, x.labels);
     }
     done
 }
 
-// The operands of node i, of a shape, in each of n states. Answers how many.
+// The operands of node i, of a shape, in each of n states, behind `done` numbers. Answers how many numbers are then written.
 pub fn write_operands(
     out: &mut [u8],
+    done: usize,
     part: &[u8],
     first: &[u8],
     m: usize,
@@ -256,13 +226,12 @@ pub fn write_operands(
     i: usize,
 ) -> usize
     requires { ⌜ Recorded (now part) (now first) m × Placed n x i
-        × (4 * length (allOperands (map (shapeCell n (distinctIn (now part) (now first) m) x i) (range 0 n))) ≤ length (now out)) ⌝ }
-    ensures { λ r. ⌜ WroteAll (allOperands (map (shapeCell n (distinctIn (now (part .entry)) (now (first .entry)) m) x i) (range 0 n))) (now (out .entry)) (now (out .exit)) r ⌝ }
+        × (4 * (done + length (allOperands (map (shapeCell n (distinctIn (now part) (now first) m) x i) (numbersFrom 0 n)))) ≤ length (now out)) ⌝ }
+    ensures { λ r. ⌜ WroteMore done (allOperands (map (shapeCell n (distinctIn (now (part .entry)) (now (first .entry)) m) x i) (numbersFrom 0 n))) (now (out .entry)) (now (out .exit)) r ⌝ }
 {
-    let mut done: usize = 0;
+    let mut next = done;
     for s in 0..n {
-        let more = write_state(out, done, part, first, m, n, x, i, s);
-        done = more;
+        next = write_state(out, next, part, first, m, n, x, i, s);
     }
-    done
+    next
 }

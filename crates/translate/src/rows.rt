@@ -6,14 +6,14 @@ use crate::shapes::SHAPES;
 ghost use mathlib.Core.List.{map};
 ghost use Prim.Native.Nat.{_+_, _*_, _^_, _<_, _≤_};
 ghost use lib.ListN.{length, take};
-ghost use Rattle.sets.specs.Lists.{range};
+ghost use Rattle.sets.specs.Lists.{numbersFrom};
 ghost use Rattle.sets.specs.Size.{stateLimit};
 ghost use Rattle.cases.specs.Limits.{transitionLimit};
 ghost use Rattle.translate.specs.Bytes.{allOperands};
-ghost use Rattle.translate.specs.Writing.{shapeCell};
-ghost use Rattle.translate.specs.Shapes.{shapeCells};
-ghost use Rattle.translate.specs.Parts.{WroteMore, WroteAll, WroteCellsAt, WroteCells, Recorded, Placed, distinctIn};
-ghost use Rattle.translate.specs.Sources.{Sources};
+ghost use Rattle.translate.specs.internal.Writing.{shapeCell};
+ghost use Rattle.translate.specs.internal.Shapes.{shapeCells};
+ghost use Rattle.translate.specs.internal.Parts.{WroteAll, WroteCellsAt, WroteCells, Recorded, distinctIn};
+ghost use Rattle.translate.specs.internal.Sources.{Sources};
 
 // The cells of node i, of a shape, behind those of the nodes before it. Answers how many operands come before those of the next node.
 fn write_cells_behind(
@@ -27,7 +27,7 @@ fn write_cells_behind(
     used: usize,
 ) -> usize
     requires { ⌜ Recorded (now part) (now first) m × (x .kind ≤ 8) × (12 * (i * n + n) ≤ length (now out)) × (m ≤ transitionLimit) × (n ≤ stateLimit) × (used < 2 ^ 32) ⌝ }
-    ensures { λ r. ⌜ WroteCellsAt (12 * (i * n)) used (map (shapeCell n (distinctIn (now (part .entry)) (now (first .entry)) m) x i) (range 0 n)) (now (out .entry)) (now (out .exit)) r ⌝ }
+    ensures { λ r. ⌜ WroteCellsAt (12 * (i * n)) used (map (shapeCell n (distinctIn (now (part .entry)) (now (first .entry)) m) x i) (numbersFrom 0 n)) (now (out .entry)) (now (out .exit)) r ⌝ }
 {
     let at = 12 * (i * n);
     write_cells(&mut out[at..], part, first, m, n, x, used)
@@ -49,30 +49,9 @@ pub fn write_all_cells(
     let mut used: usize = 0;
     for i in 0..k {
         let x = shapes[i];
-        let more = write_cells_behind(out, i, part, first, m, n, x, used);
-        used = more;
+        used = write_cells_behind(out, i, part, first, m, n, x, used);
     }
     used
-}
-
-// The operands of node i, of a shape, behind `done` numbers.
-fn write_operands_behind(
-    out: &mut [u8],
-    done: usize,
-    part: &[u8],
-    first: &[u8],
-    m: usize,
-    n: usize,
-    x: Shape,
-    i: usize,
-) -> usize
-    requires { ⌜ Recorded (now part) (now first) m × Placed n x i
-        × (4 * (done + length (allOperands (map (shapeCell n (distinctIn (now part) (now first) m) x i) (range 0 n)))) ≤ length (now out)) ⌝ }
-    ensures { λ r. ⌜ WroteMore done (allOperands (map (shapeCell n (distinctIn (now (part .entry)) (now (first .entry)) m) x i) (range 0 n))) (now (out .entry)) (now (out .exit)) r ⌝ }
-{
-    let at = 4 * done;
-    let more = write_operands(&mut out[at..], part, first, m, n, x, i);
-    done + more
 }
 
 // The operands of the first k nodes. Answers how many.
@@ -92,8 +71,7 @@ pub fn write_all_operands(
     let mut done: usize = 0;
     for i in 0..k {
         let x = shapes[i];
-        let more = write_operands_behind(out, done, part, first, m, n, x, i);
-        done = more;
+        done = write_operands(out, done, part, first, m, n, x, i);
     }
     done
 }

@@ -12,9 +12,9 @@ ghost use Rattle.cases.specs.Action.{Action};
 ghost use Rattle.cases.specs.Prefix.{actionAt};
 ghost use Rattle.cases.specs.Case.{copiesBefore};
 ghost use Rattle.cases.specs.Conditions.{nodeAt, isBinder};
-ghost use Rattle.cases.specs.Checks.{transitionsIn, nodesIn, Holds};
-ghost use Rattle.translate.specs.Shapes.{shapeIn};
-ghost use Rattle.translate.specs.Tabled.{FirstFlags, Blocks, Tables, HoldsShapes};
+ghost use Rattle.cases.specs.internal.Checks.{transitionsIn, nodesIn, Holds};
+ghost use Rattle.translate.specs.internal.Shapes.{shapeIn};
+ghost use Rattle.translate.specs.internal.Tabled.{FirstFlags, Blocks, Tables, HoldsShapes};
 
 // The limit on nodes, and one more for a nu that is put before the root.
 pub const SHAPES: usize = cases::NODES + 1;
@@ -36,11 +36,8 @@ pub fn first_appearances(part: &[u8], m: usize) -> [u8; TRANSITIONS]
     ensures { λ r. ⌜ FirstFlags (now (part .entry)) m r ⌝ }
 {
     let mut flags = [0u8; TRANSITIONS];
-    let mut j = 0;
-    while j < m {
-        let flag = first_flag(part, m, j);
-        flags[j] = flag;
-        j += 1;
+    for j in 0..m {
+        flags[j] = first_flag(part, m, j);
     }
     flags
 }
@@ -115,9 +112,6 @@ fn shape_at(actions: &[u8], a: usize, part: &[u8], f: usize, added: usize, i: us
     }
 }
 
-// The nu before a root that is no binder is one node.
-const ADDED: usize = 1;
-
 // How many nodes are put before the root: a nu where it is no binder.
 pub fn added_before(part: &[u8], f: usize) -> usize
     requires { ⌜ (4 * f ≤ length (now part)) × (1 ≤ f) ⌝ }
@@ -126,7 +120,7 @@ pub fn added_before(part: &[u8], f: usize) -> usize
     if cases::is_binder(cases::node_at(part, 0)) {
         return 0;
     }
-    ADDED
+    1
 }
 
 // The shapes of all nodes. Where a nu is put before the root, it is the first.
@@ -142,11 +136,8 @@ pub fn shapes_of(actions: &[u8], a: usize, part: &[u8], f: usize) -> [Shape; SHA
         labels: 0,
     };
     let mut shapes = [nu; SHAPES];
-    let mut i = 0;
-    while i < f {
-        let shape = shape_at(actions, a, part, f, added, i);
-        shapes[added + i] = shape;
-        i += 1;
+    for i in 0..f {
+        shapes[added + i] = shape_at(actions, a, part, f, added, i);
     }
     shapes
 }

@@ -6,19 +6,19 @@ ghost use mathlib.Core.Path.{_≡_};
 ghost use mathlib.Core.List.{map};
 ghost use Prim.Native.Nat.{_+_, ℕ, _*_, _≤_};
 ghost use lib.ListN.{length, take};
-ghost use Rattle.sets.specs.Lists.{range};
+ghost use Rattle.sets.specs.Lists.{numbersFrom};
 ghost use Rattle.sets.specs.Size.{stateLimit};
 ghost use Rattle.cases.specs.Limits.{transitionLimit, nodeLimit};
 ghost use Rattle.translate.specs.Bytes.{allOperands};
-ghost use Rattle.translate.specs.Writing.{shapeCell};
-ghost use Rattle.translate.specs.Shapes.{shapeCells};
-ghost use Rattle.translate.specs.Parts.{Recorded, distinctIn};
+ghost use Rattle.translate.specs.internal.Writing.{shapeCell};
+ghost use Rattle.translate.specs.internal.Shapes.{shapeCells};
+ghost use Rattle.translate.specs.internal.Parts.{Recorded, distinctIn};
 
-// Those of a node of a shape, in n states. A cell has at most 2,050.
+// Those of a node of a shape, in n states. A cell has two operands, or one for each of some transitions.
 fn node_total(part: &[u8], first: &[u8], m: usize, n: usize, x: Shape) -> usize
     requires { ⌜ Recorded (now part) (now first) m × (m ≤ transitionLimit) × (n ≤ stateLimit) ⌝ }
-    ensures { λ r. ⌜ ((i : ℕ) → r ≡ length (allOperands (map (shapeCell n (distinctIn (now (part .entry)) (now (first .entry)) m) x i) (range 0 n))))
-        × (r ≤ 2_050 * n) ⌝ }
+    ensures { λ r. ⌜ ((i : ℕ) → r ≡ length (allOperands (map (shapeCell n (distinctIn (now (part .entry)) (now (first .entry)) m) x i) (numbersFrom 0 n))))
+        × (r ≤ (transitionLimit + 2) * n) ⌝ }
 {
     let mut total: usize = 0;
     for s in 0..n {

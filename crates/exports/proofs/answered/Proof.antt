@@ -1,3 +1,4 @@
+-- `answered` meets its contract.
 use mathlib.Core.Path.{refl}
 use Rattle.routes.specs.Route.{shown}
 use Rattle.exports.specs.Exported.{exported}
@@ -10,7 +11,7 @@ numbers-of-requires c κs = search needs
 
 returns : tie.Need-returns
 unfolding exported shown
-returns c = (c .numbers-of .ensures, refl)
+returns c = record { numbers = c .numbers-of .ensures; length-is = refl }
 
 pub answered-spec : {M : Type 1} → statement M
 answered-spec = tie.close (tie.spec numbers-of-requires returns)

@@ -1,4 +1,5 @@
-use mathlib.Core.Path.{_∙_}
+-- `bithrowy_solve` meets its contract.
+use Rattle.exports.proofs.Saying.{solve-says}
 use borrow.Author.Needs.{needs}
 use Rattle.exports.proofs.bithrowy_solve.Statement.{statement}
 use Rattle.exports.proofs.bithrowy_solve.Tie as tie
@@ -19,12 +20,7 @@ same-length-2 : tie.Need-same-length-2
 same-length-2 c = search needs
 
 returns : tie.Need-returns
-returns c = record {
-  answer = _;
-  kept = c .before .before .before .before .before .before .solve .ensures;
-  numbers = c .answered .ensures .0 ∙ c .before .solving-answer .ensures;
-  length = c .answered .ensures .1;
-}
+returns c = solve-says (c .before .before .before .before .before .before .solve .ensures) (c .before .solving-answer .ensures) (c .answered .ensures)
 
 pub bithrowy-solve-spec : {M : Type 1} → statement M
 bithrowy-solve-spec =

@@ -1,5 +1,5 @@
 use mathlib.Core.Path.{_∙_}
-use Rattle.routes.specs.Route.{outcomeOf, refusalOf}
+use Rattle.routes.specs.Route.{tooShort, runConditions, routeConditions, routeOutcome}
 use borrow.Author.Needs.{needs}
 use Rattle.lines.proofs.by_direct.Statement.{statement}
 use Rattle.lines.proofs.by_direct.Tie as tie
@@ -14,8 +14,8 @@ numbers-of-requires : tie.Need-numbers-of-requires
 numbers-of-requires c κs = search needs
 
 returns : tie.Need-returns
-unfolding outcomeOf refusalOf
-returns c = c .numbers-of .ensures ∙ c .before .before .direct .ensures .answers
+unfolding routeOutcome routeConditions runConditions tooShort
+returns c = c .numbers-of .ensures ∙ c .before .before .direct .ensures .by .answers
 
 pub by-direct-spec : {M : Type 1} → statement M
 by-direct-spec =

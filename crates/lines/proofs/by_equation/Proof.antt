@@ -19,7 +19,7 @@ numbers-of-requires : tie.Need-numbers-of-requires
 numbers-of-requires c κs = search needs
 
 returns : tie.Need-returns
-returns c = c .numbers-of .ensures ∙ c .before .before .before .before .equation .ensures .answers
+returns c = c .numbers-of .ensures ∙ c .before .before .before .before .equation .ensures .ran .by .answers
 
 pub by-equation-spec : {M : Type 1} → statement M
 by-equation-spec =

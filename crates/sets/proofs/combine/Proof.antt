@@ -7,8 +7,8 @@ use native.Mathlib.Omega.{arith}
 use lib.Bits.{bitAnd, bitOr}
 use lib.ListN.{getD}
 use Rattle.sets.specs.Size.{wordCount}
-use Rattle.sets.specs.Lists.{range}
-use Rattle.sets.specs.Set.{has}
+use Rattle.sets.specs.Lists.{numbersFrom}
+use Rattle.sets.specs.States.{has}
 use Rattle.sets.proofs.Words.{Filled, filled-none, filled-more, words-filled}
 use Rattle.sets.proofs.Masks.{bitwise-either, word-combined}
 use Rattle.sets.proofs.combine.Statement.{statement}
@@ -57,7 +57,7 @@ loop-again c = filled-more (c .combine-word .result) (c .before .before .loop .i
 returns : tie.Need-returns Inv-loop μ-loop
 returns c n v w d e p q =
     let either = c .before .before .args .either in
-    words-filled (c .before .loop .inv) (omega arith) (map (λ s. cond either (has v s || has w s) (has v s && has w s)) (range 0 n))
+    words-filled (c .before .loop .inv) (omega arith) (map (λ s. cond either (has v s || has w s) (has v s && has w s)) (numbersFrom 0 n))
     λ j h. rw (p, q) (word-combined (bitwise-either either) wordCount n v w d e j h)
 
 pub combine-spec : {M : Type 1} → statement M

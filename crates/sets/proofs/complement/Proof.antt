@@ -7,15 +7,15 @@ use native.Mathlib.Omega.{arith}
 use lib.Bits.{bitXor}
 use lib.ListN.{getD}
 use Rattle.sets.specs.Size.{wordCount}
-use Rattle.sets.specs.Set.{start}
-use Rattle.sets.specs.Words.{number}
+use Rattle.sets.specs.States.{start}
+use Rattle.sets.specs.Words.{fromBits}
 use Rattle.sets.proofs.Words.{Filled, part, filled-none, filled-more, words-filled}
 use Rattle.sets.proofs.Masks.{word-complement}
 use Rattle.sets.proofs.complement.Statement.{statement}
 use Rattle.sets.proofs.complement.Tie as tie
 
 abbrev Inv-loop : tie.InvT-loop
-Inv-loop n held rest₀ i₀ rest i = Filled (λ j. bitXor (number (part (start n true) j)) (getD held j 0)) wordCount rest i
+Inv-loop n held rest₀ i₀ rest i = Filled (λ j. bitXor (fromBits (part (start n true) j)) (getD held j 0)) wordCount rest i
 
 abbrev μ-loop : tie.MeasureT-loop
 μ-loop n held rest₀ i₀ rest i = wordCount - i

@@ -3,7 +3,7 @@ use mathlib.Core.Path.{_≡_}
 use mathlib.Core.Logic.{⊎-elim}
 use Prim.Native.Nat.{_+_, _-_, _≤_}
 use native.Mathlib.Omega.{arith}
-use Rattle.sets.specs.Set.{size}
+use Rattle.sets.specs.States.{size}
 use Rattle.sets.specs.Words.{states, bit}
 use Rattle.sets.proofs.Words.{left, left-all, left-none, left-next}
 use Rattle.sets.proofs.count.Statement.{statement}

@@ -4,14 +4,14 @@ use mathlib.Core.Bool.{true}
 use Prim.Native.Nat.{_-_}
 use native.Mathlib.Omega.{arith}
 use Rattle.sets.specs.Size.{wordCount}
-use Rattle.sets.specs.Set.{start}
-use Rattle.sets.specs.Words.{number}
+use Rattle.sets.specs.States.{start}
+use Rattle.sets.specs.Words.{fromBits}
 use Rattle.sets.proofs.Words.{Filled, part, filled-none, filled-more, words-filled}
 use Rattle.sets.proofs.full.Statement.{statement}
 use Rattle.sets.proofs.full.Tie as tie
 
 abbrev Inv-loop : tie.InvT-loop
-Inv-loop n all₀ i₀ all i = Filled (λ j. number (part (start n true) j)) wordCount all i
+Inv-loop n all₀ i₀ all i = Filled (λ j. fromBits (part (start n true) j)) wordCount all i
 
 abbrev μ-loop : tie.MeasureT-loop
 μ-loop n all₀ i₀ all i = wordCount - i

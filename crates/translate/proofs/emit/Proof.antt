@@ -1,63 +1,51 @@
+-- `translate::emit` meets its contract. Assumes nothing.
+use mathlib.Core.Path.{refl}
 use native.Mathlib.Omega.{arith}
 use borrow.Author.Needs.{needs}
 use Rattle.translate.proofs.Filling.{cells-few, sizes, sizes-just, short, done}
 use Rattle.translate.proofs.emit.Statement.{statement}
 use Rattle.translate.proofs.emit.Tie as tie
-use Rattle.translate.proofs.emit.Reads as reads
 
--- src/lib.rt:86:9
 block-count-requires : tie.Need-block-count-requires
 block-count-requires c κs = search needs
 
--- src/lib.rt:87:9
 operand-total-requires : tie.Need-operand-total-requires
 operand-total-requires c κs = search needs
 
--- src/lib.rt:88:21
 mul-size : tie.Need-mul-size
 mul-size c = search needs
 
--- src/lib.rt:88:16
 add-size : tie.Need-add-size
 add-size c = search needs
 
--- src/lib.rt:88:35
 mul-size-2 : tie.Need-mul-size-2
 mul-size-2 c = omega (arith, cells-few (c .before .before .before .before .before .pre))
 
--- src/lib.rt:88:29
 mul-size-3 : tie.Need-mul-size-3
 mul-size-3 c = omega (arith, cells-few (c .before .before .before .before .before .pre))
 
--- src/lib.rt:88:16
 add-size-2 : tie.Need-add-size-2
 add-size-2 c = omega (arith, cells-few (c .before .before .before .before .before .pre))
 
--- src/lib.rt:88:44
 mul-size-4 : tie.Need-mul-size-4
 mul-size-4 c = search needs
 
--- src/lib.rt:88:16
 add-size-3 : tie.Need-add-size-3
 add-size-3 c = omega (arith, cells-few (c .before .before .before .before .before .pre), c .operand-total .ensures, c .before .before .before .before .before .pre .few-operands)
 
--- src/lib.rt:90:9
 returns : tie.Need-returns
 returns c =
     let s = c .before .before .before .before .before .before .pre in
-    short _ (sizes-just s _ (c .before .before .block-count .ensures .0 _) (c .before .before .block-count .ensures .1) (c .before .operand-total .ensures)) (omega arith)
+    short _ (sizes-just s _ (c .before .before .block-count .ensures .0 _) (c .before .before .block-count .ensures .1) (c .before .operand-total .ensures)) (omega arith) refl
 
--- src/lib.rt:92:5
 fill-requires : tie.Need-fill-requires
 fill-requires c κs =
     let s = c .before .before .before .before .before .before .before .pre in
     (s, sizes s _ (c .before .before .before .block-count .ensures .0 _) (c .before .before .before .block-count .ensures .1) (c .before .before .operand-total .ensures) (omega arith))
 
--- src/lib.rt:72:1
 same-length : tie.Need-same-length
 same-length c = search needs
 
--- src/lib.rt:72:1
 returns-2 : tie.Need-returns-2
 returns-2 c =
     let s = c .before .before .before .before .before .before .before .before .before .before .pre in

@@ -1,35 +1,29 @@
+-- `translate::fill` meets its contract. Assumes nothing.
 use mathlib.Core.Path.{refl}
 use native.Mathlib.Omega.{arith}
 use borrow.Author.Needs.{needs}
 use Rattle.translate.proofs.Filling.{cells-few, blocks-are, operands-are, filled-parts}
 use Rattle.translate.proofs.fill.Statement.{statement}
 use Rattle.translate.proofs.fill.Tie as tie
-use Rattle.translate.proofs.fill.Reads as reads
 
--- src/lib.rt:61:13
 mul-c : tie.Need-mul-c
 mul-c c = search needs
 
--- src/lib.rt:62:5
 put-header-requires : tie.Need-put-header-requires
 put-header-requires c κs =
     let p = c .before .before .before .before .pre in
     let room = p .1 .roomy in
     (omega arith, omega (arith, cells-few (p .0), p .1 .few-blocks))
 
--- src/lib.rt:64:18
 sub-write-blocks : tie.Need-sub-write-blocks
 sub-write-blocks c = search needs
 
--- src/lib.rt:64:18
 part-write-blocks-start : tie.Need-part-write-blocks-start
 part-write-blocks-start c = search needs
 
--- src/lib.rt:64:18
 part-write-blocks-end : tie.Need-part-write-blocks-end
 part-write-blocks-end c = search needs
 
--- src/lib.rt:64:5
 write-blocks-requires : tie.Need-write-blocks-requires
 write-blocks-requires c κs =
     let p = c .before .before .before .before .before .before .before .before .pre in
@@ -39,51 +33,39 @@ write-blocks-requires c κs =
     let are = blocks-are (p .0) _ (p .1) in
     search needs
 
--- src/lib.rt:65:26
 mul-cells : tie.Need-mul-cells
 mul-cells c = search needs
 
--- src/lib.rt:65:17
 add-cells : tie.Need-add-cells
 add-cells c = search needs
 
--- src/lib.rt:66:21
 sub-write-all-cells : tie.Need-sub-write-all-cells
 sub-write-all-cells c = search needs
 
--- src/lib.rt:66:21
 part-write-all-cells-start : tie.Need-part-write-all-cells-start
 part-write-all-cells-start c = search needs
 
--- src/lib.rt:66:21
 part-write-all-cells-end : tie.Need-part-write-all-cells-end
 part-write-all-cells-end c = search needs
 
--- src/lib.rt:66:5
 write-all-cells-requires : tie.Need-write-all-cells-requires
 write-all-cells-requires c κs = search needs
 
--- src/lib.rt:67:28
 mul-operands : tie.Need-mul-operands
 mul-operands c = search needs
 
--- src/lib.rt:67:20
 add-operands : tie.Need-add-operands
 add-operands c = search needs
 
--- src/lib.rt:68:24
 sub-write-all-operands : tie.Need-sub-write-all-operands
 sub-write-all-operands c = search needs
 
--- src/lib.rt:68:24
 part-write-all-operands-start : tie.Need-part-write-all-operands-start
 part-write-all-operands-start c = search needs
 
--- src/lib.rt:68:24
 part-write-all-operands-end : tie.Need-part-write-all-operands-end
 part-write-all-operands-end c = search needs
 
--- src/lib.rt:68:5
 write-all-operands-requires : tie.Need-write-all-operands-requires
 write-all-operands-requires c κs =
     let p = c .before .before .before .before .before .before .before .before .before .before .before .before .before .before .before .before .pre in
@@ -91,11 +73,9 @@ write-all-operands-requires c κs =
     let are = operands-are (p .0) _ (p .1) in
     (p .0, search needs)
 
--- src/lib.rt:45:1
 same-length : tie.Need-same-length
 same-length c = search needs
 
--- src/lib.rt:45:1
 returns : tie.Need-returns
 returns c =
     let p = c .before .before .before .before .before .before .before .before .before .before .before .before .before .before .before .before .before .before .before .pre in

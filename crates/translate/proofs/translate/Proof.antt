@@ -1,29 +1,39 @@
+-- `translate` meets its contract: the case is opened, and its equations are written.
 use borrow.Author.Needs.{needs}
+use Rattle.cases.proofs.Openings.{accepted, refused}
 use Rattle.translate.proofs.Translations.{case-refused}
 use Rattle.translate.proofs.translate.Statement.{statement}
 use Rattle.translate.proofs.translate.Tie as tie
-use Rattle.translate.proofs.translate.Reads as reads
 
--- src/lib.rt:115:9
-refusal-requires : tie.Need-refusal-requires
-refusal-requires c κs = search needs
+open-requires : tie.Need-open-requires
+open-requires c κs = search needs
 
--- src/lib.rt:117:9
-returns : tie.Need-returns
-returns c = case-refused _ _ _ (c .before .refusal .ensures) (c .if1 .taken)
+enum-known-h : tie.Need-enum-known-h
+enum-known-h c = search needs
 
--- src/lib.rt:119:5
 write-case-requires : tie.Need-write-case-requires
-write-case-requires c κs = search needs
+write-case-requires c κs = accepted (c .before .before .before .before .«open» .ensures) (c .before .before .h .given .1)
 
--- src/lib.rt:112:1
+enum-known-cause : tie.Need-enum-known-cause
+enum-known-cause c = search needs
+
 same-length : tie.Need-same-length
 same-length c = search needs
 
--- src/lib.rt:112:1
+returns : tie.Need-returns
+returns c = search needs
+
 returns-2 : tie.Need-returns-2
-returns-2 c = search needs
+returns-2 c = case-refused _ _ (refused (c .before .before .before .«open» .ensures) (c .before .cause .given .1) .0)
 
 pub translate-spec : {M : Type 1} → statement M
 translate-spec =
-    tie.close (tie.spec refusal-requires returns write-case-requires same-length returns-2)
+    tie.close
+    (tie.spec
+    open-requires
+    enum-known-h
+    write-case-requires
+    enum-known-cause
+    same-length
+    returns
+    returns-2)

@@ -4,7 +4,7 @@ use mathlib.Core.Path.{_≡_, refl, sym, _∙_}
 use native.Mathlib.Omega.{arith}
 use borrow.Author.Needs.{needs}
 use Rattle.cases.specs.Prefix.{actionArities, wholeFormulas}
-use Rattle.cases.specs.Checks.{nodesIn}
+use Rattle.cases.specs.internal.Checks.{nodesIn}
 use Rattle.cases.proofs.PrefixRules.{aritiesFrom, whole-done, whole-next}
 use Rattle.cases.proofs.conditions.actions_whole.Statement.{statement}
 use Rattle.cases.proofs.conditions.actions_whole.Tie as tie

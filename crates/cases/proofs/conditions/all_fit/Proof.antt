@@ -5,16 +5,16 @@ use native.Mathlib.Omega.{arith}
 use borrow.Author.Needs.{needs}
 use borrow.Author.Tests.{not-true, not-false}
 use lib.ListN.{drop}
-use Rattle.sets.specs.Lists.{range, all}
+use Rattle.sets.specs.Lists.{numbersFrom, every}
 use Rattle.cases.specs.File.{nodeIn}
-use Rattle.cases.specs.Checks.{fits}
+use Rattle.cases.specs.internal.Checks.{fits}
 use Rattle.cases.proofs.Checking.{tested, all-done, all-breaks, all-goes-on}
 use Rattle.cases.proofs.PrefixRules.{nodes-all}
 use Rattle.cases.proofs.conditions.all_fit.Statement.{statement}
 use Rattle.cases.proofs.conditions.all_fit.Tie as tie
 
 abbrev Inv-loop : tie.InvT-loop
-Inv-loop part k bound formula i₀ i = (i ≤ k) × (all (λ j. fits formula bound (nodeIn part j)) (range 0 k) ≡ all (λ j. fits formula bound (nodeIn part j)) (drop i (range 0 k)))
+Inv-loop part k bound formula i₀ i = (i ≤ k) × (every (λ j. fits formula bound (nodeIn part j)) (numbersFrom 0 k) ≡ every (λ j. fits formula bound (nodeIn part j)) (drop i (numbersFrom 0 k)))
 
 abbrev μ-loop : tie.MeasureT-loop
 μ-loop part k bound formula i₀ i = k - i

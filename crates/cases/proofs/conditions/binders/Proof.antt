@@ -4,7 +4,7 @@ use mathlib.Core.Path.{_≡_}
 use native.Mathlib.Omega.{arith}
 use borrow.Author.Needs.{needs}
 use Rattle.cases.specs.Conditions.{binderCount}
-use Rattle.cases.specs.Checks.{nodesIn}
+use Rattle.cases.specs.internal.Checks.{nodesIn}
 use Rattle.cases.proofs.PrefixRules.{nodesFrom}
 use Rattle.cases.proofs.FormulaRules.{binders-done, binders-next}
 use Rattle.cases.proofs.conditions.binders.Statement.{statement}

@@ -6,7 +6,7 @@ use native.Mathlib.Omega.{arith}
 use borrow.Author.Needs.{needs}
 use lib.ListN.{drop}
 use Rattle.cases.specs.Prefix.{formulaArities, arityIn, endOf, span, exactly}
-use Rattle.cases.specs.Checks.{nodesIn}
+use Rattle.cases.specs.internal.Checks.{nodesIn}
 use Rattle.cases.proofs.PrefixRules.{aritiesFrom, from-node, due-done, due-none, due-next}
 use Rattle.cases.proofs.conditions.subtree_at.Statement.{statement}
 use Rattle.cases.proofs.conditions.subtree_at.Tie as tie

@@ -5,7 +5,7 @@ use native.Mathlib.Omega.{arith}
 use borrow.Author.Needs.{needs}
 use borrow.Author.Tests.{not-true, not-false}
 use lib.ListN.{drop}
-use Rattle.sets.specs.Lists.{range, all}
+use Rattle.sets.specs.Lists.{numbersFrom, every}
 use Rattle.cases.specs.File.{transitionIn}
 use Rattle.cases.specs.Conditions.{transitionOk}
 use Rattle.cases.proofs.Checking.{tested, all-done, all-breaks, all-goes-on}
@@ -14,7 +14,7 @@ use Rattle.cases.proofs.conditions.transitions_hold.Statement.{statemen
 use Rattle.cases.proofs.conditions.transitions_hold.Tie as tie
 
 abbrev Inv-loop : tie.InvT-loop
-Inv-loop part m n l i₀ i = (i ≤ m) × (all (λ j. transitionOk n l (transitionIn part j)) (range 0 m) ≡ all (λ j. transitionOk n l (transitionIn part j)) (drop i (range 0 m)))
+Inv-loop part m n l i₀ i = (i ≤ m) × (every (λ j. transitionOk n l (transitionIn part j)) (numbersFrom 0 m) ≡ every (λ j. transitionOk n l (transitionIn part j)) (drop i (numbersFrom 0 m)))
 
 abbrev μ-loop : tie.MeasureT-loop
 μ-loop part m n l i₀ i = m - i

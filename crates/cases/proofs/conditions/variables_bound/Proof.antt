@@ -5,15 +5,15 @@ use native.Mathlib.Omega.{arith}
 use borrow.Author.Needs.{needs}
 use borrow.Author.Tests.{not-true, not-false}
 use lib.ListN.{drop}
-use Rattle.sets.specs.Lists.{range, all}
+use Rattle.sets.specs.Lists.{numbersFrom, every}
 use Rattle.cases.specs.Conditions.{boundOk}
-use Rattle.cases.specs.Checks.{nodesIn}
+use Rattle.cases.specs.internal.Checks.{nodesIn}
 use Rattle.cases.proofs.Checking.{all-done, all-breaks, all-goes-on}
 use Rattle.cases.proofs.conditions.variables_bound.Statement.{statement}
 use Rattle.cases.proofs.conditions.variables_bound.Tie as tie
 
 abbrev Inv-loop : tie.InvT-loop
-Inv-loop part f i₀ i = (i ≤ f) × (all (boundOk (nodesIn part f)) (range 0 f) ≡ all (boundOk (nodesIn part f)) (drop i (range 0 f)))
+Inv-loop part f i₀ i = (i ≤ f) × (every (boundOk (nodesIn part f)) (numbersFrom 0 f) ≡ every (boundOk (nodesIn part f)) (drop i (numbersFrom 0 f)))
 
 abbrev μ-loop : tie.MeasureT-loop
 μ-loop part f i₀ i = f - i

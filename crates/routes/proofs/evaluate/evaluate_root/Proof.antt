@@ -20,12 +20,12 @@ evaluate-requires : tie.Need-evaluate-requires
 evaluate-requires c κs =
     let s = c .before .before .before .before .before .before .before .before in
     let b = c .before .before .before .blocks-of .ensures in
-    root-asked (s .args .limit) (s .pre .2) (s .pre .0) (c .before .before .before .before .masks-of .ensures .0) (b .0) (b .1)
+    root-asked (s .args .limit) (s .pre .formula-part) (s .pre .model) (c .before .before .before .before .masks-of .ensures .0) (b .0) (b .1)
 
 returns : tie.Need-returns
 returns c =
     let s = c .before .before .before .before .before .before .before .before .before in
-    root-answer (s .args .limit) (s .pre .2) (c .before .before .before .before .before .masks-of .ensures .1) (c .evaluate .ensures)
+    root-answer (s .pre) (c .before .before .before .before .before .masks-of .ensures .1) (c .evaluate .ensures)
 
 pub evaluate-root-spec : {M : Type 1} → statement M
 evaluate-root-spec =

@@ -1,7 +1,7 @@
 -- `modal_set` meets its contract: a diamond by the sources into the set, a box without those out of it.
 use mathlib.Core.Bool.{false}
 use borrow.Author.Needs.{needs}
-use Rattle.cases.specs.Checks.{transitionsIn}
+use Rattle.cases.specs.internal.Checks.{transitionsIn}
 use Rattle.routes.proofs.ModalLaws.{sourcesOf, sources-length, diamond-sources, box-sources}
 use Rattle.routes.proofs.modal.modal_set.Statement.{statement}
 use Rattle.routes.proofs.modal.modal_set.Tie as tie

@@ -4,11 +4,11 @@ use Prim.Native.Nat.{_-_, _≤_}
 use native.Mathlib.Omega.{arith}
 use lib.ListN.{length}
 use Rattle.sets.specs.Size.{wordCount}
-use Rattle.sets.specs.Set.{Set}
+use Rattle.sets.specs.States.{States}
 use Rattle.sets.specs.Words.{words}
 use Rattle.cases.specs.Action.{Action}
-use Rattle.cases.specs.Masks.{maskOf}
-use Rattle.cases.specs.Checks.{transitionsIn}
+use Rattle.cases.specs.internal.Masks.{maskOf}
+use Rattle.cases.specs.internal.Checks.{transitionsIn}
 use Rattle.routes.proofs.ModalLaws.{in-range, sourcesOf, sources-length, sources-none, sources-next}
 use Rattle.routes.proofs.modal.sources.Statement.{statement}
 use Rattle.routes.proofs.modal.sources.Tie as tie
@@ -16,7 +16,7 @@ use Rattle.routes.proofs.modal.sources.Tie as tie
 abbrev Inv-loop : tie.InvT-loop
 Inv-loop records m n l labels inside set found₀ i₀ found i =
     (i ≤ m)
-    × ((α : Action) (v : Set) → labels ≡ maskOf α → length v ≡ n → set ≡ words wordCount v
+    × ((α : Action) (v : States) → labels ≡ maskOf α → length v ≡ n → set ≡ words wordCount v
     → found ≡ words wordCount (sourcesOf n α v inside (transitionsIn records i)))
 
 abbrev μ-loop : tie.MeasureT-loop

@@ -1,6 +1,7 @@
+-- `solving_answer` meets its contract.
 use mathlib.Core.Path.{sym, ap}
 use Rattle.solver.specs.Outcome as Solver
-use Rattle.routes.specs.Route.{outcome}
+use Rattle.routes.specs.Route.{routeNumber, outcome}
 use borrow.Author.Needs.{needs}
 use Rattle.routes.proofs.outcome.solving_answer.Statement.{statement}
 use Rattle.routes.proofs.outcome.solving_answer.Tie as tie
@@ -11,18 +12,13 @@ enum-known-answer c = search needs
 enum-known-answer-2 : tie.Need-enum-known-answer-2
 enum-known-answer-2 c = search needs
 
-solving-cause-requires : tie.Need-solving-cause-requires
-solving-cause-requires c κs = search needs
-
 returns : tie.Need-returns
 unfolding outcome Solver.outcome
 returns c = sym (ap Solver.outcome (c .before .answer .given .1))
 
 returns-2 : tie.Need-returns-2
-unfolding outcome Solver.outcome
-returns-2 c = cc
+unfolding routeNumber outcome Solver.outcome
+returns-2 c = sym (ap Solver.outcome (c .before .answer2 .given .1))
 
 pub solving-answer-spec : {M : Type 1} → statement M
-solving-answer-spec =
-    tie.close
-    (tie.spec enum-known-answer enum-known-answer-2 solving-cause-requires returns returns-2)
+solving-answer-spec = tie.close (tie.spec enum-known-answer enum-known-answer-2 returns returns-2)

@@ -2,7 +2,7 @@
 use mathlib.Core.Path.{refl}
 use Prim.Native.Nat.{_-_}
 use native.Mathlib.Omega.{arith}
-use Rattle.cases.specs.Checks.{nodesIn}
+use Rattle.cases.specs.internal.Checks.{nodesIn}
 use Rattle.cases.proofs.FormulaRules.{length-nodes}
 use Rattle.routes.proofs.TableLaws.{Counted, counted-none, counted-next, blocks-done}
 use Rattle.routes.proofs.tables.blocks_of.Statement.{statement}

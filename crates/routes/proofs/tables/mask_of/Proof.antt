@@ -2,7 +2,7 @@
 use borrow.Author.Needs.{needs}
 use native.Mathlib.Omega.{arith}
 use Rattle.cases.specs.Prefix.{actionAt}
-use Rattle.cases.specs.Checks.{nodesIn}
+use Rattle.cases.specs.internal.Checks.{nodesIn}
 use Rattle.routes.proofs.TableLaws.{kind-read, modal-arg, mask-read}
 use Rattle.routes.proofs.tables.mask_of.Statement.{statement}
 use Rattle.routes.proofs.tables.mask_of.Tie as tie

@@ -3,7 +3,7 @@ use mathlib.Core.Path.{refl}
 use Prim.Native.Nat.{_-_}
 use native.Mathlib.Omega.{arith}
 use Rattle.cases.specs.Prefix.{actionAt}
-use Rattle.cases.specs.Checks.{nodesIn}
+use Rattle.cases.specs.internal.Checks.{nodesIn}
 use Rattle.routes.proofs.TableLaws.{SetBefore, MaskAt, set-none, set-next, masks-done}
 use Rattle.routes.proofs.tables.masks_of.Statement.{statement}
 use Rattle.routes.proofs.tables.masks_of.Tie as tie

@@ -1,7 +1,7 @@
 use Prim.Native.Nat.{ℕ, _+_, _-_, _≤_}
 use mathlib.Core.Path.{_≡_, sym, _∙_}
 use native.Mathlib.Omega.{arith}
-use Rattle.solver.specs.Working.{Evaluated}
+use Rattle.solver.specs.internal.Working.{Evaluated}
 use Rattle.solver.proofs.Tables.{counted}
 use Rattle.solver.proofs.Shown.{evaluated-none, evaluated-more}
 use Rattle.solver.proofs.cells.evaluate.Statement.{statement}

@@ -13,25 +13,25 @@ variable-holds-requires : tie.Need-variable-holds-requires
 variable-holds-requires c κs = search needs
 
 returns : tie.Need-returns
-returns c = found-variable (c .before .before .before .before .before .pre .0) (c .before .before .before .before .before .pre .1 .0) (c .before .before .before .before .before .pre .1 .1) (c .before .before .before .entry-at .ensures) (c .before .if1 .taken) _ (c .variable-holds .ensures)
+returns c = found-variable (c .before .before .before .before .before .pre .0) (c .before .before .before .before .before .pre .1 .0) (c .before .before .before .before .before .pre .1 .1 .0) (c .before .before .before .before .before .pre .1 .1 .1) (c .before .before .before .entry-at .ensures) (c .before .if1 .taken) _ (c .variable-holds .ensures)
 
 returns-2 : tie.Need-returns-2
-returns-2 c = found-other (c .before .before .before .before .before .before .pre .0) (c .before .before .before .before .before .before .pre .1 .0) (c .before .before .before .before .before .before .pre .1 .1) (c .before .before .before .before .entry-at .ensures) (c .if2 .taken)
+returns-2 c = found-other (c .before .before .before .before .before .before .pre .0) (c .before .before .before .before .before .before .pre .1 .0) (c .before .before .before .before .before .before .pre .1 .1 .0) (c .before .before .before .before .before .before .pre .1 .1 .1) (c .before .before .before .before .entry-at .ensures) (c .if2 .taken)
 
 returns-3 : tie.Need-returns-3
-returns-3 c = found-elsewhere (c .before .before .before .before .before .before .before .before .pre .0) (c .before .before .before .before .before .before .before .before .pre .1 .0) (c .before .before .before .before .before .before .before .before .pre .1 .1) (c .before .before .before .before .before .before .entry-at .ensures) (omega arith) (c .if3 .taken)
+returns-3 c = found-elsewhere (c .before .before .before .before .before .before .before .before .pre .0) (c .before .before .before .before .before .before .before .before .pre .1 .0) (c .before .before .before .before .before .before .before .before .pre .1 .1 .0) (c .before .before .before .before .before .before .before .before .pre .1 .1 .1) (c .before .before .before .before .before .before .entry-at .ensures) (omega arith) (c .if3 .taken)
 
 sub-if4 : tie.Need-sub-if4
 sub-if4 c = search needs
 
 returns-4 : tie.Need-returns-4
-returns-4 c = found-past (c .before .before .before .before .before .before .before .before .before .before .before .pre .0) (c .before .before .before .before .before .before .before .before .before .before .before .pre .1 .0) (c .before .before .before .before .before .before .before .before .before .before .before .pre .1 .1) (c .before .before .before .before .before .before .before .before .before .entry-at .ensures) (omega arith) (omega arith)
+returns-4 c = found-past (c .before .before .before .before .before .before .before .before .before .before .before .pre .0) (c .before .before .before .before .before .before .before .before .before .before .before .pre .1 .0) (c .before .before .before .before .before .before .before .before .before .before .before .pre .1 .1 .0) (c .before .before .before .before .before .before .before .before .before .before .before .pre .1 .1 .1) (c .before .before .before .before .before .before .before .before .before .entry-at .ensures) (omega arith) (omega arith)
 
 operands-hold-requires : tie.Need-operands-hold-requires
 operands-hold-requires c κs = search needs
 
 returns-5 : tie.Need-returns-5
-returns-5 c = found-list (c .before .before .before .before .before .before .before .before .before .before .before .before .pre .0) (c .before .before .before .before .before .before .before .before .before .before .before .before .pre .1 .0) (c .before .before .before .before .before .before .before .before .before .before .before .before .pre .1 .1) (c .before .before .before .before .before .before .before .before .before .before .entry-at .ensures) (omega arith) (omega arith) (omega arith) _ (c .operands-hold .ensures)
+returns-5 c = found-list (c .before .before .before .before .before .before .before .before .before .before .before .before .pre .0) (c .before .before .before .before .before .before .before .before .before .before .before .before .pre .1 .0) (c .before .before .before .before .before .before .before .before .before .before .before .before .pre .1 .1 .0) (c .before .before .before .before .before .before .before .before .before .before .before .before .pre .1 .1 .1) (c .before .before .before .before .before .before .before .before .before .before .entry-at .ensures) (omega arith) (omega arith) (omega arith) _ (c .operands-hold .ensures)
 
 pub entry-span-spec : {M : Type 1} → statement M
 entry-span-spec =

@@ -2,14 +2,14 @@
 use Prim.Native.Nat.{_≤_, _-_}
 use mathlib.Core.Path.{_≡_, refl}
 use native.Mathlib.Omega.{arith}
-use Rattle.solver.specs.Checks.{listOk}
+use Rattle.solver.specs.Conditions.{operandsOk}
 use Rattle.solver.proofs.Reading.{operand-inside}
 use Rattle.solver.proofs.CellRules.{listLeft, list-ends, operand-low, operand-high, operand-goes-on}
 use Rattle.solver.proofs.conditions.operands_hold.Statement.{statement}
 use Rattle.solver.proofs.conditions.operands_hold.Tie as tie
 
 abbrev Inv-loop : tie.InvT-loop
-Inv-loop file sizes i from count cells j₀ j = (j ≤ count) × (listOk file i from count ≡ listLeft file i from count j)
+Inv-loop file sizes i from count cells j₀ j = (j ≤ count) × (operandsOk file i from count ≡ listLeft file i from count j)
 
 abbrev μ-loop : tie.MeasureT-loop
 μ-loop file sizes i from count cells j₀ j = count - j

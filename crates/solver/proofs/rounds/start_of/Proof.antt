@@ -4,7 +4,7 @@ use Prim.Native.Nat.{ℕ}
 use native.Mathlib.Omega.{arith}
 use lib.Dec.{eqb}
 use Rattle.sets.specs.Size.{wordCount}
-use Rattle.sets.specs.Set.{start}
+use Rattle.sets.specs.States.{start}
 use Rattle.sets.specs.Words.{words}
 use Rattle.solver.proofs.Tables.{counted}
 use Rattle.solver.proofs.Reading.{opens-read, few-blocks, block-inside}

@@ -5,7 +5,7 @@ use native.Mathlib.Omega.{arith}
 use lib.ListN.{length, length-set}
 use Rattle.solver.specs.Limits.{blockLimit}
 use Rattle.solver.specs.File.{stateCount, blockCount}
-use Rattle.solver.specs.Working.{Holds, starting}
+use Rattle.solver.specs.internal.Working.{Holds, starting}
 use Rattle.solver.proofs.Tables.{counted}
 use Rattle.solver.proofs.Reading.{few-blocks, row-fits}
 use Rattle.solver.proofs.Runs.{none-started, more-started}

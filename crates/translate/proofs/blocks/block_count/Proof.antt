@@ -7,7 +7,7 @@ use borrow.Author.Tests.{le-leb, lt-leb}
 use lib.Dec.{leb}
 use lib.ListN.{length}
 use Rattle.sets.specs.Words.{bit}
-use Rattle.translate.specs.Sources.{shapeAt}
+use Rattle.translate.specs.internal.Sources.{shapeAt}
 use Rattle.translate.proofs.BlockParts.{blocksTo, count-none, count-more}
 use Rattle.translate.proofs.blocks.block_count.Statement.{statement}
 use Rattle.translate.proofs.blocks.block_count.Tie as tie

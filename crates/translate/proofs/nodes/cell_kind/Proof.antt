@@ -1,7 +1,7 @@
 -- `translate::nodes::cell_kind` meets its contract. Assumes nothing.
 use mathlib.Core.Path.{refl}
 use borrow.Author.Needs.{needs}
-use Rattle.translate.specs.Writing.{shapeKind}
+use Rattle.translate.specs.internal.Writing.{shapeKind}
 use Rattle.translate.proofs.nodes.cell_kind.Statement.{statement}
 use Rattle.translate.proofs.nodes.cell_kind.Tie as tie
 

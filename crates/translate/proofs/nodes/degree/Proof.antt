@@ -5,7 +5,7 @@ use Prim.Native.Nat.{_+_, _-_, _≤_}
 use native.Mathlib.Omega.{arith}
 use lib.ListN.{length}
 use Rattle.sets.specs.Words.{bit}
-use Rattle.translate.specs.Parts.{leaving}
+use Rattle.translate.specs.internal.Parts.{leaving}
 use Rattle.translate.proofs.ShapeLaws.{degree-none, degree-more}
 use Rattle.translate.proofs.nodes.degree.Statement.{statement}
 use Rattle.translate.proofs.nodes.degree.Tie as tie

@@ -2,7 +2,7 @@
 use mathlib.Core.Path.{_∙_}
 use borrow.Author.Needs.{needs}
 use native.Mathlib.Omega.{arith}
-use Rattle.translate.specs.Parts.{distinctIn, leaving}
+use Rattle.translate.specs.internal.Parts.{distinctIn, leaving}
 use Rattle.translate.proofs.ShapeLaws.{pair-count, modal-count, none-count}
 use Rattle.translate.proofs.nodes.operand_count.Statement.{statement}
 use Rattle.translate.proofs.nodes.operand_count.Tie as tie

@@ -1,7 +1,7 @@
 -- `translate::nodes::write_cell` meets its contract. Assumes nothing.
 use borrow.Author.Needs.{needs}
 use native.Mathlib.Omega.{arith}
-use Rattle.translate.specs.Parts.{distinctIn}
+use Rattle.translate.specs.internal.Parts.{distinctIn}
 use Rattle.translate.proofs.ShapeLaws.{wrote-variable, wrote-list}
 use Rattle.translate.proofs.nodes.write_cell.Statement.{statement}
 use Rattle.translate.proofs.nodes.write_cell.Tie as tie

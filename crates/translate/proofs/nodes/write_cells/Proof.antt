@@ -5,17 +5,18 @@ use mathlib.Core.List.{map}
 use Prim.Native.Nat.{ℕ, _+_, _*_, _-_, _≤_}
 use native.Mathlib.Omega.{arith}
 use lib.ListN.{length}
-use Rattle.sets.specs.Lists.{range}
-use Rattle.translate.specs.Writing.{shapeCell}
-use Rattle.translate.specs.Parts.{WroteCells, distinctIn}
+use Rattle.sets.specs.Lists.{numbersFrom}
+use Rattle.translate.specs.internal.Writing.{shapeCell}
+use Rattle.cases.specs.Limits.{transitionLimit}
+use Rattle.translate.specs.internal.Parts.{WroteCells, distinctIn}
 use Rattle.translate.proofs.ShapeLaws.{wrote-no-cells, wrote-cell}
 use Rattle.translate.proofs.nodes.write_cells.Statement.{statement}
 use Rattle.translate.proofs.nodes.write_cells.Tie as tie
 
 abbrev Inv-loop : tie.InvT-loop
 Inv-loop out₀ part first m n x used next₀ s₀ out next s =
-    (s ≤ n) × ((i : ℕ) → WroteCells used (map (shapeCell n (distinctIn part first m) x i) (range 0 s)) out₀ out next)
-    × (next ≤ used + 2_050 * s) × (length out ≡ length out₀)
+    (s ≤ n) × ((i : ℕ) → WroteCells used (map (shapeCell n (distinctIn part first m) x i) (numbersFrom 0 s)) out₀ out next)
+    × (next ≤ used + (transitionLimit + 2) * s) × (length out ≡ length out₀)
 
 abbrev μ-loop : tie.MeasureT-loop
 μ-loop out₀ part first m n x used next₀ s₀ out next s = n - s

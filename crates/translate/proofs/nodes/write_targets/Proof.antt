@@ -3,22 +3,23 @@ use mathlib.Core.Path.{_≡_, refl}
 use Prim.Native.Nat.{_-_, _≤_}
 use native.Mathlib.Omega.{arith}
 use lib.ListN.{length}
-use Rattle.translate.specs.Parts.{WroteAll, leaving, targetCells}
-use Rattle.translate.proofs.Putting.{wrote-no-numbers, wrote-on}
+use Rattle.translate.specs.internal.Parts.{WroteMore, leaving, targetCells}
+use Rattle.translate.proofs.Putting.{wrote-no-more, wrote-further}
 use Rattle.translate.proofs.ShapeLaws.{targets-none, targets-more, targets-fit}
 use Rattle.translate.proofs.nodes.write_targets.Statement.{statement}
 use Rattle.translate.proofs.nodes.write_targets.Tie as tie
 
 abbrev Inv-loop : tie.InvT-loop
-Inv-loop out₀ part first m base s labels done₀ j₀ out done j = (j ≤ m) × WroteAll (targetCells base (leaving part first s labels j)) out₀ out done × (length out ≡ length out₀)
+Inv-loop out₀ done part first m base s labels next₀ j₀ out next j =
+    (j ≤ m) × WroteMore done (targetCells base (leaving part first s labels j)) out₀ out next × (length out ≡ length out₀)
 
 abbrev μ-loop : tie.MeasureT-loop
-μ-loop out₀ part first m base s labels done₀ j₀ out done j = m - j
+μ-loop out₀ done part first m base s labels next₀ j₀ out next j = m - j
 
 loop-holds : tie.Need-loop-holds Inv-loop μ-loop
 loop-holds c =
     let p = c .before .before .before .args in
-    (omega arith, rw (targets-none (p .part .now) (p .first .now) (p .s) (p .labels) (p .base)) (wrote-no-numbers (p .out .now)), refl)
+    (omega arith, rw (targets-none (p .part .now) (p .first .now) (p .s) (p .labels) (p .base)) (wrote-no-more (p .done) (p .out .now)), refl)
 
 write-target-requires : tie.Need-write-target-requires Inv-loop μ-loop
 write-target-requires c κs =
@@ -39,7 +40,7 @@ loop-again : tie.Need-loop-again Inv-loop μ-loop
 loop-again c =
     let p = c .before .before .before .before .before .before .before .before .before .args in (
       omega arith,
-      rw (targets-more (p .part .now) (p .first .now) (p .s) (p .labels) (p .base) (c .before .before .before .before .before .loop .j)) (wrote-on (c .before .before .before .before .before .loop .inv .1) (c .before .before .write-target .ensures)),
+      rw (targets-more (p .part .now) (p .first .now) (p .s) (p .labels) (p .base) (c .before .before .before .before .before .loop .j)) (wrote-further (omega arith) (c .before .before .before .before .before .loop .inv .1) (c .before .before .write-target .ensures)),
       omega arith,
     )
 

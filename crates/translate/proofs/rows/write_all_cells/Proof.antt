@@ -5,7 +5,7 @@ use Prim.Native.Nat.{_-_, _≤_}
 use native.Mathlib.Omega.{arith}
 use lib.ListN.{length}
 use Rattle.cases.specs.declared.Transition.{Transition}
-use Rattle.translate.specs.Parts.{WroteCells, distinctIn}
+use Rattle.translate.specs.internal.Parts.{WroteCells, distinctIn}
 use Rattle.translate.proofs.NodeParts.{cellsTo, operands-fewer}
 use Rattle.translate.proofs.RowLaws.{rows-fit, wrote-no-rows, wrote-row}
 use Rattle.translate.proofs.rows.write_all_cells.Statement.{statement}

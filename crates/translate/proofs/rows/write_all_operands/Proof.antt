@@ -6,7 +6,7 @@ use native.Mathlib.Omega.{arith}
 use lib.ListN.{length}
 use Rattle.cases.specs.declared.Transition.{Transition}
 use Rattle.translate.specs.Bytes.{allOperands}
-use Rattle.translate.specs.Parts.{WroteAll, distinctIn}
+use Rattle.translate.specs.internal.Parts.{WroteAll, distinctIn}
 use Rattle.translate.proofs.Putting.{wrote-on}
 use Rattle.translate.proofs.NodeParts.{cellsTo, operands-more, operands-fewer}
 use Rattle.translate.proofs.RowLaws.{wrote-no-operands}
@@ -31,8 +31,8 @@ mul-x c = omega arith
 array-copy-out-x : tie.Need-array-copy-out-x Inv-loop μ-loop
 array-copy-out-x c = omega arith
 
-write-operands-behind-requires : tie.Need-write-operands-behind-requires Inv-loop μ-loop
-write-operands-behind-requires c κs =
+write-operands-requires : tie.Need-write-operands-requires Inv-loop μ-loop
+write-operands-requires c κs =
     let p = c .before .before .before .before .before .before .before .args in
     let s = c .before .before .before .before .before .before .before .pre .0 in
     let ts : List Transition = distinctIn (p .part .now) (p .first .now) (p .m) in (
@@ -52,7 +52,7 @@ loop-again c =
     let p = c .before .before .before .before .before .before .before .before .before .before .args in (
       omega arith,
       rw (operands-more (p .n) (distinctIn (p .part .now) (p .first .now) (p .m)) (p .t6) (c .before .before .before .before .before .before .loop .i) (omega arith))
-          (wrote-on (c .before .before .before .before .before .before .loop .inv .1) (c .before .before .write-operands-behind .ensures)),
+          (wrote-on (c .before .before .before .before .before .before .loop .inv .1) (c .before .before .write-operands .ensures)),
       omega arith,
     )
 
@@ -73,7 +73,7 @@ write-all-operands-spec =
     loop-holds
     mul-x
     array-copy-out-x
-    write-operands-behind-requires
+    write-operands-requires
     add-i
     loop-less
     loop-again

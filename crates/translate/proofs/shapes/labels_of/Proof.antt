@@ -1,7 +1,7 @@
 -- `labels_of` meets its contract.
 use borrow.Author.Needs.{needs}
 use Rattle.cases.specs.Prefix.{actionAt}
-use Rattle.cases.specs.Checks.{nodesIn}
+use Rattle.cases.specs.internal.Checks.{nodesIn}
 use Rattle.translate.proofs.ShapeFields.{modal-arg, labels-there, labels-none}
 use Rattle.translate.proofs.shapes.labels_of.Statement.{statement}
 use Rattle.translate.proofs.shapes.labels_of.Tie as tie

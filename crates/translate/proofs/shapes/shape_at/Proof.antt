@@ -1,8 +1,8 @@
 -- `shape_at` meets its contract, field by field.
 use borrow.Author.Needs.{needs}
 use Rattle.cases.specs.Prefix.{actionAt}
-use Rattle.cases.specs.Checks.{nodesIn}
-use Rattle.translate.specs.Shapes.{shapeIn}
+use Rattle.cases.specs.internal.Checks.{nodesIn}
+use Rattle.translate.specs.internal.Shapes.{shapeIn}
 use Rattle.translate.proofs.ShapeFields.{kind-read, by-fields}
 use Rattle.translate.proofs.shapes.shape_at.Statement.{statement}
 use Rattle.translate.proofs.shapes.shape_at.Tie as tie

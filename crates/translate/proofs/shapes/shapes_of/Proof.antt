@@ -2,7 +2,7 @@
 use Prim.Native.Nat.{_-_}
 use native.Mathlib.Omega.{arith}
 use Rattle.cases.specs.Prefix.{actionAt}
-use Rattle.cases.specs.Checks.{nodesIn}
+use Rattle.cases.specs.internal.Checks.{nodesIn}
 use Rattle.cases.proofs.FormulaRules.{length-nodes}
 use Rattle.translate.proofs.ShapeFields.{ShapesBefore, shapes-none, shapes-next, shapes-done}
 use Rattle.translate.proofs.shapes.shapes_of.Statement.{statement}

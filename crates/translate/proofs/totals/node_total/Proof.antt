@@ -1,16 +1,17 @@
 -- `translate::totals::node_total` meets its contract. The loop's invariant: the total is that of the states passed. Assumes nothing.
 use mathlib.Core.Path.{_≡_}
 use mathlib.Core.List.{List}
-use Prim.Native.Nat.{ℕ, _*_, _-_, _≤_}
+use Prim.Native.Nat.{ℕ, _+_, _*_, _-_, _≤_}
 use native.Mathlib.Omega.{arith}
 use Rattle.cases.specs.declared.Transition.{Transition}
-use Rattle.translate.specs.Parts.{distinctIn}
+use Rattle.cases.specs.Limits.{transitionLimit}
+use Rattle.translate.specs.internal.Parts.{distinctIn}
 use Rattle.translate.proofs.TotalLaws.{stateTotal, states-none, states-more}
 use Rattle.translate.proofs.totals.node_total.Statement.{statement}
 use Rattle.translate.proofs.totals.node_total.Tie as tie
 
 abbrev Inv-loop : tie.InvT-loop
-Inv-loop part first m n x total₀ s₀ total s = (s ≤ n) × ((i : ℕ) → total ≡ stateTotal n (distinctIn part first m) x i s) × (total ≤ 2_050 * s)
+Inv-loop part first m n x total₀ s₀ total s = (s ≤ n) × ((i : ℕ) → total ≡ stateTotal n (distinctIn part first m) x i s) × (total ≤ (transitionLimit + 2) * s)
 
 abbrev μ-loop : tie.MeasureT-loop
 μ-loop part first m n x total₀ s₀ total s = n - s

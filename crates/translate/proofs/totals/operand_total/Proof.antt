@@ -1,18 +1,18 @@
--- `translate::totals::operand_total` meets its contract. The loop's invariant: the total is that of the nodes passed. A node has at most
--- 2,050 operands in each of 256 states. Assumes nothing.
+-- `translate::totals::operand_total` meets its contract. The loop's invariant: the total is that of the nodes passed. Assumes nothing.
 use mathlib.Core.Path.{_≡_}
 use mathlib.Core.List.{List}
-use Prim.Native.Nat.{ℕ, _*_, _-_, _≤_}
+use Prim.Native.Nat.{ℕ, _+_, _*_, _-_, _≤_}
 use native.Mathlib.Omega.{arith}
 use Rattle.sets.specs.Size.{stateLimit}
 use Rattle.cases.specs.declared.Transition.{Transition}
-use Rattle.translate.specs.Parts.{distinctIn}
+use Rattle.cases.specs.Limits.{transitionLimit}
+use Rattle.translate.specs.internal.Parts.{distinctIn}
 use Rattle.translate.proofs.TotalLaws.{nodeTotal, nodes-none, nodes-more}
 use Rattle.translate.proofs.totals.operand_total.Statement.{statement}
 use Rattle.translate.proofs.totals.operand_total.Tie as tie
 
 abbrev Inv-loop : tie.InvT-loop
-Inv-loop part first m n k shapes total₀ i₀ total i = (i ≤ k) × (total ≡ nodeTotal n (distinctIn part first m) shapes i) × (total ≤ 2_050 * stateLimit * i)
+Inv-loop part first m n k shapes total₀ i₀ total i = (i ≤ k) × (total ≡ nodeTotal n (distinctIn part first m) shapes i) × (total ≤ (transitionLimit + 2) * stateLimit * i)
 
 abbrev μ-loop : tie.MeasureT-loop
 μ-loop part first m n k shapes total₀ i₀ total i = k - i

@@ -1,0 +1,2 @@
+-- Laws of the crate's definitions.
+pub mod Saying

@@ -1,0 +1,2 @@
+-- What serves the contracts of functions only.
+pub mod Saying

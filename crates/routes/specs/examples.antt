@@ -1,0 +1,3 @@
+-- Worked values, computed by the checker.
+pub mod Paper
+pub mod Further

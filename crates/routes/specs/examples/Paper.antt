@@ -1,0 +1,69 @@
+-- P1 to P8 of the scope: what both routes answer, with the memory that the program lends.
+use mathlib.Core.Path.{_≡_, refl}
+use mathlib.Core.List.{List, [], _∷_, map}
+use Prim.Native.Nat.{ℕ}
+use Rattle.sets.specs.Lists.{numbersFrom, every, forSome}
+use Rattle.sets.specs.States.{same, size}
+use Rattle.sets.specs.Loop.{iterate}
+use Rattle.solver.specs.Cells.{evaluate, workOut, value, operandsOf}
+use Rattle.sets.specs.Valuation.{bind}
+use Rattle.solver.specs.File.{u32, blocks, operands, entries, cells, entryCell}
+use Rattle.solver.specs.Rounds.{solved}
+use Rattle.sets.specs.Refusals.{Outcome, refused, firstOf, outcomeBy}
+use Rattle.solver.specs.Outcome.{tooShort, run}
+use Rattle.cases.specs.Action.{accepts}
+use Rattle.cases.specs.Formula.{nodes}
+use Rattle.cases.specs.Prefix.{trees, actionAt, formulaAt, wholeFormulas, exactly, span}
+use Rattle.cases.specs.File.{u16, transitionTable, actionTable, formulaTable}
+use Rattle.cases.specs.Case.{caseOf, sameTransition, copies, copiesBefore, keep, distinct}
+use Rattle.cases.specs.Conditions.{tooSmall, otherVersion, badCount, badOffset, badLength, badModel, badActions, badFormula, boundOk, badVariable, binderCount, blockTotal, tooDeep, layoutConditions, modelConditions, formulaConditions, caseConditions}
+use Rattle.translate.specs.Whole.{raise, bindsFirst, whole, binderNodes, indexIn, blockIn}
+use Rattle.translate.specs.Cells.{targets, cellOf, cellsFrom, blocksFrom}
+use Rattle.translate.specs.Bytes.{systemOf, allOperands, blockNumbers, cellNumbers, numbers, bytes, fileOf}
+use Rattle.translate.specs.Translating.{file}
+use Rattle.translate.specs.examples.Translations.{halves, caseFile, still, p1, p1Equations, p2, p3, p4, p5, p6, p7, p8}
+use Rattle.routes.specs.Direct.{worked}
+use Rattle.routes.specs.Program.{programLimit, programMemory}
+use Rattle.routes.specs.Route.{Route, direct, equation, runOf, tooShort as Route·tooShort, exceeds as Route·exceeds, runConditions, routeConditions, routeReport, routeOutcome, outcomeOf}
+
+-- a case, a limit, and what the equation route and direct answer
+abbrev pub Example : Type 0
+Example = List ℕ × ℕ × Outcome × Outcome
+
+-- a report of verdict, count and rounds
+unfoldable pub reported : ℕ → ℕ → ℕ → Outcome
+reported v c r = record { refusal = 0; verdict = v; count = c; rounds = r }
+
+pub paper : List Example
+unfolding p1 p2 p3 p4 p5 p6 p7 p8 still caseFile halves reported
+paper =
+    (p1, programLimit, reported 1 3 4, reported 1 3 4)
+    ∷ (p1, 3, refused 14, refused 14)
+    ∷ (p2, programLimit, reported 1 2 4, reported 1 2 4)
+    ∷ (p3, programLimit, reported 0 0 4, reported 0 0 4)
+    -- Without a binder direct takes no round.
+    ∷ (p4, programLimit, reported 1 1 1, reported 1 1 0)
+    ∷ (p5, programLimit, reported 1 1 1, reported 1 1 0)
+    ∷ (p6, programLimit, reported 0 0 2, reported 0 0 0)
+    ∷ (p7, programLimit, refused 10, refused 10)
+    ∷ (p8, programLimit, reported 1 1 6, reported 1 1 6)
+    ∷ []
+
+-- what a route answers, with all that this computes with
+unfoldable pub answer : Route → Example → Outcome
+unfolding routeOutcome outcomeBy routeConditions runConditions Route·tooShort Route·exceeds routeReport runOf worked iterate bind
+    same size numbersFrom every forSome accepts nodes u16 transitionTable actionTable formulaTable trees actionAt formulaAt caseOf
+    sameTransition copies copiesBefore keep distinct caseConditions firstOf layoutConditions modelConditions formulaConditions
+    tooSmall otherVersion badCount badOffset badLength badModel badActions badFormula boundOk badVariable binderCount blockTotal
+    tooDeep wholeFormulas exactly span fileOf numbers systemOf bytes cellNumbers blockNumbers allOperands operandsOf cellsFrom
+    blocksFrom cellOf targets whole raise bindsFirst binderNodes indexIn blockIn tooShort run solved evaluate workOut value u32
+    blocks operands entries entryCell cells
+answer R x = outcomeOf R (x .0) programMemory (x .1)
+
+-- P1 to P8 come out as given, by both routes; P1 has its equation file, and P7 has d 7
+pub runs : (map (answer equation) paper ≡ map (λ (x : Example). x .2) paper)
+    × (map (answer direct) paper ≡ map (λ (x : Example). x .3) paper)
+    × (file p1 ≡ p1Equations)
+    × (blockTotal (formulaTable p7) ≡ 7)
+unfolding answer paper p1Equations
+runs = (refl, refl, refl, refl)

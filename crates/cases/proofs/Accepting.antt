@@ -8,9 +8,8 @@ use native.Mathlib.Decide.{ℕ-discrete}
 use Rattle.sets.specs.Lists.{every}
 use Rattle.sets.specs.Refusals.{Conditions, firstOf}
 use Rattle.sets.proofs.Refusals as first
-use Rattle.cases.specs.File.{headerOf, actionCount, formulaTable}
-use Rattle.cases.specs.Conditions.{badModel, badActions, badFormula, badVariable, tooDeep}
-use Rattle.cases.specs.Conditions.{layoutConditions, modelConditions, formulaConditions, caseConditions, caseRefusal, Accepted}
+use Rattle.cases.specs.File.{headerOf, formulaTable}
+use Rattle.cases.specs.Conditions.{badModel, badActions, badFormula, badVariable, tooDeep, layoutConditions, modelConditions, formulaConditions, caseConditions, caseRefusal, Accepted}
 use Rattle.cases.specs.internal.Checks.{Laid}
 use Rattle.cases.proofs.LayoutRules.{laid}
 
@@ -19,7 +18,7 @@ pub record Passed (b : List ℕ) : Type 0 where
   pub lies : Laid b (headerOf b)
   pub model : badModel b ≡ false
   pub actions : badActions b ≡ false
-  pub formula : badFormula (actionCount b) (formulaTable b) ≡ false
+  pub formula : badFormula (headerOf b .actions) (formulaTable b) ≡ false
   pub variables : badVariable (formulaTable b) ≡ false
   pub depth : tooDeep (formulaTable b) ≡ false
 

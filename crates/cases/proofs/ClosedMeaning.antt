@@ -5,11 +5,11 @@ use mathlib.Core.List.{List, [], _∷_}
 use Prim.Native.Nat.{ℕ}
 use lib.Dec.{T, eqb, eqb→eq}
 use Rattle.sets.specs.Lists.{forSome}
-use Rattle.sets.specs.States.{States}
+use Rattle.sets.specs.States.{States, Valuation, Sized}
 use Rattle.sets.proofs.Lists.{and-left, and-right}
-use Rattle.sets.specs.Valuation.{Valuation, Sized}
 use Rattle.cases.specs.Action.{Action}
-use Rattle.cases.specs.Formula.{Formula, False, True, And, Or, Box, Diamond, Variable, Fix, free}
+use Rattle.cases.specs.Formula.{Formula, False, True, And, Or, Box, Diamond, Variable, Fix}
+use Rattle.cases.specs.internal.Scope.{free}
 use Rattle.cases.specs.declared.Transition.{Transition}
 use Rattle.cases.specs.Prefix.{Node, formulaAt}
 use Rattle.cases.specs.Conditions.{badVariable}

@@ -9,7 +9,8 @@ use lib.Dec.{eqb}
 use lib.ListN.{length, getD, drop, take, length-map, length-drop}
 use lib.Seq.{drop-cons, drop-drop, take-add, take-all, length-take-le}
 use Rattle.cases.specs.Action.{Action}
-use Rattle.cases.specs.Formula.{Formula, nodes, binders}
+use Rattle.cases.specs.Formula.{Formula, nodes}
+use Rattle.cases.specs.internal.Scope.{binders}
 use Rattle.cases.specs.Prefix.{Node, arityIn, formulaArities, span, endOf, formulaAt}
 use Rattle.cases.specs.Conditions.{nodeAt, binderCount}
 use Rattle.cases.specs.internal.Tables.{made, formulaOperator, FormulaTable}

@@ -9,7 +9,7 @@ use lib.Dec.{ltb}
 use lib.ListN.{length}
 use Rattle.sets.specs.Lists.{numbersFrom, every}
 use Rattle.sets.proofs.Lists.{length-map-range}
-use Rattle.solver.specs.Limits.{blockLimit}
+use Rattle.solver.specs.File.{blockLimit}
 use Rattle.cases.specs.Prefix.{Node, arityIn, formulaArities, exactly, endOf}
 use Rattle.cases.specs.File.{nodeIn}
 use Rattle.cases.specs.Conditions.{nodeOk, badFormula, isBinder, nodeAt, boundOk, badVariable, binderCount, blockTotal, tooDeep}

@@ -5,23 +5,17 @@ use mathlib.Core.List.{List, [], _∷_}
 use Prim.Native.Nat.{ℕ, _≤_, _<_}
 use native.Mathlib.Omega.{arith}
 use borrow.Author.Tests.{le-ltb, lt-ltb, eq-eqb, ne-eqb, eqb-true, not-false, ltb-false}
-use lib.Dec.{T, eqb, leb, leb→le, eqb→eq}
+use lib.Dec.{T, eqb, eqb→eq}
 use lib.ListN.{length}
 use Rattle.sets.specs.Lists.{every}
-use Rattle.sets.specs.Size.{stateLimit}
-use Rattle.sets.specs.Refusals.{between, firstOf}
-use Rattle.sets.proofs.Lists.{and-left, and-right}
-use Rattle.sets.proofs.Refusals.{holds-here, holds-later, none-holds, none-here}
-use Rattle.cases.specs.Limits.{labelLimit, transitionLimit, actionLimit, nodeLimit}
-use Rattle.cases.specs.File.{Header, headerSize, version, headerOf, transitionsStart, actionsStart, formulaStart, fileEnd}
+use Rattle.sets.specs.Words.{stateLimit}
+use Rattle.sets.specs.Refusals.{firstOf}
+use Rattle.sets.proofs.Refusals.{holds-here, holds-later, none-holds, none-here, bounds}
+use Rattle.cases.specs.File.{Header, headerSize, version, headerOf, transitionsStart, actionsStart, formulaStart, fileEnd, labelLimit, transitionLimit, actionLimit, nodeLimit}
 use Rattle.cases.specs.Conditions.{tooSmall, otherVersion, badCount, badOffset, badLength, layoutConditions}
-use Rattle.cases.specs.internal.Checks.{Counts, Laid}
+use Rattle.cases.specs.internal.Checks.{CountsFit, Laid}
 
 -- ---- 3
-
--- a number that is tested to be in a range
-bounds : (low high x : ℕ) → T (between low high x) → (low ≤ x) × (x ≤ high)
-bounds low high x t = (leb→le low x (and-left (leb low x) (leb x high) t), leb→le x high (and-right (leb low x) (leb x high) t))
 
 -- tests that all hold
 three : (a b c : Bool) → not (a && b && c) ≡ false → T a × T b × T c
@@ -40,7 +34,7 @@ five true false c d e h = absurd (true≢false h)
 five false b c d e h = absurd (true≢false h)
 
 module _ (h : Header) where
-  pub counts-hold : badCount h ≡ false → Counts h
+  pub counts-hold : badCount h ≡ false → CountsFit h
   unfolding badCount
   counts-hold e =
       let t = five _ _ _ _ _ e in

@@ -14,10 +14,9 @@ use lib.Seq.{drop-cons, drop-drop, drop-length, getD-drop, getD-set-same, drop-s
 use Rattle.sets.specs.Lists.{numbersFrom, every}
 use Rattle.sets.proofs.Lists.{drop-map, length-range, length-table, table-at, and-left, and-right, all-at}
 use Rattle.sets.proofs.Masks.{bitwise-and, bitwise-or, number-false, number-true, number-bitwise, number-not, number-one}
-use Rattle.cases.specs.Limits.{labelLimit, actionLimit}
 use Rattle.cases.specs.Action.{Action, accepts}
 use Rattle.cases.specs.Prefix.{Node, arityIn, actionArities, wholeFormulas, trees, placeAction, actionAt}
-use Rattle.cases.specs.File.{nodeIn, labelCount, actionTable}
+use Rattle.cases.specs.File.{nodeIn, headerOf, actionTable, labelLimit, actionLimit}
 use Rattle.cases.specs.Conditions.{nodeAt, actionOk, badActions}
 use Rattle.cases.specs.internal.Masks.{maskOf, actionOf, WholeActions}
 use Rattle.cases.specs.internal.Tables.{made, actionOperator}
@@ -216,15 +215,15 @@ label-small : (l : ℕ) (x : Node) → T (actionOk l x) → x .kind ≡ 2 → x 
 label-small l x t e = ltb→lt (x .arg) l (rw (eq-eqb (x .kind) 2 e) at (and-right (leb (x .kind) 6) (cond (eqb (x .kind) 2) (ltb (x .arg) l) (eqb (x .arg) 0)) t))
 
 -- an action table that passes can be read
-pub whole-actions : (b : List ℕ) → badActions b ≡ false → labelCount b ≤ labelLimit → WholeActions (actionTable b)
+pub whole-actions : (b : List ℕ) → badActions b ≡ false → headerOf b .labels ≤ labelLimit → WholeActions (actionTable b)
 unfolding badActions
 whole-actions b e h =
     let t : List Node = actionTable b in
-    let oks : Bool = every (actionOk (labelCount b)) t in
+    let oks : Bool = every (actionOk (headerOf b .labels)) t in
     let fits : Bool = wholeFormulas 0 (map (arityIn actionArities) t) in
     let each : T oks = and-left oks fits (held (oks && fits) (not-false (oks && fits) e)) in
     record {
       known = action-table b e .kinds;
-      small = λ i g k. omega (arith, label-small (labelCount b) (nodeAt t i) (all-at (actionOk (labelCount b)) t i (record { kind = 0; arg = 0 }) g each) k);
+      small = λ i g k. omega (arith, label-small (headerOf b .labels) (nodeAt t i) (all-at (actionOk (headerOf b .labels)) t i (record { kind = 0; arg = 0 }) g each) k);
       whole = action-table b e .whole;
     }

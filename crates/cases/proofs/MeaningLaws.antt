@@ -10,18 +10,19 @@ use borrow.Author.Tests.{eq-eqb}
 use lib.Dec.{T, eqb, eqb→eq, eqb-refl, T-not, not-T}
 use lib.ListN.{length, getD, take, replicate, length-replicate}
 use Rattle.sets.specs.Lists.{numbersFrom, every, forSome}
-use Rattle.sets.specs.States.{States, has, Subset, same, start, Extremal}
-use Rattle.sets.specs.Loop.{Worked, iterate}
+use Rattle.sets.specs.States.{States, has, Subset, start, Extremal, Valuation, update, Sized}
+use Rattle.sets.specs.computed.Iteration.{Worked, iterate, same}
 use Rattle.sets.proofs.Lists.{length-map-range, getD-map-range, and-left, and-right, and-both, or-left, or-right, Implies, kept-implies}
 use Rattle.sets.proofs.Order.{before-eq, subset-antisym, extremal-map, extremal-one}
 use Rattle.sets.proofs.FixedPoint.{extremal, fixed-mono}
-use Rattle.sets.specs.Valuation.{Valuation, bind, Sized}
-use Rattle.sets.proofs.Valuation.{bind-sized, bind-mono}
+use Rattle.sets.proofs.Valuation.{update-sized, update-mono}
 use Rattle.cases.specs.Action.{Action}
-use Rattle.cases.specs.Formula.{Formula, False, True, And, Or, Box, Diamond, Variable, Fix, free}
+use Rattle.cases.specs.Formula.{Formula, False, True, And, Or, Box, Diamond, Variable, Fix}
+use Rattle.cases.specs.internal.Scope.{free, Within}
 use Rattle.cases.specs.File.{Transition}
-use Rattle.cases.specs.Case.{sameTransition, copies, transitionAt, copiesBefore, keep, distinct, Within}
-use Rattle.cases.specs.Meaning.{setOf, from, boxIn, diamondIn, Means, meaning}
+use Rattle.cases.specs.Case.{sameTransition, copies, transitionAt, copiesBefore, keep, distinct}
+use Rattle.cases.specs.Meaning.{setOf, from, boxIn, diamondIn, Means}
+use Rattle.cases.specs.computed.Meanings.{meaning}
 
 -- ---- any and all
 
@@ -188,7 +189,7 @@ distinct-within ts t m =
 module _ (n : ℕ) (ts : List Transition) where
   -- one turn at the binder of variable i
   abbrev pub bodyOf : ℕ → Formula → Valuation → States → Worked
-  bodyOf i a ρ v = (meaning n ts a (bind ρ i v), 0)
+  bodyOf i a ρ v = (meaning n ts a (update ρ i v), 0)
 
 -- a loop of steps that keep the number of states keeps it
 iterate-sized : (n : ℕ) (f : States → Worked) → ((v : States) → length v ≡ n → length (f v .0) ≡ n)
@@ -212,7 +213,7 @@ meaning-sized n ts (Box α a) ρ r = length-map-range _ 0 n
 meaning-sized n ts (Diamond α a) ρ r = length-map-range _ 0 n
 meaning-sized n ts (Variable i) ρ r = r i
 meaning-sized n ts (Fix sign i a) ρ r =
-    iterate-sized n (bodyOf n ts i a ρ) (λ v o. meaning-sized n ts a (bind ρ i v) (bind-sized ρ i v r o)) (suc n) (start n sign) (length-replicate n sign)
+    iterate-sized n (bodyOf n ts i a ρ) (λ v o. meaning-sized n ts a (update ρ i v) (update-sized ρ i v r o)) (suc n) (start n sign) (length-replicate n sign)
 
 -- ---- the meaning grows
 
@@ -245,9 +246,9 @@ abbrev pub Below : Formula → Valuation → Valuation → Type 0
 Below a ρ σ = (i : ℕ) → T (free i a) → Subset (ρ i) (σ i)
 
 -- at a binder the variable's set may grow too
-bind-below : (sign : Bool) (i : ℕ) (a : Formula) (ρ σ : Valuation) → Below (Fix sign i a) ρ σ → (v w : States) → Subset v w → Below a (bind ρ i v) (bind σ i w)
-unfolding free bind
-bind-below sign i a ρ σ h v w g j t = go (eqb j i) (λ u. h j (and-both (not (eqb j i)) (free j a) u t))
+update-below : (sign : Bool) (i : ℕ) (a : Formula) (ρ σ : Valuation) → Below (Fix sign i a) ρ σ → (v w : States) → Subset v w → Below a (update ρ i v) (update σ i w)
+unfolding free update
+update-below sign i a ρ σ h v w g j t = go (eqb j i) (λ u. h j (and-both (not (eqb j i)) (free j a) u t))
   where
     go : (b : Bool) → (T (not b) → Subset (ρ j) (σ j)) → Subset (cond b v (ρ j)) (cond b w (σ j))
     go true k = g
@@ -274,14 +275,14 @@ meaning-below n (Diamond α a) ts us there back ρ σ r q h =
 meaning-below n (Variable i) ts us there back ρ σ r q h = h i (eqb-refl i)
 meaning-below n (Fix sign i a) ts us there back ρ σ r q h =
     fixed-mono n (bodyOf n ts i a ρ) (bodyOf n us i a σ)
-    (λ v o. meaning-sized n ts a (bind ρ i v) (bind-sized ρ i v r o))
-    (λ v w o l g. meaning-below n a ts ts (within-refl ts) (within-refl ts) (bind ρ i v) (bind ρ i w) (bind-sized ρ i v r o) (bind-sized ρ i w r l)
-    (bind-below sign i a ρ ρ (λ j t s u. u) v w g))
-    (λ v o. meaning-sized n us a (bind σ i v) (bind-sized σ i v q o))
-    (λ v w o l g. meaning-below n a us us (within-refl us) (within-refl us) (bind σ i v) (bind σ i w) (bind-sized σ i v q o) (bind-sized σ i w q l)
-    (bind-below sign i a σ σ (λ j t s u. u) v w g))
-    (λ v o. meaning-below n a ts us there back (bind ρ i v) (bind σ i v) (bind-sized ρ i v r o) (bind-sized σ i v q o)
-    (bind-below sign i a ρ σ h v v (λ s u. u)))
+    (λ v o. meaning-sized n ts a (update ρ i v) (update-sized ρ i v r o))
+    (λ v w o l g. meaning-below n a ts ts (within-refl ts) (within-refl ts) (update ρ i v) (update ρ i w) (update-sized ρ i v r o) (update-sized ρ i w r l)
+    (update-below sign i a ρ ρ (λ j t s u. u) v w g))
+    (λ v o. meaning-sized n us a (update σ i v) (update-sized σ i v q o))
+    (λ v w o l g. meaning-below n a us us (within-refl us) (within-refl us) (update σ i v) (update σ i w) (update-sized σ i v q o) (update-sized σ i w q l)
+    (update-below sign i a σ σ (λ j t s u. u) v w g))
+    (λ v o. meaning-below n a ts us there back (update ρ i v) (update σ i v) (update-sized ρ i v r o) (update-sized σ i v q o)
+    (update-below sign i a ρ σ h v v (λ s u. u)))
     sign
 
 -- The meaning grows with the valuation.
@@ -333,17 +334,17 @@ only-join {x = x} {y = y} f p q = record {
 module _ (n : ℕ) (ts : List Transition) where
   -- a binder's set, where the body's meaning is known for every set: the iteration stops at the least or greatest fixed point
   only-fix : (sign : Bool) (i : ℕ) (a : Formula) (ρ : Valuation) → Sized n ρ
-      → ((u : States) → length u ≡ n → Only (Means n ts a (bind ρ i u)) (meaning n ts a (bind ρ i u)))
-      → Only (Extremal n sign (λ u. Means n ts a (bind ρ i u) u)) (iterate (suc n) (bodyOf n ts i a ρ) (start n sign) .0)
+      → ((u : States) → length u ≡ n → Only (Means n ts a (update ρ i u)) (meaning n ts a (update ρ i u)))
+      → Only (Extremal n sign (λ u. Means n ts a (update ρ i u) u)) (iterate (suc n) (bodyOf n ts i a ρ) (start n sign) .0)
   only-fix sign i a ρ r body = record { holds = least; one = λ v m. extremal-one m least }
     where
-      least : Extremal n sign (λ u. Means n ts a (bind ρ i u) u) (iterate (suc n) (bodyOf n ts i a ρ) (start n sign) .0)
+      least : Extremal n sign (λ u. Means n ts a (update ρ i u) u) (iterate (suc n) (bodyOf n ts i a ρ) (start n sign) .0)
       least = extremal-map
-          (λ u o e. subst (Means n ts a (bind ρ i u)) e (body u o .holds))
+          (λ u o e. subst (Means n ts a (update ρ i u)) e (body u o .holds))
           (λ u o m. sym (body u o .one u m))
           (extremal n sign (bodyOf n ts i a ρ)
-          (λ v o. meaning-sized n ts a (bind ρ i v) (bind-sized ρ i v r o))
-          (λ v w o l g. meaning-mono n ts a (bind ρ i v) (bind ρ i w) (bind-sized ρ i v r o) (bind-sized ρ i w r l) (bind-mono ρ ρ i v w (λ k s t. t) g)))
+          (λ v o. meaning-sized n ts a (update ρ i v) (update-sized ρ i v r o))
+          (λ v w o l g. meaning-mono n ts a (update ρ i v) (update ρ i w) (update-sized ρ i v r o) (update-sized ρ i w r l) (update-mono ρ ρ i v w (λ k s t. t) g)))
 
   -- Each formula means its meaning, and nothing else.
   pub means-only : (a : Formula) (ρ : Valuation) → Sized n ρ → Only (Means n ts a ρ) (meaning n ts a ρ)
@@ -355,7 +356,7 @@ module _ (n : ℕ) (ts : List Transition) where
   means-only (Box α a) ρ r = only-from (λ x. setOf n (boxIn n ts α x)) (means-only a ρ r)
   means-only (Diamond α a) ρ r = only-from (λ x. setOf n (diamondIn n ts α x)) (means-only a ρ r)
   means-only (Variable i) ρ r = only-equal (ρ i)
-  means-only (Fix sign i a) ρ r = only-fix sign i a ρ r (λ u o. means-only a (bind ρ i u) (bind-sized ρ i u r o))
+  means-only (Fix sign i a) ρ r = only-fix sign i a ρ r (λ u o. means-only a (update ρ i u) (update-sized ρ i u r o))
 
   -- The meaning exists,
   pub means-exists : (a : Formula) (ρ : Valuation) → Sized n ρ → Means n ts a ρ (meaning n ts a ρ)

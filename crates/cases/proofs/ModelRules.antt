@@ -7,11 +7,10 @@ use native.Mathlib.Omega.{arith}
 use borrow.Author.Tests.{le-ltb, lt-ltb}
 use lib.ListN.{length, drop, length-drop}
 use Rattle.sets.specs.Lists.{numbersFrom, every}
-use Rattle.cases.specs.Limits.{actionLimit, nodeLimit}
 use Rattle.cases.specs.Prefix.{arityIn, actionArities, wholeFormulas}
-use Rattle.cases.specs.File.{Header, stateCount, initialState, transitionIn, transitionTable, actionTable}
+use Rattle.cases.specs.File.{Header, headerOf, transitionIn, transitionTable, actionTable, actionLimit, nodeLimit}
 use Rattle.cases.specs.Conditions.{badModel, badActions, transitionOk, actionOk}
-use Rattle.cases.specs.internal.Checks.{transitionsIn, nodesIn, Holds, Laid}
+use Rattle.cases.specs.internal.Checks.{transitionsIn, nodesIn, NodesFit, Laid}
 use Rattle.cases.proofs.Checking.{all-map}
 
 -- the tables of a case are those of its parts
@@ -26,13 +25,13 @@ module _ {b : List ℕ} {h : Header} (l : Laid b h) where
   -- the initial state is no state
   pub initial-fails : h .states ≤ h .initial → true ≡ badModel b
   unfolding badModel
-  initial-fails g = simp (le-ltb (initialState b) (stateCount b) (rw (l .read) at g))
+  initial-fails g = simp (le-ltb (headerOf b .initial) (headerOf b .states) (rw (l .read) at g))
 
   -- it is one: the transitions decide
   pub transitions-decide :
       h .initial < h .states → (r : Bool) → r ≡ every (transitionOk (h .states) (h .labels)) (transitionsIn (drop (h .«transitions_at») b) (h .transitions)) → not r ≡ badModel b
   unfolding badModel transitionTable transitionsIn
-  transitions-decide g r e = simp (lt-ltb (initialState b) (stateCount b) (rw (l .read) at g), e, l .read)
+  transitions-decide g r e = simp (lt-ltb (headerOf b .initial) (headerOf b .states) (rw (l .read) at g), e, l .read)
 
   -- ---- 7
 
@@ -54,8 +53,8 @@ module _ {b : List ℕ} {h : Header} (l : Laid b h) where
   pub transitions-inside : 6 * h .transitions ≤ length (drop (h .«transitions_at») b)
   transitions-inside = simp length-drop (omega arith)
 
-  pub actions-inside : Holds actionLimit (drop (h .«actions_at») b) (h .actions)
+  pub actions-inside : NodesFit actionLimit (drop (h .«actions_at») b) (h .actions)
   actions-inside = record { few = l .counts .few-actions; inside = simp length-drop (omega arith) }
 
-  pub nodes-inside : Holds nodeLimit (drop (h .«formula_at») b) (h .nodes)
+  pub nodes-inside : NodesFit nodeLimit (drop (h .«formula_at») b) (h .nodes)
   nodes-inside = record { few = l .counts .few-nodes; inside = simp length-drop (omega arith) }

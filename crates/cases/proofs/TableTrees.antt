@@ -13,7 +13,7 @@ use Rattle.cases.specs.Action.{Action}
 use Rattle.cases.specs.Formula.{Formula}
 use Rattle.cases.specs.Prefix.{Node, arityIn, actionArities, formulaArities, wholeFormulas, exactly, endOf, placeAction, placeFormula, actionAt, formulaAt}
 use Rattle.cases.specs.Conditions.{nodeAt, nodeOk, actionOk, badActions, badFormula}
-use Rattle.cases.specs.File.{labelCount, actionTable}
+use Rattle.cases.specs.File.{headerOf, actionTable}
 use Rattle.cases.specs.internal.Tables.{made, actionOperator, formulaOperator, ActionTable, FormulaTable}
 use Rattle.cases.proofs.Spans.{exactly-whole}
 use Rattle.cases.proofs.Trees.{operands, replace, Placing, node-tree}
@@ -120,11 +120,11 @@ formula-table a t e =
 pub action-table : (b : List ℕ) → badActions b ≡ false → ActionTable (actionTable b)
 unfolding badActions
 action-table b e =
-    let oks : Bool = every (actionOk (labelCount b)) (actionTable b) in
+    let oks : Bool = every (actionOk (headerOf b .labels)) (actionTable b) in
     let fits : Bool = wholeFormulas 0 (map (arityIn actionArities) (actionTable b)) in
     let good : T (oks && fits) = held (oks && fits) (not-false (oks && fits) e) in
     record {
-      kinds = λ i h. action-kind (labelCount b) (nodeAt (actionTable b) i) _ refl
-          (all-at (actionOk (labelCount b)) (actionTable b) i (record { kind = 0; arg = 0 }) h (and-left oks fits good));
+      kinds = λ i h. action-kind (headerOf b .labels) (nodeAt (actionTable b) i) _ refl
+          (all-at (actionOk (headerOf b .labels)) (actionTable b) i (record { kind = 0; arg = 0 }) h (and-left oks fits good));
       whole = holds fits (and-right oks fits good);
     }

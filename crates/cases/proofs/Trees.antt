@@ -11,7 +11,7 @@ use borrow.Author.Tests.{eqb-true}
 use lib.ListN.{length, getD, drop, length-drop, length-map}
 use lib.Seq.{drop-cons, drop-drop, drop-nil, getD-drop}
 use Rattle.sets.proofs.Lists.{getD-map, drop-map}
-use Rattle.cases.specs.Prefix.{Node, arityIn, wholeFormulas, exactly, span, endOf, leaf, one, two, onto, top, trees}
+use Rattle.cases.specs.Prefix.{Node, arityIn, wholeFormulas, exactly, span, endOf, leaf, unaryOp, binaryOp, onto, topOr, trees}
 use Rattle.cases.specs.Conditions.{nodeAt}
 use Rattle.cases.specs.internal.Tables.{Operator, constant, unary, binary, made, KindsTo}
 use Rattle.cases.proofs.Spans.{operands-due}
@@ -30,12 +30,12 @@ module _ {A : Type 0} where
   -- it replaces the trees that it takes by the one that it makes
   abbrev pub replace : Operator A → List A → Option (List A)
   replace (constant a) = leaf a
-  replace (unary f) = one f
-  replace (binary f) = two f
+  replace (unary f) = unaryOp f
+  replace (binary f) = binaryOp f
 
   -- the first tree, or d where there is none
   abbrev pub first : A → List A → A
-  first d st = top d (some st)
+  first d st = topOr d (some st)
 
   -- where there are enough trees, that many are replaced by one
   pub replaced : (d : A) (f : Operator A) (st : List A) → operands f ≤ length st
@@ -135,7 +135,7 @@ module _ {A : Type 0} (d : A) (place : ℕ → Node → List A → Option (List 
   module _ (t : List Node) (kinds : KindsTo limit t) (due : ℕ) (whole : wholeFormulas due (counts t) ≡ true) where
     -- the tree of node i
     abbrev treeAt : ℕ → A
-    treeAt i = top d (trees place i (drop i t))
+    treeAt i = topOr d (trees place i (drop i t))
 
     -- the rest of the table has kinds in range
     rest-kinds : (i : ℕ) → KindsTo limit (drop i t)
@@ -162,5 +162,5 @@ module _ {A : Type 0} (d : A) (place : ℕ → Node → List A → Option (List 
         rw (drop-drop, ← drop-map (arityIn arities) t (i + 1)) at (r .after 1) in
         let rest : trees place (suc i) (drop (suc i) t) ≡ some (r .row) = rw (add-one i) at (r .is) in
         let whole-node : drop i t ≡ nodeAt t i ∷ drop (suc i) t = drop-cons t i (record { kind = 0; arg = 0 }) h in
-        ap (top d) (ap (trees place i) whole-node ∙ placed i (nodeAt t i) (drop (suc i) t) (r .row) (kinds i h) rest (row-after i h .1))
-        ∙ ap₂ (made (p .operator i (nodeAt t i))) (sym (ap (top d) (r .is))) (sym (ap (top d) second))
+        ap (topOr d) (ap (trees place i) whole-node ∙ placed i (nodeAt t i) (drop (suc i) t) (r .row) (kinds i h) rest (row-after i h .1))
+        ∙ ap₂ (made (p .operator i (nodeAt t i))) (sym (ap (topOr d) (r .is))) (sym (ap (topOr d) second))

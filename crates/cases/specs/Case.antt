@@ -1,13 +1,13 @@
 -- A case: a model and a formula; and the distinct transitions.
 use mathlib.Core.Bool.{Bool, cond, _&&_}
-use mathlib.Core.List.{List, [], _∷_, map}
+use mathlib.Core.List.{List, [], _∷_, _++_, map}
 use Prim.Native.Nat.{ℕ, _+_}
-use lib.Dec.{T, eqb}
+use lib.Dec.{eqb}
 use lib.ListN.{length, getD, take}
-use Rattle.sets.specs.Lists.{numbersFrom, forSome}
+use Rattle.sets.specs.Lists.{numbersFrom}
 use Rattle.cases.specs.Formula.{Formula}
 use Rattle.cases.specs.Prefix.{actionAt, formulaAt}
-use Rattle.cases.specs.File.{Transition, stateCount, labelCount, initialState, transitionTable, actionTable, formulaTable}
+use Rattle.cases.specs.File.{Transition, headerOf, transitionTable, actionTable, formulaTable}
 
 pub record Case : Type 0 where
   pub states : ℕ
@@ -19,9 +19,9 @@ pub record Case : Type 0 where
 -- the case of any bytes: the formula is the one at the formula table's first node
 unfoldable pub caseOf : List ℕ → Case
 caseOf b = record {
-  states = stateCount b;
-  labels = labelCount b;
-  initial = initialState b;
+  states = headerOf b .states;
+  labels = headerOf b .labels;
+  initial = headerOf b .initial;
   transitions = transitionTable b;
   formula = formulaAt (actionAt (actionTable b)) (formulaTable b) 0;
 }
@@ -51,6 +51,7 @@ keep p (x ∷ xs) = cond (p x) (x ∷ keep p xs) (keep p xs)
 unfoldable pub distinct : List Transition → List Transition
 distinct ts = map (transitionAt ts) (keep (λ i. eqb (copiesBefore ts i) 0) (numbersFrom 0 (length ts)))
 
--- each transition of ts is one of us
-abbrev pub Within : List Transition → List Transition → Type 0
-Within ts us = (t : Transition) → T (forSome (sameTransition t) ts) → T (forSome (sameTransition t) us)
+-- the records of a list that equal none of `seen` and none before them
+unfoldable pub fresh : List Transition → List Transition → List Transition
+fresh seen [] = []
+fresh seen (t ∷ ts) = cond (eqb (copies t seen) 0) (t ∷ fresh (seen ++ (t ∷ [])) ts) (fresh (seen ++ (t ∷ [])) ts)

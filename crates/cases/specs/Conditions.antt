@@ -6,12 +6,11 @@ use Prim.Native.Nat.{ℕ, _+_}
 use lib.Dec.{eqb, ltb, leb}
 use lib.ListN.{length, getD}
 use Rattle.sets.specs.Lists.{numbersFrom, every}
-use Rattle.sets.specs.Size.{stateLimit}
-use Rattle.solver.specs.Limits.{blockLimit}
+use Rattle.sets.specs.Words.{stateLimit}
+use Rattle.solver.specs.File.{blockLimit}
 use Rattle.sets.specs.Refusals.{between, Conditions, firstOf}
-use Rattle.cases.specs.Limits.{labelLimit, transitionLimit, actionLimit, nodeLimit}
 use Rattle.cases.specs.Prefix.{Node, arityIn, actionArities, formulaArities, wholeFormulas, exactly, endOf}
-use Rattle.cases.specs.File.{Header, headerSize, headerOf, version, stateCount, labelCount, initialState, actionCount}
+use Rattle.cases.specs.File.{Header, headerSize, headerOf, version, labelLimit, transitionLimit, actionLimit, nodeLimit}
 use Rattle.cases.specs.File.{transitionsStart, actionsStart, formulaStart, fileEnd, Transition, transitionTable, actionTable, formulaTable}
 
 -- 1: fewer bytes than a header has
@@ -46,14 +45,14 @@ abbrev pub transitionOk : ℕ → ℕ → Transition → Bool
 transitionOk n l t = ltb (t .source) n && ltb (t .label) l && ltb (t .target) n
 
 unfoldable pub badModel : List ℕ → Bool
-badModel b = not (ltb (initialState b) (stateCount b) && every (transitionOk (stateCount b) (labelCount b)) (transitionTable b))
+badModel b = not (ltb (headerOf b .initial) (headerOf b .states) && every (transitionOk (headerOf b .states) (headerOf b .labels)) (transitionTable b))
 
 -- 7: an action node's kind or argument, or no whole formulas. The argument of a label (2) is a label, of any other kind 0.
 abbrev pub actionOk : ℕ → Node → Bool
 actionOk l x = leb (x .kind) 6 && cond (eqb (x .kind) 2) (ltb (x .arg) l) (eqb (x .arg) 0)
 
 unfoldable pub badActions : List ℕ → Bool
-badActions b = not (every (actionOk (labelCount b)) (actionTable b) && wholeFormulas 0 (map (arityIn actionArities) (actionTable b)))
+badActions b = not (every (actionOk (headerOf b .labels)) (actionTable b) && wholeFormulas 0 (map (arityIn actionArities) (actionTable b)))
 
 -- 8: a formula node's kind or argument, or not one whole formula. A box (4) or diamond (5) has an action node, a variable (6) is
 -- exempt, and the argument of any other kind is 0. It looks at the formula table and the number of action nodes only.
@@ -102,7 +101,7 @@ formulaConditions a table = (8, badFormula a table) ∷ (9, badVariable table) �
 
 -- all of them, in the order in which they are looked at
 unfoldable pub caseConditions : List ℕ → Conditions
-caseConditions b = layoutConditions b ++ (modelConditions b ++ formulaConditions (actionCount b) (formulaTable b))
+caseConditions b = layoutConditions b ++ (modelConditions b ++ formulaConditions (headerOf b .actions) (formulaTable b))
 
 -- the number of the first condition that holds, or 0
 unfoldable pub caseRefusal : List ℕ → ℕ

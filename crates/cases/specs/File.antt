@@ -1,4 +1,4 @@
--- The case file: the header's numbers and the three tables of any list of bytes.
+-- The case file: the header's numbers and the three tables of any list of bytes, and how large it may be.
 use mathlib.Core.List.{List, map}
 use Prim.Native.Nat.{ℕ, _+_, _*_}
 use lib.ListN.{getD, drop}
@@ -34,24 +34,6 @@ headerOf b = record {
   «formula_at» = u16 b 18;
 }
 
-abbrev pub stateCount : List ℕ → ℕ
-stateCount b = headerOf b .states
-
-abbrev pub transitionCount : List ℕ → ℕ
-transitionCount b = headerOf b .transitions
-
-abbrev pub labelCount : List ℕ → ℕ
-labelCount b = headerOf b .labels
-
-abbrev pub initialState : List ℕ → ℕ
-initialState b = headerOf b .initial
-
-abbrev pub actionCount : List ℕ → ℕ
-actionCount b = headerOf b .actions
-
-abbrev pub nodeCount : List ℕ → ℕ
-nodeCount b = headerOf b .nodes
-
 -- Where the tables have to stand by a header's counts: without gaps, a transition has 6 bytes and a node 4.
 abbrev pub transitionsStart : ℕ
 transitionsStart = headerSize
@@ -65,29 +47,33 @@ formulaStart h = actionsStart h + 4 * h .actions
 abbrev pub fileEnd : Header → ℕ
 fileEnd h = formulaStart h + 4 * h .nodes
 
--- Each table is read as the part of the file that starts at its offset.
-abbrev pub transitionPart : List ℕ → List ℕ
-transitionPart b = drop (headerOf b .«transitions_at») b
-
-abbrev pub actionPart : List ℕ → List ℕ
-actionPart b = drop (headerOf b .«actions_at») b
-
-abbrev pub formulaPart : List ℕ → List ℕ
-formulaPart b = drop (headerOf b .«formula_at») b
-
--- a transition is source, label, target
+-- In a part of the file that starts with them: a transition is source, label, target,
 abbrev pub transitionIn : List ℕ → ℕ → Transition
 transitionIn part i = record { source = u16 part (6 * i); label = u16 part (6 * i + 2); target = u16 part (6 * i + 4) }
 
--- a node is kind, argument
+-- and a node is kind, argument.
 abbrev pub nodeIn : List ℕ → ℕ → Node
 nodeIn part i = record { kind = u16 part (4 * i); arg = u16 part (4 * i + 2) }
 
+-- Each table is read from the part of the file that starts at its offset.
 unfoldable pub transitionTable : List ℕ → List Transition
-transitionTable b = map (transitionIn (transitionPart b)) (numbersFrom 0 (transitionCount b))
+transitionTable b = map (transitionIn (drop (headerOf b .«transitions_at») b)) (numbersFrom 0 (headerOf b .transitions))
 
 unfoldable pub actionTable : List ℕ → List Node
-actionTable b = map (nodeIn (actionPart b)) (numbersFrom 0 (actionCount b))
+actionTable b = map (nodeIn (drop (headerOf b .«actions_at») b)) (numbersFrom 0 (headerOf b .actions))
 
 unfoldable pub formulaTable : List ℕ → List Node
-formulaTable b = map (nodeIn (formulaPart b)) (numbersFrom 0 (nodeCount b))
+formulaTable b = map (nodeIn (drop (headerOf b .«formula_at») b)) (numbersFrom 0 (headerOf b .nodes))
+
+-- How large a case may be. The code's LABELS, TRANSITIONS, ACTIONS and NODES; states and blocks have the limits of the layers below.
+abbrev pub labelLimit : ℕ
+labelLimit = 64
+
+abbrev pub transitionLimit : ℕ
+transitionLimit = 2_048
+
+abbrev pub actionLimit : ℕ
+actionLimit = 128
+
+abbrev pub nodeLimit : ℕ
+nodeLimit = 64

@@ -1,7 +1,9 @@
--- Formulas of the modal mu-calculus in positive form.
-use mathlib.Core.Bool.{Bool, false, not, _&&_, _||_}
-use Prim.Native.Nat.{ℕ, _+_}
-use lib.Dec.{eqb}
+-- Formulas of the modal mu-calculus in positive form. Their nodes count from 0, in prefix order.
+use mathlib.Core.Path.{_≡_}
+use mathlib.Core.Bool.{Bool}
+use mathlib.Core.List.{List, [], _∷_, _++_}
+use Prim.Native.Nat.{ℕ, _+_, _<_}
+use lib.ListN.{getD}
 use Rattle.cases.specs.Action.{Action}
 
 -- A binder has its sign (false mu, true nu) and its node number; a variable has its binder's node number.
@@ -23,24 +25,17 @@ nodes (Diamond α a) = 1 + nodes a
 nodes (Variable i) = 1
 nodes (Fix sign i a) = 1 + nodes a
 
--- how many binders
-unfoldable pub binders : Formula → ℕ
-binders False = 0
-binders True = 0
-binders (And a b) = binders a + binders b
-binders (Or a b) = binders a + binders b
-binders (Box α a) = binders a
-binders (Diamond α a) = binders a
-binders (Variable i) = 0
-binders (Fix sign i a) = 1 + binders a
+-- the subformulas of a formula, node by node
+unfoldable pub subformulas : Formula → List Formula
+subformulas False = False ∷ []
+subformulas True = True ∷ []
+subformulas (And a b) = And a b ∷ (subformulas a ++ subformulas b)
+subformulas (Or a b) = Or a b ∷ (subformulas a ++ subformulas b)
+subformulas (Box α a) = Box α a ∷ subformulas a
+subformulas (Diamond α a) = Diamond α a ∷ subformulas a
+subformulas (Variable i) = Variable i ∷ []
+subformulas (Fix sign i a) = Fix sign i a ∷ subformulas a
 
--- whether variable i occurs outside of its binders
-unfoldable pub free : ℕ → Formula → Bool
-free i False = false
-free i True = false
-free i (And a b) = free i a || free i b
-free i (Or a b) = free i a || free i b
-free i (Box α a) = free i a
-free i (Diamond α a) = free i a
-free i (Variable j) = eqb i j
-free i (Fix sign j a) = not (eqb i j) && free i a
+-- the formula x stands at node i of a
+abbrev pub Stands : Formula → ℕ → Formula → Type 0
+Stands a i x = (i < nodes a) × (getD (subformulas a) i False ≡ x)

@@ -1,5 +1,4 @@
 -- What the contracts of this crate say: the case file, its conditions, action formulas, formulas and their meaning.
-pub mod Limits
 pub mod Action
 pub mod Formula
 pub mod Prefix
@@ -8,5 +7,6 @@ pub mod Case
 pub mod Conditions
 pub mod Opening
 pub mod Meaning
+pub mod computed
 pub mod internal
 pub mod examples

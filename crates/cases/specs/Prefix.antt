@@ -48,24 +48,24 @@ module _ {A : Type 0} where
   abbrev pub leaf : A → List A → Option (List A)
   leaf a st = some (a ∷ st)
 
-  abbrev pub one : (A → A) → List A → Option (List A)
-  one f [] = none
-  one f (a ∷ st) = some (f a ∷ st)
+  abbrev pub unaryOp : (A → A) → List A → Option (List A)
+  unaryOp f [] = none
+  unaryOp f (a ∷ st) = some (f a ∷ st)
 
-  abbrev pub two : (A → A → A) → List A → Option (List A)
-  two f [] = none
-  two f (a ∷ []) = none
-  two f (a ∷ b ∷ st) = some (f a b ∷ st)
+  abbrev pub binaryOp : (A → A → A) → List A → Option (List A)
+  binaryOp f [] = none
+  binaryOp f (a ∷ []) = none
+  binaryOp f (a ∷ b ∷ st) = some (f a b ∷ st)
 
   abbrev pub onto : Option (List A) → (List A → Option (List A)) → Option (List A)
   onto none f = none
   onto (some st) f = f st
 
   -- the formula on top, or d where there is none
-  abbrev pub top : A → Option (List A) → A
-  top d none = d
-  top d (some []) = d
-  top d (some (a ∷ st)) = a
+  abbrev pub topOr : A → Option (List A) → A
+  topOr d none = d
+  topOr d (some []) = d
+  topOr d (some (a ∷ st)) = a
 
   -- the trees of a table whose first node is node i; `place i x` puts node i, x by its kind and argument, onto the trees after it
   unfoldable pub trees : (ℕ → Node → List A → Option (List A)) → ℕ → List Node → Option (List A)
@@ -76,21 +76,21 @@ module _ {A : Type 0} where
 abbrev pub placeAction : ℕ → Node → List Action → Option (List Action)
 placeAction i x =
     getD
-    (leaf Action.False ∷ leaf Action.True ∷ leaf (Action.Label (x .arg)) ∷ one Action.Not ∷ two Action.And ∷ two Action.Or ∷ two Action.Implies ∷ [])
+    (leaf Action.False ∷ leaf Action.True ∷ leaf (Action.Label (x .arg)) ∷ unaryOp Action.Not ∷ binaryOp Action.And ∷ binaryOp Action.Or ∷ binaryOp Action.Implies ∷ [])
     (x .kind) (λ st. none)
 
 -- a formula node by its kind, where `action j` is the action formula at action node j
 abbrev pub placeFormula : (ℕ → Action) → ℕ → Node → List Formula → Option (List Formula)
 placeFormula action i x =
     getD
-    (leaf Formula.False ∷ leaf Formula.True ∷ two Formula.And ∷ two Formula.Or
-    ∷ one (Formula.Box (action (x .arg))) ∷ one (Formula.Diamond (action (x .arg)))
-    ∷ leaf (Formula.Variable (x .arg)) ∷ one (Formula.Fix false i) ∷ one (Formula.Fix true i) ∷ [])
+    (leaf Formula.False ∷ leaf Formula.True ∷ binaryOp Formula.And ∷ binaryOp Formula.Or
+    ∷ unaryOp (Formula.Box (action (x .arg))) ∷ unaryOp (Formula.Diamond (action (x .arg)))
+    ∷ leaf (Formula.Variable (x .arg)) ∷ unaryOp (Formula.Fix false i) ∷ unaryOp (Formula.Fix true i) ∷ [])
     (x .kind) (λ st. none)
 
 -- the action formula at action node j, and the formula at node i
 unfoldable pub actionAt : List Node → ℕ → Action
-actionAt table j = top Action.False (trees placeAction j (drop j table))
+actionAt table j = topOr Action.False (trees placeAction j (drop j table))
 
 unfoldable pub formulaAt : (ℕ → Action) → List Node → ℕ → Formula
-formulaAt action table i = top Formula.False (trees (placeFormula action) i (drop i table))
+formulaAt action table i = topOr Formula.False (trees (placeFormula action) i (drop i table))

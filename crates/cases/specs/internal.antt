@@ -1,4 +1,5 @@
--- What serves the contracts of functions only.
+-- What serves the contracts of inner functions, and laws beneath the promises.
 pub mod Masks
 pub mod Checks
 pub mod Tables
+pub mod Scope

@@ -7,10 +7,9 @@ ghost use mathlib.Core.List.{map};
 ghost use Prim.Native.Nat.{_+_, _*_, _<_, _≤_};
 ghost use lib.ListN.{length, getD};
 ghost use Rattle.sets.specs.Lists.{numbersFrom};
-ghost use Rattle.cases.specs.Limits.{labelLimit, actionLimit};
 ghost use Rattle.cases.specs.Action.{Action};
 ghost use Rattle.cases.specs.Prefix.{actionAt};
-ghost use Rattle.cases.specs.File.{nodeIn};
+ghost use Rattle.cases.specs.File.{nodeIn, labelLimit, actionLimit};
 ghost use Rattle.cases.specs.internal.Masks.{maskOf, actionOf, WholeActions};
 
 // The mask of a node, where x and y are the masks that stand next after it.

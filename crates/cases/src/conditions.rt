@@ -19,14 +19,12 @@ ghost use Prim.Native.Nat.{_-_, _*_, _≤_, _<_};
 ghost use lib.ListN.{length, getD, drop};
 ghost use Rattle.sets.specs.Lists.{numbersFrom, every};
 ghost use Rattle.sets.specs.Refusals.{between, firstOf};
-ghost use Rattle.cases.specs.Limits.{actionLimit, nodeLimit};
 ghost use Rattle.cases.specs.Prefix.{arityIn, actionArities, formulaArities, wholeFormulas, exactly, endOf};
-ghost use Rattle.cases.specs.File.{headerOf};
-ghost use Rattle.cases.specs.Conditions.{badCount, badOffset, badLength, badModel, badActions, badFormula, badVariable, tooDeep};
-ghost use Rattle.cases.specs.Conditions.{transitionOk, actionOk, nodeOk, boundOk, isBinder, binderCount};
+ghost use Rattle.cases.specs.File.{headerOf, actionLimit, nodeLimit};
+ghost use Rattle.cases.specs.Conditions.{badCount, badOffset, badLength, badModel, badActions, badFormula, badVariable, tooDeep, transitionOk, actionOk, nodeOk, boundOk, isBinder, binderCount};
 ghost use Rattle.cases.specs.Conditions.{layoutConditions, modelConditions, formulaConditions, caseRefusal};
 ghost use Rattle.cases.specs.Opening.{caseNumber, Opens};
-ghost use Rattle.cases.specs.internal.Checks.{transitionsIn, nodesIn, fits, Counts, Laid, Holds};
+ghost use Rattle.cases.specs.internal.Checks.{transitionsIn, nodesIn, fits, CountsFit, Laid, NodesFit};
 
 // Whether a count is below `low` or above `high`.
 fn outside(low: usize, high: usize, count: usize) -> bool
@@ -59,7 +57,7 @@ fn bad_count(h: Header) -> bool
 
 // Condition 4, where the counts are in range.
 fn bad_offset(h: Header) -> bool
-    requires { ⌜ Counts h ⌝ }
+    requires { ⌜ CountsFit h ⌝ }
     ensures { λ r. ⌜ r ≡ badOffset h ⌝ }
 {
     if h.transitions_at != HEADER {
@@ -73,7 +71,7 @@ fn bad_offset(h: Header) -> bool
 
 // Condition 5, where the counts are in range.
 fn bad_length(case: &[u8], h: Header) -> bool
-    requires { ⌜ Counts h ⌝ ∗ ⌜ h ≡ headerOf (now case) ⌝ }
+    requires { ⌜ CountsFit h ⌝ ∗ ⌜ h ≡ headerOf (now case) ⌝ }
     ensures { λ r. ⌜ r ≡ badLength (now (case .entry)) ⌝ }
 {
     case.len() != file_end(h)
@@ -227,7 +225,7 @@ fn all_fit(part: &[u8], k: usize, bound: usize, formula: bool) -> bool
 
 // Whether the a nodes of a part are whole formulas. Where a formula begins none is due, and its root stands for itself.
 fn actions_whole(part: &[u8], a: usize) -> bool
-    requires { ⌜ Holds actionLimit (now part) a ⌝ }
+    requires { ⌜ NodesFit actionLimit (now part) a ⌝ }
     ensures { λ r. ⌜ r ≡ wholeFormulas 0 (map (arityIn actionArities) (nodesIn (now (part .entry)) a)) ⌝ }
 {
     let mut due = 0;
@@ -293,7 +291,7 @@ struct Subtree {
 
 // The subtree of a node.
 fn subtree_at(part: &[u8], f: usize, at: usize) -> Subtree
-    requires { ⌜ Holds nodeLimit (now part) f ⌝ }
+    requires { ⌜ NodesFit nodeLimit (now part) f ⌝ }
     ensures ends { λ r. ⌜ r .end ≡ endOf (map (arityIn formulaArities) (nodesIn (now (part .entry)) f)) at ⌝ }
     ensures last { λ r. ⌜ r .last ≡ exactly 1 (drop at (map (arityIn formulaArities) (nodesIn (now (part .entry)) f))) ⌝ }
 {
@@ -318,7 +316,7 @@ fn subtree_at(part: &[u8], f: usize, at: usize) -> Subtree
 
 // Condition 8.
 fn bad_formula(actions: usize, part: &[u8], f: usize) -> bool
-    requires { ⌜ Holds nodeLimit (now part) f ⌝ }
+    requires { ⌜ NodesFit nodeLimit (now part) f ⌝ }
     ensures { λ r. ⌜ r ≡ badFormula actions (nodesIn (now (part .entry)) f) ⌝ }
 {
     if !all_fit(part, f, actions, true) {
@@ -330,7 +328,7 @@ fn bad_formula(actions: usize, part: &[u8], f: usize) -> bool
 
 // The node after the subtree of a node.
 pub fn subtree_end(part: &[u8], f: usize, at: usize) -> usize
-    requires { ⌜ Holds nodeLimit (now part) f ⌝ }
+    requires { ⌜ NodesFit nodeLimit (now part) f ⌝ }
     ensures { λ r. ⌜ r ≡ endOf (map (arityIn formulaArities) (nodesIn (now (part .entry)) f)) at ⌝ }
 {
     let subtree = subtree_at(part, f, at);
@@ -349,7 +347,7 @@ pub fn is_binder(x: Node) -> bool
 
 // Whether node i stands in the subtree of its binder, if it is a variable.
 fn variable_bound(part: &[u8], f: usize, i: usize) -> bool
-    requires { ⌜ Holds nodeLimit (now part) f ⌝ ∗ ⌜ i < f ⌝ }
+    requires { ⌜ NodesFit nodeLimit (now part) f ⌝ ∗ ⌜ i < f ⌝ }
     ensures { λ r. ⌜ r ≡ boundOk (nodesIn (now (part .entry)) f) i ⌝ }
 {
     let x = node_at(part, i);
@@ -368,7 +366,7 @@ fn variable_bound(part: &[u8], f: usize, i: usize) -> bool
 
 // Whether every variable stands in the subtree of its binder.
 fn variables_bound(part: &[u8], f: usize) -> bool
-    requires { ⌜ Holds nodeLimit (now part) f ⌝ }
+    requires { ⌜ NodesFit nodeLimit (now part) f ⌝ }
     ensures { λ r. ⌜ r ≡ every (boundOk (nodesIn (now (part .entry)) f)) (numbersFrom 0 f) ⌝ }
 {
     let mut i = 0;
@@ -383,7 +381,7 @@ fn variables_bound(part: &[u8], f: usize) -> bool
 
 // Condition 9.
 fn bad_variable(part: &[u8], f: usize) -> bool
-    requires { ⌜ Holds nodeLimit (now part) f ⌝ }
+    requires { ⌜ NodesFit nodeLimit (now part) f ⌝ }
     ensures { λ r. ⌜ r ≡ badVariable (nodesIn (now (part .entry)) f) ⌝ }
 {
     !variables_bound(part, f)
@@ -401,7 +399,7 @@ fn one_if_binder(x: Node) -> usize
 
 // How many binders there are.
 pub fn binders(part: &[u8], f: usize) -> usize
-    requires { ⌜ Holds nodeLimit (now part) f ⌝ }
+    requires { ⌜ NodesFit nodeLimit (now part) f ⌝ }
     ensures { λ r. ⌜ (r ≡ binderCount (nodesIn (now (part .entry)) f)) × (r ≤ f) ⌝ }
 {
     let mut count = 0;
@@ -415,7 +413,7 @@ pub fn binders(part: &[u8], f: usize) -> usize
 
 // Condition 10.
 fn too_deep(part: &[u8], f: usize) -> bool
-    requires { ⌜ Holds nodeLimit (now part) f ⌝ ∗ ⌜ 1 ≤ f ⌝ }
+    requires { ⌜ NodesFit nodeLimit (now part) f ⌝ ∗ ⌜ 1 ≤ f ⌝ }
     ensures { λ r. ⌜ r ≡ tooDeep (nodesIn (now (part .entry)) f) ⌝ }
 {
     let count = binders(part, f);
@@ -427,7 +425,7 @@ fn too_deep(part: &[u8], f: usize) -> bool
 
 // The formula part: the header, or the first of conditions 8 to 10 that holds.
 fn check_formula(part: &[u8], h: Header) -> Opened
-    requires { ⌜ Holds nodeLimit (now part) (h .nodes) ⌝ ∗ ⌜ 1 ≤ h .nodes ⌝ }
+    requires { ⌜ NodesFit nodeLimit (now part) (h .nodes) ⌝ ∗ ⌜ 1 ≤ h .nodes ⌝ }
     ensures { λ r. ⌜ Opens (firstOf (formulaConditions (h .actions) (nodesIn (now (part .entry)) (h .nodes)))) h r ⌝ }
 {
     if bad_formula(h.actions, part, h.nodes) {

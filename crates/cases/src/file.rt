@@ -6,7 +6,7 @@ ghost use mathlib.Core.Path.{_≡_};
 ghost use Prim.Native.Nat.{_+_, _*_, _^_, _<_, _≤_};
 ghost use lib.ListN.{length};
 ghost use Rattle.cases.specs.File.{u16, headerSize, version, headerOf, actionsStart, formulaStart, fileEnd, transitionIn, nodeIn};
-ghost use Rattle.cases.specs.internal.Checks.{Counts};
+ghost use Rattle.cases.specs.internal.Checks.{CountsFit};
 
 // How many bytes the header has.
 pub const HEADER: usize = 20;
@@ -53,7 +53,7 @@ pub fn header(case: &[u8]) -> Header
 
 // Where the action nodes have to stand, by the counts.
 pub fn actions_start(h: Header) -> usize
-    requires { ⌜ Counts h ⌝ }
+    requires { ⌜ CountsFit h ⌝ }
     ensures { λ r. ⌜ r ≡ actionsStart h ⌝ }
 {
     HEADER + 6 * h.transitions
@@ -61,7 +61,7 @@ pub fn actions_start(h: Header) -> usize
 
 // Where the formula nodes have to stand.
 pub fn formula_start(h: Header) -> usize
-    requires { ⌜ Counts h ⌝ }
+    requires { ⌜ CountsFit h ⌝ }
     ensures { λ r. ⌜ r ≡ formulaStart h ⌝ }
 {
     actions_start(h) + 4 * h.actions
@@ -69,7 +69,7 @@ pub fn formula_start(h: Header) -> usize
 
 // Where the file has to end.
 pub fn file_end(h: Header) -> usize
-    requires { ⌜ Counts h ⌝ }
+    requires { ⌜ CountsFit h ⌝ }
     ensures { λ r. ⌜ r ≡ fileEnd h ⌝ }
 {
     formula_start(h) + 4 * h.nodes

@@ -1,19 +1,21 @@
 -- What the calls for C promise from what the calls that they make promise.
-use mathlib.Core.Path.{_≡_, ap, _∙_}
+use mathlib.Core.Path.{_≡_, sym, ap, _∙_}
 use mathlib.Core.List.{List}
 use Prim.Native.Nat.{ℕ}
 use Rattle.sets.specs.Refusals.{Outcome, refused}
 use Rattle.solver.specs.Outcome.{Answered}
-use Rattle.translate.specs.declared.Written.{Written}
-use Rattle.translate.specs.Translating.{writtenNumber, writtenLength, Translated}
+use Rattle.translate.specs.Translating.{Translated}
 use Rattle.routes.specs.Route.{direct, Lent, marksOnly, Ran, EquationRan}
 use Rattle.exports.specs.declared.Numbers.{Numbers}
-use Rattle.exports.specs.Exported.{TranslateSays, SolveSays, DirectSays, EquationSays}
+use Rattle.exports.specs.Exported.{exported, TranslateSays, SolveSays, DirectSays, EquationSays}
 use Rattle.exports.specs.internal.Saying.{Says}
 
 module _ {n : Numbers} where
-  pub translate-says : {b before after : List ℕ} {w : Written} → Translated b before w after → Says n (refused (writtenNumber w)) (writtenLength w) → TranslateSays b before n after
-  translate-says t s = record { numbers = s .numbers ∙ ap refused (t .number); length-is = s .length-is ∙ t .size; bytes = t .bytes }
+  pub translate-says : {b before after : List ℕ} {number long : ℕ} → Translated b before number long after → Says n (refused number) long → TranslateSays b before n after
+  unfolding exported
+  translate-says {number = number} t s =
+      let same : n .refusal ≡ number = ap (λ (o : Outcome). o .refusal) (s .numbers) in
+      record { translated = rw (same, s .length-is) t; others = s .numbers ∙ ap refused (sym same) }
 
   pub solve-says : {e work marks : List ℕ} {limit : ℕ} {o q : Outcome} {work′ marks′ : List ℕ} → Answered e work marks limit q work′ marks′
       → o ≡ q → Says n o 0 → SolveSays e work marks limit n work′ marks′

@@ -2,10 +2,9 @@
 use mathlib.Core.Path.{_≡_}
 use mathlib.Core.List.{List}
 use Prim.Native.Nat.{ℕ}
-use lib.ListN.{length}
-use Rattle.sets.specs.Refusals.{Outcome, refused, byRefusal}
+use Rattle.sets.specs.Refusals.{Outcome, refused}
 use Rattle.solver.specs.Outcome.{Answered}
-use Rattle.translate.specs.Translating.{file, translateRefusal, fileAfter}
+use Rattle.translate.specs.Translating.{Translated}
 use Rattle.routes.specs.Route.{direct, Lent, marksOnly, Ran, EquationRan}
 use Rattle.exports.specs.declared.Numbers.{Numbers}
 
@@ -14,9 +13,9 @@ unfoldable pub exported : Numbers → Outcome
 exported n = record { refusal = n .refusal; verdict = n .verdict; count = n .count; rounds = n .rounds }
 
 pub record TranslateSays (b before : List ℕ) (n : Numbers) (after : List ℕ) : Type 0 where
-  pub numbers : exported n ≡ refused (translateRefusal b (length before))
-  pub length-is : n .length ≡ byRefusal (translateRefusal b (length before)) (length (file b)) 0
-  pub bytes : after ≡ fileAfter b before
+  pub translated : Translated b before (n .refusal) (n .length) after
+  -- verdict, count and rounds are 0
+  pub others : exported n ≡ refused (n .refusal)
 
 pub record SolveSays (e work marks : List ℕ) (limit : ℕ) (n : Numbers) (work′ marks′ : List ℕ) : Type 0 where
   pub answered : Answered e work marks limit (exported n) work′ marks′

@@ -1,2 +1,2 @@
--- What serves the contracts of functions only.
+-- What serves the contracts of inner functions, and laws beneath the promises.
 pub mod Saying

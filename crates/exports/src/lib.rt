@@ -7,7 +7,7 @@ use translate::number_of;
 ghost use mathlib.Core.Path.{_≡_};
 ghost use Rattle.sets.specs.Refusals.{refused};
 ghost use Rattle.translate.specs.Translating.{writtenNumber, writtenLength};
-ghost use Rattle.routes.specs.Route.{outcome, lent};
+ghost use Rattle.routes.specs.Route.{routeAnswer, lent};
 ghost use Rattle.exports.specs.Exported.{TranslateSays, SolveSays, DirectSays, EquationSays};
 ghost use Rattle.exports.specs.internal.Saying.{Says};
 
@@ -24,7 +24,7 @@ pub struct Numbers {
 
 // The numbers of a route's answer.
 fn answered(answer: Answer) -> Numbers
-    ensures { λ r. ⌜ Says r (outcome answer) 0 ⌝ }
+    ensures { λ r. ⌜ Says r (routeAnswer answer) 0 ⌝ }
 {
     let numbers = numbers_of(answer);
     Numbers {

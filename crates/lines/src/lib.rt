@@ -6,11 +6,10 @@ use routes::solving_answer;
 use sets::WORDS;
 use solver::CELLS;
 ghost use mathlib.Core.Path.{_≡_};
-ghost use Rattle.sets.specs.Size.{wordCount};
-ghost use Rattle.solver.specs.Limits.{cellLimit};
+ghost use Rattle.sets.specs.Words.{wordCount};
+ghost use Rattle.solver.specs.File.{cellLimit};
 ghost use Rattle.solver.specs.Outcome.{solveOutcome};
-ghost use Rattle.routes.specs.Route.{direct, equation, outcomeOf, shown};
-ghost use Rattle.routes.specs.Program.{programLimit, programMemory};
+ghost use Rattle.routes.specs.Route.{direct, equation, outcomeOf, shown, programLimit, programMemory};
 
 const LIMIT: u64 = 1_000_000;
 

@@ -9,15 +9,13 @@ use borrow.Author.Tests.{eq-eqb, ne-eqb}
 use lib.Dec.{eqb}
 use lib.ListN.{length, getD, set, take, length-replicate, List·getD-eq-default}
 use lib.Seq.{getD-set-same, getD-set-other, set-set}
-use Rattle.sets.specs.Size.{wordCount}
-use Rattle.sets.specs.States.{States, start}
+use Rattle.sets.specs.States.{States, start, Valuation, update}
 use Rattle.sets.specs.Loop.{Step, Loop, itself}
-use Rattle.sets.specs.Words.{words}
+use Rattle.sets.specs.Words.{words, wordCount}
 use Rattle.sets.proofs.Lists.{false-true}
 use Rattle.sets.proofs.Turns.{Left, turn, stops-here, goes-on}
 use Rattle.sets.proofs.Words.{words-length, words-inj}
-use Rattle.sets.specs.Valuation.{Valuation, bind}
-use Rattle.sets.proofs.Valuation.{bind-sized}
+use Rattle.sets.proofs.Valuation.{update-sized}
 use Rattle.cases.specs.Action.{Action}
 use Rattle.cases.specs.declared.Header.{Header}
 use Rattle.cases.specs.declared.Node.{Node}
@@ -27,7 +25,7 @@ use Rattle.cases.specs.Conditions.{nodeAt, isBinder, binderCount}
 use Rattle.cases.specs.internal.Checks.{transitionsIn, nodesIn}
 use Rattle.cases.proofs.Spans.{end-one}
 use Rattle.routes.specs.Direct.{Direct}
-use Rattle.routes.specs.internal.Evaluating.{value, Masks, Shown, Asks, KindAt, Evaluated}
+use Rattle.routes.specs.internal.Evaluating.{returned, Masks, Shown, Asks, KindAt, Evaluated}
 use Rattle.routes.specs.declared.Value.{Value}
 use Rattle.routes.proofs.DirectLaws.{direct-sized}
 use Rattle.routes.proofs.NodeLaws.{Binder, apart, by-kind, inside, in-arities, operand, block-of, arity, ruled-by}
@@ -44,15 +42,15 @@ row-inside rows k v e = go (decLt k (length rows))
         omega (arith, ap length (sym none ∙ e), words-length wordCount v)
 
 -- the rows show the valuation with v for binder i if the words of v are put into i's row
-shown-bind : {n : ℕ} {t : List Node} {rows : List (List ℕ)} {ρ : Valuation} → Shown n t rows ρ → (i : ℕ) → Binder t i
+shown-update : {n : ℕ} {t : List Node} {rows : List (List ℕ)} {ρ : Valuation} → Shown n t rows ρ → (i : ℕ) → Binder t i
     → {k : ℕ} → k ≡ binderCount (take i t) → (v : States) {held : List ℕ} → length v ≡ n → held ≡ words wordCount v
-    → Shown n t (set rows k held) (bind ρ i v)
-unfolding bind
-shown-bind {n} {t} {rows} {ρ} s i b {k} e v {held} z w =
-    record { sized = bind-sized ρ i v (s .sized) z; row = λ j h is. go j h is (ℕ-discrete j i) }
+    → Shown n t (set rows k held) (update ρ i v)
+unfolding update
+shown-update {n} {t} {rows} {ρ} s i b {k} e v {held} z w =
+    record { sized = update-sized ρ i v (s .sized) z; row = λ j h is. go j h is (ℕ-discrete j i) }
   where
     go : (j : ℕ) → j < length t → isBinder (nodeAt t j) ≡ true → Dec (j ≡ i)
-        → getD (set rows k held) (binderCount (take j t)) [] ≡ words wordCount (bind ρ i v j)
+        → getD (set rows k held) (binderCount (take j t)) [] ≡ words wordCount (update ρ i v j)
     go j h is (yes p) =
         rw (eq-eqb j i p, p, ← e, getD-set-same rows k held [] (row-inside rows k (ρ i) (rw e (s .row i (b .inside) (b .is))))) w
     go j h is (no p) =
@@ -62,7 +60,7 @@ shown-bind {n} {t} {rows} {ρ} s i b {k} e v {held} z w =
 -- one turn of the loop of binder `at`: its body is worked out
 abbrev body : Header → List ℕ → List ℕ → ℕ → (ℕ → Action) → Valuation → Step States
 body h records formula at action ρ = itself λ u.
-    Direct (h .states) (transitionsIn records (h .transitions)) (formulaAt action (nodesIn formula (h .nodes)) (at + 1)) (bind ρ at u)
+    Direct (h .states) (transitionsIn records (h .transitions)) (formulaAt action (nodesIn formula (h .nodes)) (at + 1)) (update ρ at u)
 
 -- words that hold a set of n states
 abbrev pub Holding : ℕ → List ℕ → States → Type 0
@@ -132,33 +130,33 @@ module _ {h : Header} {records formula labels blocks : List ℕ} {at used limit 
       (turned : Evaluated h records formula labels (set inner block held) (at + 1) before limit one) where
     -- the rows of the turn show the set held
     shows : (action : ℕ → Action) (ρ : Valuation) {u : States} {total : ℕ} → Shown n t rows ρ
-        → (l : Left (body h records formula at action ρ) (Holding n held) u before total) → Shown n t (set inner block held) (bind ρ at (l .now))
+        → (l : Left (body h records formula at action ρ) (Holding n held) u before total) → Shown n t (set inner block held) (update ρ at (l .now))
     shows action ρ s l =
-        rw (g .others held) (shown-bind s at own-binder (block-of q own-binder b) (l .now) (l .known .0) (l .known .1))
+        rw (g .others held) (shown-update s at own-binder (block-of q own-binder b) (l .now) (l .known .0) (l .known .1))
 
     -- the rounds are spent in the body,
     pub body-spent : one .spent ≡ true → Evaluated h records formula labels rows at used limit one
     body-spent e = all-spent e (λ action ρ v r d.
         let l = g .left action ρ v r (d .0) (d .1) (binder-rule action ρ v r (d .2)) in
         let x = turn (l .run) in
-        omega (arith, turned .over e action (bind ρ at (l .now)) (x .next) (x .took) (d .0, shows action ρ (d .1) l, x .step .1), x .less, l .sum))
+        omega (arith, turned .over e action (update ρ at (l .now)) (x .next) (x .took) (d .0, shows action ρ (d .1) l, x .step .1), x .less, l .sum))
 
     module _ (e : one .spent ≡ false) where
       -- or none is left for this one,
       pub round-spent : limit ≤ one .rounds → {next : ℕ}
-          → Evaluated h records formula labels rows at used limit (value (one .set) next (one .rounds) true)
+          → Evaluated h records formula labels rows at used limit (returned (one .set) next (one .rounds) true)
       round-spent m = all-spent refl (λ action ρ v r d.
           let l = g .left action ρ v r (d .0) (d .1) (binder-rule action ρ v r (d .2)) in
           let x = turn (l .run) in
-          omega (arith, turned .right e action (bind ρ at (l .now)) (x .next) (x .took) (d .0, shows action ρ (d .1) l, x .step .1) .0, x .less, l .sum))
+          omega (arith, turned .right e action (update ρ at (l .now)) (x .next) (x .took) (d .0, shows action ρ (d .1) l, x .step .1) .0, x .less, l .sum))
 
       -- or the body's set is there.
       found : (action : ℕ → Action) (ρ : Valuation) {u : States} {total : ℕ} → Masks action t labels → Shown n t rows ρ
           → (l : Left (body h records formula at action ρ) (Holding n held) u before total) (a w : States) (r : ℕ) → body h records formula at action ρ (l .now) a w r
           → (length w ≡ n) × (one .set ≡ words wordCount w) × (r ≡ one .rounds - before)
       found action ρ m s l a w r d =
-          let y = turned .right e action (bind ρ at (l .now)) w r (m, shows action ρ s l, d .1) in
-          (direct-sized n ts _ (bind ρ at (l .now)) (shows action ρ s l .sized) w r (d .1), y .1, omega (arith, y .0))
+          let y = turned .right e action (update ρ at (l .now)) w r (m, shows action ρ s l, d .1) in
+          (direct-sized n ts _ (update ρ at (l .now)) (shows action ρ s l .sized) w r (d .1), y .1, omega (arith, y .0))
 
       -- sets with equal words are equal
       same : (v w : States) → length v ≡ n → length w ≡ n → words wordCount v ≡ words wordCount w → v ≡ w
@@ -166,7 +164,7 @@ module _ {h : Header} {records formula labels blocks : List ℕ} {at used limit 
 
       -- It is the set held: the loop stops.
       pub stopped : one .rounds < limit → one .set ≡ held
-          → Evaluated h records formula labels rows at used limit (value (one .set) (one .next) (one .rounds + 1) false)
+          → Evaluated h records formula labels rows at used limit (returned (one .set) (one .next) (one .rounds + 1) false)
       stopped m is = record {
         over = λ o. absurd (false-true o);
         low = λ o. omega (arith, g .low, turned .low e);

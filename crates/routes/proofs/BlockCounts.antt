@@ -2,9 +2,9 @@
 use mathlib.Core.List.{List}
 use Prim.Native.Nat.{ℕ, _≤_}
 use native.Mathlib.Omega.{arith}
-use Rattle.solver.specs.File.{blockCount}
+use Rattle.solver.specs.File.{sizesOf}
 use Rattle.cases.specs.Action.{Action}
-use Rattle.cases.specs.Formula.{binders}
+use Rattle.cases.specs.internal.Scope.{binders}
 use Rattle.cases.specs.declared.Node.{Node}
 use Rattle.cases.specs.Prefix.{actionAt}
 use Rattle.cases.specs.File.{actionTable, formulaTable}
@@ -20,7 +20,7 @@ use Rattle.translate.proofs.CaseFile.{length-blocks, block-count-back}
 use Rattle.translate.proofs.AcceptedCases.{fit, blocks-all}
 
 -- The formula has no more binders than the file has blocks.
-pub blocks-formula : (b : List ℕ) → Accepted b → binders (caseOf b .formula) ≤ blockCount (file b)
+pub blocks-formula : (b : List ℕ) → Accepted b → binders (caseOf b .formula) ≤ sizesOf (file b) .blocks
 unfolding caseOf conditions.blockTotal
 blocks-formula b ok =
     let t : List Node = formulaTable b in

@@ -10,25 +10,24 @@ use lib.Dec.{T, eqb, ltb, eqb-refl}
 use lib.ListN.{length, getD, length-append, length-replicate, List·getD-append}
 use lib.Seq.{getD-append-add}
 use Rattle.sets.specs.Lists.{every}
-use Rattle.sets.specs.States.{States, has, start}
+use Rattle.sets.specs.States.{States, has, start, Valuation, update, Sized}
 use Rattle.sets.proofs.Lists.{and-both, or-left, or-right}
 use Rattle.solver.specs.Cells.{Cell}
-use Rattle.solver.specs.internal.Forms.{Ordered}
-use Rattle.sets.specs.Valuation.{Valuation, bind, Sized}
+use Rattle.solver.specs.internal.Forms.{Ordered, Inside}
 use Rattle.solver.specs.File.{Block}
-use Rattle.solver.specs.internal.Forms.{Inside}
-use Rattle.solver.specs.Rounds.{solved}
-use Rattle.sets.proofs.Valuation.{bind-same, bind-other, bind-sized}
+use Rattle.solver.specs.computed.Solved.{solved}
+use Rattle.sets.proofs.Valuation.{update-same, update-other, update-sized}
 use Rattle.solver.proofs.Solving.{inside-rest, turn, solved-below}
-use Rattle.cases.specs.Formula.{Formula, False, True, And, Or, Box, Diamond, Variable, Fix, nodes, free}
+use Rattle.cases.specs.Formula.{Formula, False, True, And, Or, Box, Diamond, Variable, Fix, nodes, Stands}
+use Rattle.cases.specs.internal.Scope.{free}
 use Rattle.cases.specs.declared.Transition.{Transition}
-use Rattle.cases.specs.Meaning.{setOf, boxIn, diamondIn, meaning}
+use Rattle.cases.specs.Meaning.{setOf, boxIn, diamondIn}
+use Rattle.cases.specs.computed.Meanings.{meaning}
 use Rattle.cases.proofs.MeaningLaws.{bodyOf, meaning-sized, means-scope}
 use Rattle.translate.specs.Whole.{binderNodes}
 use Rattle.translate.specs.Cells.{cellsFrom, blocksFrom}
 use Rattle.translate.proofs.AllLaws.{all-second}
 use Rattle.translate.proofs.Counts.{length-blocks}
-use Rattle.translate.specs.Nodes.{Stands}
 use Rattle.translate.proofs.Unfold.{and-operands, or-operands, box-operand, diamond-operand, fix-operand, cells-ordered}
 use Rattle.routes.proofs.Shallow.{shallow, node-set}
 use Rattle.routes.proofs.SolvedBlocks.{first-set, Later, later}
@@ -131,7 +130,7 @@ module _ (n : ℕ) (states : 0 < n) (ts : List Transition) (low : T (every (λ t
       ap (solved n cs (b ∷ ds) k ρ .0) own
       ∙ first-set n cs b ds k ρ
       ∙ iterate-same (λ u. length u ≡ n) (turn n cs b ds k ρ) (bodyOf n ts v x (ofBlocks ρ))
-      (λ u l. meaning-sized n ts x (bind (ofBlocks ρ) v u) (bind-sized (ofBlocks ρ) v u (λ j. o (block j)) l))
+      (λ u l. meaning-sized n ts x (update (ofBlocks ρ) v u) (update-sized (ofBlocks ρ) v u (λ j. o (block j)) l))
       turned (suc n) (start n sign) (length-replicate n sign)
     where
       b : Block
@@ -159,27 +158,27 @@ module _ (n : ℕ) (states : 0 < n) (ts : List Transition) (low : T (every (λ t
         inside = inside-rest n (length cs) b ds (w .inside);
       }
 
-      turned : (u : States) → length u ≡ n → turn n cs b ds k ρ u .0 ≡ mean x (bind (ofBlocks ρ) v u)
+      turned : (u : States) → length u ≡ n → turn n cs b ds k ρ u .0 ≡ mean x (update (ofBlocks ρ) v u)
       turned u l = node-set n states ts low block a τ x (fix-operand a (w .stands)) (ap length same ∙ meaning-sized n ts x inner sized) ∙ same ∙ seen
         where
           τ : Valuation
-          τ = solved n cs ds (suc k) (bind ρ k u) .0
+          τ = solved n cs ds (suc k) (update ρ k u) .0
 
           inner : Valuation
-          inner = ofBlocks (bind ρ k u)
+          inner = ofBlocks (update ρ k u)
 
           sized : Sized n inner
-          sized j = bind-sized ρ k u o l (block j)
+          sized j = update-sized ρ k u o l (block j)
 
           same : set x τ ≡ mean x inner
-          same = p (i + 1) (suc k) bs under (bind ρ k u) (bind-sized ρ k u o l)
+          same = p (i + 1) (suc k) bs under (update ρ k u) (update-sized ρ k u o l)
 
           -- the block of the binder has the set of its variable
-          seen : mean x inner ≡ mean x (bind (ofBlocks ρ) v u)
-          seen = means-scope n ts x inner (bind (ofBlocks ρ) v u) sized (bind-sized (ofBlocks ρ) v u (λ j. o (block j)) l) (λ j t.
-              split (inner j ≡ bind (ofBlocks ρ) v u j) j t
-              (λ e. rw (e, own) (bind-same ρ k u ∙ sym (bind-same (ofBlocks ρ) v u)))
-              (λ d h. bind-other ρ k u (block j) (λ e. omega arith) ∙ sym (bind-other (ofBlocks ρ) v u j d)))
+          seen : mean x inner ≡ mean x (update (ofBlocks ρ) v u)
+          seen = means-scope n ts x inner (update (ofBlocks ρ) v u) sized (update-sized (ofBlocks ρ) v u (λ j. o (block j)) l) (λ j t.
+              split (inner j ≡ update (ofBlocks ρ) v u j) j t
+              (λ e. rw (e, own) (update-same ρ k u ∙ sym (update-same (ofBlocks ρ) v u)))
+              (λ d h. update-other ρ k u (block j) (λ e. omega arith) ∙ sym (update-other (ofBlocks ρ) v u j d)))
 
   -- So it is with every formula.
   pub bridge : (x : Formula) → Bridged x

@@ -6,11 +6,10 @@ use Prim.Native.Nat.{ℕ, _<_, _≤_}
 use native.Mathlib.Omega.{arith}
 use borrow.Author.Tests.{lt-ltb, le-ltb}
 use lib.ListN.{length, drop, length-replicate}
-use Rattle.sets.specs.Size.{wordCount, stateLimit}
-use Rattle.sets.specs.States.{size}
-use Rattle.sets.specs.Words.{words, marked, states}
-use Rattle.sets.specs.Valuation.{none}
-use Rattle.sets.specs.Refusals.{Conditions, firstOf, refused, outcomeBy, Outcome}
+use Rattle.sets.specs.States.{size, allEmpty}
+use Rattle.sets.specs.Words.{words, marked, wordCount, stateLimit}
+use Rattle.sets.specs.internal.Functions.{states}
+use Rattle.sets.specs.Refusals.{Conditions, firstOf, refused, outcomeBy, Outcome, reportOf}
 use Rattle.sets.proofs.Words.{marked-words, states-words}
 use Rattle.sets.proofs.Refusals.{refusing, reports, refuses}
 use Rattle.cases.specs.declared.Header.{Header}
@@ -21,18 +20,18 @@ use Rattle.routes.specs.declared.Cause.the-variants.{Run}
 use Rattle.routes.specs.declared.Report.{Report}
 use Rattle.routes.specs.declared.Value.{Value}
 use Rattle.routes.specs.declared.Answer.the-variants.{Solved, Refused}
-use Rattle.routes.specs.Route.{routeNumber, outcome, routeReport, Route, direct, runOf, marksOnly, tooShort, exceeds, runConditions, routeOutcome, marksAfter, RanBy}
+use Rattle.routes.specs.Route.{routeNumber, routeAnswer, Route, direct, runOf, marksOnly, tooShort, exceeds, runConditions, routeOutcome, marksAfter, RanBy}
 use Rattle.routes.specs.internal.Answering.{Reported, Rooted}
 use Rattle.routes.specs.internal.Evaluating.{caseIn, CaseParts}
 use Rattle.routes.proofs.DirectLaws.{worked-sized}
 
 -- the two causes that a run has beside those of its case
-pub memory-is : outcome (Refused (Run Memory)) ≡ refused 13
-unfolding outcome routeNumber solveNumber
+pub memory-is : routeAnswer (Refused (Run Memory)) ≡ refused 13
+unfolding routeAnswer routeNumber solveNumber
 memory-is = refl
 
-pub spent-is : outcome (Refused (Run Spent)) ≡ refused 14
-unfolding outcome routeNumber solveNumber
+pub spent-is : routeAnswer (Refused (Run Spent)) ≡ refused 14
+unfolding routeAnswer routeNumber solveNumber
 spent-is = refl
 
 -- ---- by the conditions
@@ -47,7 +46,7 @@ module _ {R : Route} {c : Case} {marks : List ℕ} where
   }
 
   -- success
-  pub ran-solved : {cs : Conditions} {o : Outcome} {after : List ℕ} → firstOf cs ≡ 0 → o ≡ routeReport c (runOf R c .0) (runOf R c .1)
+  pub ran-solved : {cs : Conditions} {o : Outcome} {after : List ℕ} → firstOf cs ≡ 0 → o ≡ reportOf (c .initial) (runOf R c .0) (runOf R c .1)
       → after ≡ words wordCount (runOf R c .0) ++ drop wordCount marks → RanBy cs R c marks o after
   unfolding routeOutcome marksAfter
   ran-solved {cs} z is a = record { answers = is ∙ sym (reports cs _ z); marks-are = a ∙ sym (rw z) }
@@ -63,7 +62,7 @@ module _ {R : Route} {c : Case} {marks : List ℕ} where
 pub reported : {h : Header} {set : List ℕ} {rounds : ℕ} {verdict : Bool} {count : ℕ} → h .states ≤ stateLimit → h .initial < stateLimit
     → verdict ≡ marked set (h .initial) → count ≡ size (states (h .states) set)
     → Reported h set rounds (record { verdict = verdict; count = count; rounds = rounds })
-unfolding outcome routeReport
+unfolding routeAnswer
 reported {h} few low p q = record {
   are = λ c i v l e.
       let first = p ∙ ap (λ (w : List ℕ). marked w (h .initial)) e ∙ marked-words wordCount v (h .initial) low in
@@ -95,7 +94,7 @@ module _ (c : Case) (marks : List ℕ) (limit : ℕ) where
 -- what direct works out of a case has as many states as the case
 run-sized : (c : Case) → length (runOf direct c .0) ≡ c .states
 unfolding runOf
-run-sized c = worked-sized (c .states) (c .transitions) (c .formula) (none (c .states)) (λ k. length-replicate (c .states) false)
+run-sized c = worked-sized (c .states) (c .transitions) (c .formula) (allEmpty (c .states)) (λ k. length-replicate (c .states) false)
 
 pub states-few : {h : Header} {records actions formula : List ℕ} → CaseParts h records actions formula → h .states ≤ stateLimit
 states-few parts = parts .model .few-states
@@ -116,8 +115,8 @@ module _ {h : Header} {records actions formula : List ℕ} (parts : CaseParts h 
 
     -- success
     pub solved : o .spent ≡ false → {report : Report} → Reported h (o .set) (o .rounds) report → {after : List ℕ} → after ≡ o .set ++ drop wordCount marks
-        → RanBy (conditions c marks limit) direct c marks (outcome (Solved report)) after
+        → RanBy (conditions c marks limit) direct c marks (routeAnswer (Solved report)) after
     unfolding caseIn
     solved z f is = ran-solved (number-0 c marks limit room (r .within z))
-        (f .are c refl (runOf direct c .0) (run-sized c) (r .set z) ∙ ap (routeReport c (runOf direct c .0)) (r .rounds z))
+        (f .are c refl (runOf direct c .0) (run-sized c) (r .set z) ∙ ap (reportOf (c .initial) (runOf direct c .0)) (r .rounds z))
         (is ∙ ap (λ (w : List ℕ). w ++ drop wordCount marks) (r .set z))

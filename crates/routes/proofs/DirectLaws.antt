@@ -7,18 +7,21 @@ use native.Mathlib.Nat.{add-zero, add-suc, pow-le-pow-right, mul-le-mul-left}
 use native.Mathlib.Numerals.{one-add}
 use native.Mathlib.Omega.{arith}
 use lib.ListN.{length, length-replicate}
-use Rattle.sets.specs.States.{States, Subset, start}
-use Rattle.sets.specs.Loop.{itself, Worked}
+use Rattle.sets.specs.States.{States, Subset, start, Valuation, update, Sized}
+use Rattle.sets.specs.Loop.{itself}
+use Rattle.sets.specs.computed.Iteration.{Worked}
 use Rattle.sets.proofs.FixedPoint.{step-set, loop-one, loop-map, cost, stops}
-use Rattle.sets.specs.Valuation.{Valuation, bind, Sized}
-use Rattle.solver.specs.Rounds.{powers}
-use Rattle.sets.proofs.Valuation.{bind-sized, bind-mono}
+use Rattle.solver.specs.Solution.{powers}
+use Rattle.sets.proofs.Valuation.{update-sized, update-mono}
 use Rattle.solver.proofs.Solving.{powers-suc}
-use Rattle.cases.specs.Formula.{Formula, False, True, And, Or, Box, Diamond, Variable, Fix, binders}
+use Rattle.cases.specs.Formula.{Formula, False, True, And, Or, Box, Diamond, Variable, Fix}
+use Rattle.cases.specs.internal.Scope.{binders}
 use Rattle.cases.specs.declared.Transition.{Transition}
-use Rattle.cases.specs.Meaning.{setOf, boxIn, diamondIn, meaning}
+use Rattle.cases.specs.Meaning.{setOf, boxIn, diamondIn, intersection, union}
+use Rattle.cases.specs.computed.Meanings.{meaning}
 use Rattle.cases.proofs.MeaningLaws.{bodyOf, meaning-sized, meaning-mono}
-use Rattle.routes.specs.Direct.{FromTwo, FromOne, meet, join, Direct, worked}
+use Rattle.routes.specs.Direct.{FromTwo, FromOne, Direct}
+use Rattle.routes.specs.computed.Worked.{worked}
 use Rattle.routes.proofs.IterateLaws.{iterate-same}
 
 -- ---- outcomes from those of the operands
@@ -74,12 +77,12 @@ module _ (n : ℕ) (ts : List Transition) where
   unfolding Direct
   direct-one False ρ = one-equal _
   direct-one True ρ = one-equal _
-  direct-one (And a b) ρ = one-join (meet n) (direct-one a ρ) (direct-one b ρ)
-  direct-one (Or a b) ρ = one-join (join n) (direct-one a ρ) (direct-one b ρ)
+  direct-one (And a b) ρ = one-join (intersection n) (direct-one a ρ) (direct-one b ρ)
+  direct-one (Or a b) ρ = one-join (union n) (direct-one a ρ) (direct-one b ρ)
   direct-one (Box α a) ρ = one-from (λ x. setOf n (boxIn n ts α x)) (direct-one a ρ)
   direct-one (Diamond α a) ρ = one-from (λ x. setOf n (diamondIn n ts α x)) (direct-one a ρ)
   direct-one (Variable i) ρ = one-equal (ρ i)
-  direct-one (Fix sign i a) ρ = λ v w r q. loop-one (one-itself (λ u. direct-one a (bind ρ i u)))
+  direct-one (Fix sign i a) ρ = λ v w r q. loop-one (one-itself (λ u. direct-one a (update ρ i u)))
 
   -- ---- what is worked out
 
@@ -88,13 +91,13 @@ module _ (n : ℕ) (ts : List Transition) where
   unfolding worked meaning
   worked-meaning False ρ = refl
   worked-meaning True ρ = refl
-  worked-meaning (And a b) ρ = ap₂ (meet n) (worked-meaning a ρ) (worked-meaning b ρ)
-  worked-meaning (Or a b) ρ = ap₂ (join n) (worked-meaning a ρ) (worked-meaning b ρ)
+  worked-meaning (And a b) ρ = ap₂ (intersection n) (worked-meaning a ρ) (worked-meaning b ρ)
+  worked-meaning (Or a b) ρ = ap₂ (union n) (worked-meaning a ρ) (worked-meaning b ρ)
   worked-meaning (Box α a) ρ = ap (λ (x : States). setOf n (boxIn n ts α x)) (worked-meaning a ρ)
   worked-meaning (Diamond α a) ρ = ap (λ (x : States). setOf n (diamondIn n ts α x)) (worked-meaning a ρ)
   worked-meaning (Variable i) ρ = refl
   worked-meaning (Fix sign i a) ρ =
-      iterate-same (λ v. Unit {0}) (λ v. worked n ts a (bind ρ i v)) (bodyOf n ts i a ρ) (λ v u. u) (λ v u. worked-meaning a (bind ρ i v)) (suc n) (start n sign) tt
+      iterate-same (λ v. Unit {0}) (λ v. worked n ts a (update ρ i v)) (bodyOf n ts i a ρ) (λ v u. u) (λ v u. worked-meaning a (update ρ i v)) (suc n) (start n sign) tt
 
   -- So it has n states,
   pub worked-sized : (a : Formula) (ρ : Valuation) → Sized n ρ → length (worked n ts a ρ .0) ≡ n
@@ -117,36 +120,36 @@ module _ (n : ℕ) (ts : List Transition) where
   worked-bound (Variable i) ρ = omega arith
   worked-bound (Fix sign i a) ρ =
       rw (one-add (binders a), powers-suc (suc n) (binders a))
-      (cost (λ v. worked n ts a (bind ρ i v)) (powers (suc n) (binders a)) (λ v. worked-bound a (bind ρ i v)) (suc n) (start n sign))
+      (cost (λ v. worked n ts a (update ρ i v)) (powers (suc n) (binders a)) (λ v. worked-bound a (update ρ i v)) (suc n) (start n sign))
 
   -- ---- the rule's outcome
 
   -- a binder's loop, where the body's outcome is known for every set of n states
   fix-exists : (sign : Bool) (i : ℕ) (a : Formula) (ρ : Valuation) → Sized n ρ
-      → ((u : States) → length u ≡ n → Direct n ts a (bind ρ i u) (worked n ts a (bind ρ i u) .0) (worked n ts a (bind ρ i u) .1))
+      → ((u : States) → length u ≡ n → Direct n ts a (update ρ i u) (worked n ts a (update ρ i u) .0) (worked n ts a (update ρ i u) .1))
       → Direct n ts (Fix sign i a) ρ (worked n ts (Fix sign i a) ρ .0) (worked n ts (Fix sign i a) ρ .1)
   unfolding Direct worked
   fix-exists sign i a ρ z body =
       loop-map n (λ v u w r o e. ap length (sym (step-set (e .1))) ∙ sized v o)
-      (λ v u w r o e. (e .0, subst (λ (x : Worked). Direct n ts a (bind ρ i v) (x .0) (x .1)) (e .1) (body v o))) (length-replicate n sign)
-      (stops n sign (λ v. worked n ts a (bind ρ i v)) sized
-      (λ v w o l h. worked-mono a (bind ρ i v) (bind ρ i w) (bind-sized ρ i v z o) (bind-sized ρ i w z l) (bind-mono ρ ρ i v w (λ k s t. t) h))
+      (λ v u w r o e. (e .0, subst (λ (x : Worked). Direct n ts a (update ρ i v) (x .0) (x .1)) (e .1) (body v o))) (length-replicate n sign)
+      (stops n sign (λ v. worked n ts a (update ρ i v)) sized
+      (λ v w o l h. worked-mono a (update ρ i v) (update ρ i w) (update-sized ρ i v z o) (update-sized ρ i w z l) (update-mono ρ ρ i v w (λ k s t. t) h))
       (λ v. v))
     where
-      sized : (v : States) → length v ≡ n → length (worked n ts a (bind ρ i v) .0) ≡ n
-      sized v o = worked-sized a (bind ρ i v) (bind-sized ρ i v z o)
+      sized : (v : States) → length v ≡ n → length (worked n ts a (update ρ i v) .0) ≡ n
+      sized v o = worked-sized a (update ρ i v) (update-sized ρ i v z o)
 
   -- The rule gives what is worked out, in sets and in rounds.
   pub direct-exists : (a : Formula) (ρ : Valuation) → Sized n ρ → Direct n ts a ρ (worked n ts a ρ .0) (worked n ts a ρ .1)
   unfolding Direct worked
   direct-exists False ρ z = (refl, refl)
   direct-exists True ρ z = (refl, refl)
-  direct-exists (And a b) ρ z = both (meet n) (worked n ts a ρ) (worked n ts b ρ) (direct-exists a ρ z) (direct-exists b ρ z)
-  direct-exists (Or a b) ρ z = both (join n) (worked n ts a ρ) (worked n ts b ρ) (direct-exists a ρ z) (direct-exists b ρ z)
+  direct-exists (And a b) ρ z = both (intersection n) (worked n ts a ρ) (worked n ts b ρ) (direct-exists a ρ z) (direct-exists b ρ z)
+  direct-exists (Or a b) ρ z = both (union n) (worked n ts a ρ) (worked n ts b ρ) (direct-exists a ρ z) (direct-exists b ρ z)
   direct-exists (Box α a) ρ z = record { operand = _; first = direct-exists a ρ z; set = refl }
   direct-exists (Diamond α a) ρ z = record { operand = _; first = direct-exists a ρ z; set = refl }
   direct-exists (Variable i) ρ z = (refl, refl)
-  direct-exists (Fix sign i a) ρ z = fix-exists sign i a ρ z (λ u o. direct-exists a (bind ρ i u) (bind-sized ρ i u z o))
+  direct-exists (Fix sign i a) ρ z = fix-exists sign i a ρ z (λ u o. direct-exists a (update ρ i u) (update-sized ρ i u z o))
 
   -- So each outcome has n states.
   pub direct-sized : (a : Formula) (ρ : Valuation) → Sized n ρ → (v : States) (r : ℕ) → Direct n ts a ρ v r → length v ≡ n

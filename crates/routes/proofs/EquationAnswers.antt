@@ -5,18 +5,18 @@ use Prim.Native.Nat.{ℕ, _≤_}
 use native.Mathlib.Omega.{arith}
 use lib.ListN.{length, take, length-append}
 use lib.Seq.{take-append-seam}
-use Rattle.sets.specs.Refusals.{Outcome, firstOf, refused, outcomeBy}
+use Rattle.sets.specs.Refusals.{Outcome, firstOf, refused, outcomeBy, reportOf}
 use Rattle.sets.proofs.Refusals.{refusing}
 use Rattle.solver.specs.Outcome.{report, solveRefusal, solveOutcome, solveMarks, solveWork, Answered}
 use Rattle.cases.specs.Case.{caseOf}
 use Rattle.cases.specs.Conditions.{Accepted}
-use Rattle.translate.specs.Translating.{file, fileAfter, translateRefusal, writtenNumber, Translated}
+use Rattle.translate.specs.Translating.{file, fileAfter, translateRefusal, writtenNumber, writtenLength, Translated}
 use Rattle.translate.specs.declared.Written.{Written}
 use Rattle.translate.specs.declared.Cause.{Cause}
 use Rattle.translate.specs.declared.Written.the-variants.{File, Refused}
-use Rattle.translate.proofs.Promises.{answers, writes, read-back}
+use Rattle.translate.proofs.Promises.{writes, read-back}
 use Rattle.translate.proofs.Translations.{some-number, unrefused}
-use Rattle.routes.specs.Route.{equation, Lent, runOf, routeReport, routeConditions, routeOutcome, marksAfter, workAfter, EquationRan}
+use Rattle.routes.specs.Route.{equation, Lent, runOf, routeConditions, routeOutcome, marksAfter, workAfter, EquationRan}
 use Rattle.routes.proofs.RouteLaws.{translate-then-solve, translate-never-14}
 use Rattle.routes.proofs.DirectAnswers.{ran-refused}
 
@@ -25,41 +25,46 @@ pub refusal-number : {w : Written} {cause : Cause} → w ≡ Refused cause → �
 unfolding writtenNumber
 refusal-number {cause = cause} e z = some-number cause (sym (ap writtenNumber e) ∙ z)
 
-module _ {b : List ℕ} (l : Lent) {file′ : List ℕ} {w : Written} (t : Translated b (l .file) w file′) (limit : ℕ) where
+-- and a file none; its length is answered
+pub file-number : {w : Written} {k : ℕ} → w ≡ File k → writtenNumber w ≡ 0
+unfolding writtenNumber
+file-number e = ap writtenNumber e
+
+pub file-long : {w : Written} {k : ℕ} → w ≡ File k → writtenLength w ≡ k
+unfolding writtenLength
+file-long e = ap writtenLength e
+
+module _ {b : List ℕ} (l : Lent) {file′ : List ℕ} {number long : ℕ} (t : Translated b (l .file) number long file′) (limit : ℕ) where
   abbrev room : ℕ
   room = length (l .file)
 
   -- ---- a refusal of translate's is the route's
-  module _ (d : ¬ (writtenNumber w ≡ 0)) where
+  module _ (d : ¬ (number ≡ 0)) where
     none : ¬ (translateRefusal b room ≡ 0)
-    none z = d (answers t ∙ z)
+    none z = d (t .answers ∙ z)
 
-    number : firstOf (routeConditions equation b l limit) ≡ writtenNumber w
-    number = translate-then-solve b l limit ∙ refusing (translateRefusal b room) _ (translateRefusal b room) none ∙ sym (answers t)
+    first-is : firstOf (routeConditions equation b l limit) ≡ number
+    first-is = translate-then-solve b l limit ∙ refusing (translateRefusal b room) _ (translateRefusal b room) none ∙ sym (t .answers)
 
-    pub translate-refused : {o : Outcome} → o ≡ refused (writtenNumber w) → EquationRan b l limit o file′ (l .work) (l .marks)
+    pub translate-refused : {o : Outcome} → o ≡ refused number → EquationRan b l limit o file′ (l .work) (l .marks)
     unfolding fileAfter workAfter
     translate-refused is = record {
-      ran = record { by = ran-refused is number d };
+      ran = record { by = ran-refused is first-is d };
       file-is = t .bytes;
-      work-is = λ n. sym (refusing (firstOf (routeConditions equation b l limit)) _ _ (λ z. d (sym number ∙ z)));
-      work-14 = λ z. absurd (translate-never-14 b room (sym (ap (λ (o : Outcome). o .refusal) is ∙ answers t) ∙ z));
+      work-is = λ n. sym (refusing (firstOf (routeConditions equation b l limit)) _ _ (λ z. d (sym first-is ∙ z)));
+      work-14 = λ z. absurd (translate-never-14 b room (sym (ap (λ (o : Outcome). o .refusal) is ∙ t .answers) ∙ z));
     }
 
   -- ---- what is written is the file of an accepted case
-  module _ {k : ℕ} (e : w ≡ File k) where
-    zero-number : writtenNumber w ≡ 0
-    unfolding writtenNumber
-    zero-number = ap writtenNumber e
-
+  module _ {k : ℕ} (zero-number : number ≡ 0) (length-is : long ≡ k) where
     nothing : translateRefusal b room ≡ 0
-    nothing = sym (answers t) ∙ zero-number
+    nothing = sym (t .answers) ∙ zero-number
 
     pub accepted : Accepted b
     accepted = unrefused b room .0 nothing .0
 
     written-length : k ≡ length (file b)
-    written-length = let x : File k ≡ File (length (file b)) = sym e ∙ writes t zero-number .1 in cc
+    written-length = sym length-is ∙ writes t zero-number .1
 
     pub written-file : take k file′ ≡ file b
     written-file = rw (written-length, writes t zero-number .0) (take-append-seam (file b) _)
@@ -68,8 +73,8 @@ module _ {b : List ℕ} (l : Lent) {file′ : List ℕ} {w : Written} (t : Trans
     written-fits = rw (written-length, writes t zero-number .0) (simp length-append (omega arith))
 
     -- solve's report on it is the route's
-    same-report : report (file b) ≡ routeReport (caseOf b) (runOf equation (caseOf b) .0) (runOf equation (caseOf b) .1)
-    unfolding report routeReport runOf
+    same-report : report (file b) ≡ reportOf (caseOf b .initial) (runOf equation (caseOf b) .0) (runOf equation (caseOf b) .1)
+    unfolding report runOf
     same-report = rw (read-back b accepted .1)
 
     -- so is its number

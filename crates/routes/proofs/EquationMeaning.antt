@@ -8,15 +8,15 @@ use native.Mathlib.Omega.{arith}
 use lib.Dec.{T, ltb}
 use lib.ListN.{length-replicate}
 use Rattle.sets.specs.Lists.{every}
-use Rattle.sets.specs.Valuation.{Valuation, none, Sized}
+use Rattle.sets.specs.States.{Valuation, allEmpty, Sized}
 use Rattle.solver.specs.internal.Forms.{Inside}
-use Rattle.solver.specs.Rounds.{Reached, solved}
-use Rattle.solver.specs.Outcome.{run}
-use Rattle.cases.specs.Formula.{Formula, nodes, free}
+use Rattle.solver.specs.computed.Solved.{Reached, solved, run}
+use Rattle.cases.specs.Formula.{Formula, nodes}
+use Rattle.cases.specs.internal.Scope.{free}
 use Rattle.cases.specs.declared.Transition.{Transition}
 use Rattle.cases.specs.Case.{Case, caseOf, distinct}
 use Rattle.cases.specs.Conditions.{Accepted}
-use Rattle.cases.specs.Meaning.{meaning}
+use Rattle.cases.specs.computed.Meanings.{meaning}
 use Rattle.cases.proofs.TableTrees.{formula-table}
 use Rattle.cases.proofs.Accepting.{passed}
 use Rattle.cases.proofs.ClosedMeaning.{none-free}
@@ -73,17 +73,17 @@ module _ (b : List ℕ) (accepted : Accepted b) where
   up = increasing-whole (c .formula) (increasing-binders _ _ (formula-table _ _ (passed b accepted .formula)))
 
   -- the file's blocks are solved as those of the formula
-  run-blocks : run (file b) ≡ solved n (cellsFrom n ts (blockIn a) a 0) (blocksFrom n a 0 ++ []) 0 (none n)
+  run-blocks : run (file b) ≡ solved n (cellsFrom n ts (blockIn a) a 0) (blocksFrom n a 0 ++ []) 0 (allEmpty n)
   unfolding run systemOf
   run-blocks = rw (states-back c fits, cells-back c fits, blocks-back c fits, append-nil)
 
   -- with the sets that this ends with, the formula that is translated has its meaning
-  run-meaning : run (file b) .0 0 ≡ meaning n ts a (λ j. none n (blockIn a j))
+  run-meaning : run (file b) .0 0 ≡ meaning n ts a (λ j. allEmpty n (blockIn a j))
   run-meaning =
       ap (λ (x : Reached). x .0 0) run-blocks
       ∙ sym (root-set n ts (c .formula) _)
       ∙ bridge n (fits .states-low) ts (ends c fits) (blockIn a) a a 0 0 []
-      (whole-placed n (fits .states-low) ts (ends c fits) a up (none-free-whole (c .formula) closed)) (none n) (λ k. length-replicate n false)
+      (whole-placed n (fits .states-low) ts (ends c fits) a up (none-free-whole (c .formula) closed)) (allEmpty n) (λ k. length-replicate n false)
 
 -- The first block's set is the formula's meaning, whatever sets are given to variables, of which none is free.
 pub equations-mean : (b : List ℕ) → Accepted b → (ρ : Valuation) → Sized (caseOf b .states) ρ

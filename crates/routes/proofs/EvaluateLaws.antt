@@ -6,12 +6,10 @@ use Prim.Native.Nat.{ℕ, _+_, _<_}
 use native.Mathlib.Omega.{arith}
 use lib.Dec.{eqb}
 use lib.ListN.{length, getD}
-use Rattle.sets.specs.Size.{wordCount}
-use Rattle.sets.specs.States.{States, has, start}
+use Rattle.sets.specs.States.{States, has, start, Valuation}
 use Rattle.sets.specs.Lists.{numbersFrom}
-use Rattle.sets.specs.Words.{words}
+use Rattle.sets.specs.Words.{words, wordCount}
 use Rattle.sets.proofs.Lists.{false-true}
-use Rattle.sets.specs.Valuation.{Valuation}
 use Rattle.cases.specs.Action.{Action}
 use Rattle.cases.specs.declared.Header.{Header}
 use Rattle.cases.specs.declared.Node.{Node}
@@ -24,11 +22,10 @@ use Rattle.cases.specs.Meaning.{setOf}
 use Rattle.cases.specs.internal.Checks.{transitionsIn, nodesIn}
 use Rattle.cases.proofs.Spans.{end-leaf, end-one, end-two, second-node, second-inside}
 use Rattle.routes.specs.Direct.{FromTwo, FromOne, Direct}
-use Rattle.routes.specs.internal.Evaluating.{value, modalIn, Asks, KindAt, Rule, Evaluated}
+use Rattle.routes.specs.internal.Evaluating.{returned, modalIn, Asks, KindAt, Rule, Evaluated}
 use Rattle.routes.specs.declared.Value.{Value}
 use Rattle.routes.proofs.DirectLaws.{direct-sized}
-use Rattle.routes.proofs.NodeLaws.{by-kind, whole, inside, in-arities, node-read, kind-at, asks, operand, arity, ruled, ruled-by}
-use Rattle.routes.proofs.NodeLaws.{Binder, binder-of, block-of}
+use Rattle.routes.proofs.NodeLaws.{by-kind, whole, inside, in-arities, node-read, kind-at, asks, operand, arity, ruled, ruled-by, Binder, binder-of, block-of}
 
 -- the answer where the rounds are spent
 pub all-spent : {h : Header} {records formula labels : List ℕ} {rows : List (List ℕ)} {at used limit : ℕ} {o : Value} → o .spent ≡ true
@@ -55,7 +52,7 @@ module _ {h : Header} {records formula labels blocks : List ℕ} {at used limit 
   module _ {rows : List (List ℕ)} where
     -- false and true
     pub constant-done : {kind : ℕ} → KindAt formula (h .nodes) at kind 0 1 → {set : List ℕ} → set ≡ words wordCount (start n (eqb kind 1))
-        → Evaluated h records formula labels rows at used limit (value set (at + 1) used false)
+        → Evaluated h records formula labels rows at used limit (returned set (at + 1) used false)
     unfolding Direct
     constant-done k e = record {
       over = λ s. absurd (false-true s);
@@ -69,7 +66,7 @@ module _ {h : Header} {records formula labels blocks : List ℕ} {at used limit 
 
     -- a variable
     pub variable-done : {x : Node} → x ≡ nodeIn formula at → x .kind ≡ 6 → {k : ℕ} → k ≡ getD blocks (x .arg) 0
-        → Evaluated h records formula labels rows at used limit (value (getD rows k []) (at + 1) used false)
+        → Evaluated h records formula labels rows at used limit (returned (getD rows k []) (at + 1) used false)
     unfolding Direct
     variable-done {x} e is {k} b = record {
       over = λ s. absurd (false-true s);
@@ -148,7 +145,7 @@ module _ {h : Header} {records formula labels blocks : List ℕ} {at used limit 
           pub pair-done : two .spent ≡ false → {set : List ℕ}
               → ((n : ℕ) (v w : States) → length v ≡ n → length w ≡ n → one .set ≡ words wordCount v → two .set ≡ words wordCount w
               → set ≡ words wordCount (map (λ s. cond (eqb kind 3) (has v s || has w s) (has v s && has w s)) (numbersFrom 0 n)))
-              → Evaluated h records formula labels rows at used limit (value set (two .next) (two .rounds) false)
+              → Evaluated h records formula labels rows at used limit (returned set (two .next) (two .rounds) false)
           pair-done s {set} both = record {
             over = λ o. absurd (false-true o);
             low = λ o. omega (arith, first .low e, second .low s);
@@ -195,7 +192,7 @@ module _ {h : Header} {records formula labels blocks : List ℕ} {at used limit 
       pub modal-done : one .spent ≡ false → {set : List ℕ}
           → ((α : Action) (v : States) → getD labels at 0 ≡ maskOf α → length v ≡ n → one .set ≡ words wordCount v
           → set ≡ words wordCount (setOf n (modalIn (eqb kind 5) n ts α v)))
-          → Evaluated h records formula labels rows at used limit (value set (one .next) (one .rounds) false)
+          → Evaluated h records formula labels rows at used limit (returned set (one .next) (one .rounds) false)
       modal-done e {set} found = record {
         over = λ o. absurd (false-true o);
         low = λ o. first .low e;

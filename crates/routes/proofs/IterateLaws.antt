@@ -2,8 +2,8 @@
 use mathlib.Core.Path.{_≡_, refl}
 use mathlib.Core.Bool.{Bool, true, false}
 use Prim.Native.Nat.{ℕ, zero, suc}
-use Rattle.sets.specs.States.{States, same}
-use Rattle.sets.specs.Loop.{Worked, iterate}
+use Rattle.sets.specs.States.{States}
+use Rattle.sets.specs.computed.Iteration.{Worked, iterate, same}
 
 -- Loops whose turns give the same sets, whatever the rounds, stop at the same set. It is enough that they do on the sets that a loop comes by.
 pub iterate-same : (P : States → Type 0) (f g : States → Worked) → ((v : States) → P v → P (g v .0)) → ((v : States) → P v → f v .0 ≡ g v .0)

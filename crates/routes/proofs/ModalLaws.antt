@@ -9,17 +9,15 @@ use borrow.Author.Tests.{eq-eqb, ne-eqb}
 use lib.Dec.{T, eqb, ltb, ltb→lt}
 use lib.ListN.{length, getD, set, length-set}
 use lib.Seq.{ext-getD, getD-set-same, getD-set-other}
-use Rattle.sets.specs.Size.{wordCount, stateLimit}
 use Rattle.sets.specs.Lists.{numbersFrom, forSome}
 use Rattle.sets.specs.States.{States, has, start}
-use Rattle.sets.specs.Words.{words, marked}
+use Rattle.sets.specs.Words.{words, marked, wordCount, stateLimit}
 use Rattle.sets.proofs.Lists.{length-table, table-at, and-left, and-right, and-false, all-at}
 use Rattle.sets.proofs.Words.{marked-words}
-use Rattle.cases.specs.Limits.{labelLimit}
 use Rattle.cases.specs.Action.{Action, accepts}
 use Rattle.cases.specs.internal.Masks.{maskOf}
 use Rattle.cases.specs.declared.Transition.{Transition}
-use Rattle.cases.specs.File.{transitionIn}
+use Rattle.cases.specs.File.{transitionIn, labelLimit}
 use Rattle.cases.specs.internal.Checks.{transitionsIn}
 use Rattle.cases.specs.Conditions.{transitionOk}
 use Rattle.cases.specs.Meaning.{setOf, from, boxIn, diamondIn}

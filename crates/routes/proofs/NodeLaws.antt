@@ -8,9 +8,8 @@ use native.Mathlib.Decide.{ℕ-discrete}
 use borrow.Author.Tests.{ltb-true, ltb-false}
 use lib.Dec.{ltb}
 use lib.ListN.{length, getD, take, length-map}
-use Rattle.sets.specs.States.{States}
-use Rattle.solver.specs.Limits.{blockLimit}
-use Rattle.sets.specs.Valuation.{Valuation}
+use Rattle.sets.specs.States.{States, Valuation}
+use Rattle.solver.specs.File.{blockLimit}
 use Rattle.cases.specs.Action.{Action}
 use Rattle.cases.specs.Formula.{Formula}
 use Rattle.cases.specs.declared.Header.{Header}

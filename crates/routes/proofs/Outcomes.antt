@@ -5,16 +5,16 @@ use mathlib.Core.List.{List}
 use Prim.Native.Nat.{ℕ, suc, _≤_}
 use native.Mathlib.Nat.{le-trans}
 use lib.ListN.{length-replicate}
-use Rattle.sets.specs.States.{States}
-use Rattle.sets.specs.Valuation.{Valuation, none, Sized}
-use Rattle.solver.specs.File.{blockCount}
-use Rattle.solver.specs.Rounds.{powers}
-use Rattle.solver.specs.Outcome.{run}
-use Rattle.solver.specs.Outcome as Solver
+use Rattle.sets.specs.States.{States, Valuation, allEmpty, Sized}
+use Rattle.solver.specs.File.{sizesOf}
+use Rattle.solver.specs.Solution.{powers}
+use Rattle.solver.specs.computed.Solved.{run}
+use Rattle.solver.specs.Outcome.{FileRounds}
 use Rattle.solver.proofs.Starts.{own-solves, own-rounds, own-bound}
 use Rattle.cases.specs.Case.{Case, caseOf}
 use Rattle.cases.specs.Conditions.{Accepted}
-use Rattle.cases.specs.Meaning.{Means, meaning}
+use Rattle.cases.specs.Meaning.{Means}
+use Rattle.cases.specs.computed.Meanings.{meaning}
 use Rattle.cases.proofs.TableTrees.{formula-table}
 use Rattle.cases.proofs.Accepting.{passed}
 use Rattle.cases.proofs.ClosedMeaning as closed
@@ -27,7 +27,7 @@ use Rattle.routes.proofs.EquationMeaning.{equations-mean}
 use Rattle.routes.proofs.BlockCounts.{blocks-formula}
 
 -- sets of n states that are all empty
-none-sized : (n : ℕ) → Sized n (none n)
+none-sized : (n : ℕ) → Sized n (allEmpty n)
 none-sized n k = length-replicate n false
 
 module _ (b : List ℕ) where
@@ -49,33 +49,33 @@ module _ (b : List ℕ) where
 
     -- a route has the rounds that its function works out, and no others
     pub own-exists : (R : Route) → OwnRounds R c (runOf R c .1)
-    unfolding OwnRounds runOf Solver.OwnRounds
-    own-exists direct = (_, direct-exists (c .states) (c .transitions) (c .formula) (none (c .states)) (none-sized (c .states)))
+    unfolding OwnRounds runOf FileRounds
+    own-exists direct = (_, direct-exists (c .states) (c .transitions) (c .formula) (allEmpty (c .states)) (none-sized (c .states)))
     own-exists equation = (run (file b) .0, own-solves (well-formed b accepted))
 
     pub own-one : (R : Route) (r : ℕ) → OwnRounds R c r → r ≡ runOf R c .1
     unfolding OwnRounds runOf
     own-one direct r o =
-        direct-one (c .states) (c .transitions) (c .formula) (none (c .states)) (o .0) _ r _ (o .1) (own-exists direct .1) .1
+        direct-one (c .states) (c .transitions) (c .formula) (allEmpty (c .states)) (o .0) _ r _ (o .1) (own-exists direct .1) .1
     own-one equation r o = own-rounds (well-formed b accepted) r o
 
     -- Its set is the formula's meaning.
     run-meaning : (R : Route) (ρ : Valuation) → Sized (c .states) ρ → runOf R c .0 ≡ meaning (c .states) (c .transitions) (c .formula) ρ
     unfolding runOf
     run-meaning direct ρ s =
-        worked-meaning (c .states) (c .transitions) (c .formula) (none (c .states))
-        ∙ one-meaning (none (c .states)) ρ (none-sized (c .states)) s _ _ (meaning-of (none (c .states)) (none-sized (c .states))) (meaning-of ρ s)
+        worked-meaning (c .states) (c .transitions) (c .formula) (allEmpty (c .states))
+        ∙ one-meaning (allEmpty (c .states)) ρ (none-sized (c .states)) s _ _ (meaning-of (allEmpty (c .states)) (none-sized (c .states))) (meaning-of ρ s)
     run-meaning equation ρ s = equations-mean b accepted ρ s
 
     -- so both routes have the same set
     pub runs-alike : (R R′ : Route) → runOf R c .0 ≡ runOf R′ c .0
-    runs-alike R R′ = run-meaning R (none (c .states)) (none-sized (c .states)) ∙ sym (run-meaning R′ (none (c .states)) (none-sized (c .states)))
+    runs-alike R R′ = run-meaning R (allEmpty (c .states)) (none-sized (c .states)) ∙ sym (run-meaning R′ (allEmpty (c .states)) (none-sized (c .states)))
 
     pub run-means : (R : Route) (ρ : Valuation) → Sized (c .states) ρ → (v : States) → Means (c .states) (c .transitions) (c .formula) ρ v → v ≡ runOf R c .0
     run-means R ρ s v m = means-unique (c .states) (c .transitions) (c .formula) ρ s v m ∙ sym (run-meaning R ρ s)
 
     -- Its rounds are at most m + m ^ 2 + .. + m ^ d, for m = n + 1 and the d blocks of the file.
-    pub run-bound : (R : Route) → runOf R c .1 ≤ powers (suc (c .states)) (blockCount (file b))
+    pub run-bound : (R : Route) → runOf R c .1 ≤ powers (suc (c .states)) (sizesOf (file b) .blocks)
     unfolding runOf
-    run-bound direct = le-trans (worked-bound (c .states) (c .transitions) (c .formula) (none (c .states))) (powers-mono _ _ _ (blocks-formula b accepted))
+    run-bound direct = le-trans (worked-bound (c .states) (c .transitions) (c .formula) (allEmpty (c .states))) (powers-mono _ _ _ (blocks-formula b accepted))
     run-bound equation = rw (read-back b accepted .0) at (own-bound (file b))

@@ -4,34 +4,32 @@
 use mathlib.Core.Path.{_≡_, refl, sym, ap, _∙_}
 use mathlib.Core.Logic.{_↔_, _⊎_, inl, inr, by-cases}
 use mathlib.Core.List.{List, _++_, map, List·Memᴰ}
-use mathlib.Core.Bool.{Bool}
+use mathlib.Core.Bool.{Bool, true}
 use Prim.Native.Nat.{ℕ, suc, _≤_, _<_}
 use native.Mathlib.Omega.{arith}
 use native.Mathlib.Decide.{ℕ-discrete}
+use borrow.Author.Tests.{ltb-true, lt-ltb}
 use lib.ListN.{length, take, drop}
 use Rattle.sets.specs.Lists.{every}
-use Rattle.sets.specs.Size.{wordCount}
-use Rattle.sets.specs.States.{States}
-use Rattle.sets.specs.Words.{bit, Marks}
-use Rattle.sets.specs.Valuation.{Valuation, Sized}
-use Rattle.sets.specs.Refusals.{numbersOf, NoneHolds, FirstHolds, refused, Outcome, GivesMarks, Spent}
+use Rattle.sets.specs.States.{States, Valuation, Sized}
+use Rattle.sets.specs.Words.{bit, Marks, wordCount}
+use Rattle.sets.specs.Refusals.{numbersOf, NoneHolds, FirstHolds, refused, byRefusal, Outcome, GivesMarks, Spent, reportOf}
 use Rattle.sets.proofs.Refusals.{apart, member, first-holds, first-answered, none-first, refusing}
 use Rattle.sets.proofs.Words.{take-words, shows}
 use Rattle.solver.specs.Cells.{Values}
-use Rattle.solver.specs.File.{stateCount, blockCount, cellCount, cells}
-use Rattle.solver.specs.Rounds.{powers}
-use Rattle.solver.specs.Standard.{StandardSolution}
-use Rattle.solver.specs.Outcome.{Scratch}
+use Rattle.solver.specs.File.{sizesOf, cells}
+use Rattle.solver.specs.Solution.{powers, StandardSolution}
+use Rattle.solver.specs.Outcome.{solveRefusal, Scratch}
 use Rattle.solver.proofs.Starts.{own-values}
 use Rattle.translate.proofs.Promises.{well-formed}
 use Rattle.cases.specs.Case.{caseOf}
 use Rattle.cases.specs.Conditions.{layoutConditions, modelConditions, formulaConditions, caseConditions, Accepted}
 use Rattle.cases.specs.Meaning.{MeansIn}
 use Rattle.cases.proofs.MeaningLaws.{means-sized}
-use Rattle.translate.specs.Translating.{file, fileAfter}
+use Rattle.translate.specs.Translating.{file, translateRefusal, fileAfter}
 use Rattle.translate.proofs.Translations.{unrefused}
-use Rattle.routes.specs.Route.{Route, equation, Lent, OwnRounds, runOf, routeReport, runConditions, routeConditions, Enough, workAfter, Ran, EquationRan}
-use Rattle.routes.proofs.RouteLaws.{number-ran, reported, written, refused-with, kept, given, spent-over, spent-accepted, spent-number, gives-number}
+use Rattle.routes.specs.Route.{Route, equation, Lent, OwnRounds, runOf, exceeds, runConditions, routeConditions, Enough, workAfter, Ran, EquationRan}
+use Rattle.routes.proofs.RouteLaws.{translate-then-solve, number-ran, reported, written, refused-with, kept, given, spent-over, spent-accepted, spent-number, gives-number}
 use Rattle.routes.proofs.Outcomes.{meaning-of, one-meaning, own-exists, own-one, runs-alike, run-means, run-bound}
 
 -- ---- Demand 3, of an accepted case with enough memory
@@ -50,6 +48,11 @@ module _ (b : List ℕ) (accepted : Accepted b) where
   pub rounds-unique : (R : Route) (r q : ℕ) → OwnRounds R (caseOf b) r → OwnRounds R (caseOf b) q → r ≡ q
   rounds-unique R r q o p = own-one b accepted R r o ∙ sym (own-one b accepted R q p)
 
+  -- Condition 14 holds exactly if they exceed the limit.
+  pub exceeds-iff : (R : Route) (r : ℕ) → OwnRounds R (caseOf b) r → (limit : ℕ) → exceeds R (caseOf b) limit ≡ true ↔ limit < r
+  unfolding exceeds
+  exceeds-iff R r o limit = rw (own-one b accepted R r o) (ltb-true limit (runOf R (caseOf b) .1), lt-ltb limit (runOf R (caseOf b) .1))
+
   module _ {R : Route} {l : Lent} {limit : ℕ} {o : Outcome} {marks′ : List ℕ} (ran : Ran R b l limit o marks′)
       (enough : Enough R (caseOf b) l) (r : ℕ) (own : OwnRounds R (caseOf b) r) where
     -- (a) A route is spent exactly if its own rounds exceed the limit.
@@ -60,7 +63,7 @@ module _ (b : List ℕ) (accepted : Accepted b) where
     pub gives-iff : GivesMarks o ↔ r ≤ limit
     gives-iff = rw (own-one b accepted R r own, number-ran (ran .by)) (gives-number R b l limit accepted enough)
 
-    pub reports : r ≤ limit → (ρ : Valuation) (v : States) → MeansIn (caseOf b) ρ v → o ≡ routeReport (caseOf b) v r
+    pub reports : r ≤ limit → (ρ : Valuation) (v : States) → MeansIn (caseOf b) ρ v → o ≡ reportOf (caseOf b .initial) v r
     reports h ρ v m = rw (run-means b accepted R ρ (m .0) v (m .1), own-one b accepted R r own) (reported (ran .by) (gives-iff .1 h))
 
 -- (c) Where a route gives marks, a state is marked exactly if it lies in the formula's meaning, no bit from n up is 1, and the words behind
@@ -76,7 +79,6 @@ module _ {R : Route} {b : List ℕ} {l : Lent} {limit : ℕ} {o : Outcome} {mark
   -- (d) Any two runs that give marks, by either route and at whatever limits and lent memory, are alike in marks, verdict and count.
   pub alike : {R′ : Route} {l′ : Lent} {limit′ : ℕ} {o′ : Outcome} {marks″ : List ℕ} → Ran R′ b l′ limit′ o′ marks″ → GivesMarks o → GivesMarks o′
       → (take wordCount marks′ ≡ take wordCount marks″) × (o .verdict ≡ o′ .verdict) × (o .count ≡ o′ .count)
-  unfolding routeReport
   alike {R′} ran′ g g′ =
       let same = runs-alike b (accepted-run g) R R′ in (
         rw (written (ran .by) g, written (ran′ .by) g′, take-words wordCount (runOf R (caseOf b) .0), take-words wordCount (runOf R′ (caseOf b) .0), same),
@@ -94,18 +96,18 @@ module _ {R : Route} {b : List ℕ} {l : Lent} {limit : ℕ} {o : Outcome} {mark
       (reported (ran′ .by) g′ ∙ sym (reported (ran .by) g), written (ran′ .by) g′ ∙ ap (λ (ws : List ℕ). ws ++ drop wordCount (l′ .marks)) (sym words-are))
 
   -- (f) A limit of m + m ^ 2 + .. + m ^ d, for m = n + 1 and the d blocks of the equation file, is never spent.
-  pub never-spent : powers (suc (caseOf b .states)) (blockCount (file b)) ≤ limit → ¬ Spent o
+  pub never-spent : powers (suc (caseOf b .states)) (sizesOf (file b) .blocks) ≤ limit → ¬ Spent o
   never-spent h s =
       let z = sym (number-ran (ran .by)) ∙ s in
       omega (arith, spent-over R b l limit z, run-bound b (spent-accepted R b l limit z) R)
 
   -- ---- Demand 1, of any bytes
 
-  -- One answer: the report, or one number of the conditions, with zeros for verdict, count and rounds.
-  pub one-answer : (o ≡ routeReport (caseOf b) (runOf R (caseOf b) .0) (runOf R (caseOf b) .1))
+  -- One answer: a report, or one number of the conditions, with zeros for verdict, count and rounds.
+  pub one-answer : GivesMarks o
       ⊎ ((k : ℕ) × List·Memᴰ k (numbersOf (routeConditions R b l limit)) × (o ≡ refused k))
   one-answer = by-cases (ℕ-discrete (o .refusal) 0)
-      (λ g. inl (reported (ran .by) g))
+      inl
       (λ d. inr (_, member (routeConditions R b l limit) (λ z. d (number-ran (ran .by) ∙ z)), refused-with (ran .by) d))
 
   -- The number is that of the first condition that holds, of 1 to 10, then 13, then 14; a report says that none does.
@@ -126,6 +128,10 @@ module _ {R : Route} {b : List ℕ} {l : Lent} {limit : ℕ} {o : Outcome} {mark
     λ e. apart 12 (routeConditions R b l limit) (λ z. omega arith) tt (sym (number-ran (ran .by)) ∙ e),
   )
 
+  -- Only an accepted case with enough lent memory gives marks.
+  pub gives-only : GivesMarks o → Accepted b × Enough R (caseOf b) l
+  gives-only g = let (ok, enough, _) = given R b l limit (sym (number-ran (ran .by)) ∙ g) in (ok, enough)
+
   -- A refusal leaves the marks as they were.
   pub marks-kept : ¬ GivesMarks o → marks′ ≡ l .marks
   marks-kept = kept (ran .by)
@@ -142,8 +148,8 @@ module _ {b : List ℕ} {l : Lent} {limit : ℕ} {o : Outcome} {file′ work′ 
   file-kept h = e .file-is ∙ refusing _ _ _ (λ z. h (unrefused b (length (l .file)) .0 z))
 
   -- After success the working bytes are the cells' values under the standard solution of all blocks, and the bytes behind are as lent.
-  pub work-solved : GivesMarks o → (ρ σ : Valuation) → Sized (stateCount (file b)) ρ → StandardSolution (file b) ρ σ
-      → (vs : List Bool) → Values (cells (file b)) σ vs → work′ ≡ map bit vs ++ drop (cellCount (file b)) (l .work)
+  pub work-solved : GivesMarks o → (ρ σ : Valuation) → Sized (sizesOf (file b) .states) ρ → StandardSolution (file b) ρ σ
+      → (vs : List Bool) → Values (cells (file b)) σ vs → work′ ≡ map bit vs ++ drop (sizesOf (file b) .cells) (l .work)
   unfolding workAfter
   work-solved g ρ σ start s vs v =
       let z = sym (number-ran (e .ran .by)) ∙ g in
@@ -155,5 +161,10 @@ module _ {b : List ℕ} {l : Lent} {limit : ℕ} {o : Outcome} {file′ work′ 
   unfolding workAfter
   work-kept d n = e .work-is n ∙ refusing _ _ _ (λ z. d (number-ran (e .ran .by) ∙ z))
 
-  pub work-spent : Spent o → Scratch (cellCount (file b)) (l .work) work′
+  pub work-spent : Spent o → Scratch (sizesOf (file b) .cells) (l .work) work′
   work-spent = e .work-14
+
+  -- The number is translate's, or where that is 0 solve's on the file.
+  pub in-turn : o .refusal
+      ≡ byRefusal (translateRefusal b (length (l .file))) (solveRefusal (file b) (length (l .work)) (length (l .marks)) limit) (translateRefusal b (length (l .file)))
+  in-turn = number-ran (e .ran .by) ∙ translate-then-solve b l limit

@@ -7,18 +7,16 @@ use native.Mathlib.Omega.{arith}
 use borrow.Author.Tests.{ltb-false}
 use borrow.Rule.Slice.PartAt.{part-to-end}
 use lib.ListN.{length, take, replicate, length-replicate, getD-replicate}
-use Rattle.sets.specs.Size.{wordCount}
-use Rattle.sets.specs.Words.{words}
-use Rattle.sets.specs.Loop.{Worked}
+use Rattle.sets.specs.Words.{words, wordCount}
+use Rattle.sets.specs.computed.Iteration.{Worked}
 use Rattle.sets.proofs.Words.{words-none}
-use Rattle.solver.specs.Limits.{blockLimit}
-use Rattle.sets.specs.Valuation.{none}
-use Rattle.cases.specs.Limits.{nodeLimit}
+use Rattle.solver.specs.File.{blockLimit}
+use Rattle.sets.specs.States.{allEmpty}
 use Rattle.cases.specs.Action.{Action}
 use Rattle.cases.specs.declared.Header.{Header}
 use Rattle.cases.specs.declared.Node.{Node}
 use Rattle.cases.specs.Prefix.{actionAt, formulaAt}
-use Rattle.cases.specs.File.{headerOf, transitionTable, actionTable, formulaTable}
+use Rattle.cases.specs.File.{headerOf, transitionTable, actionTable, formulaTable, nodeLimit}
 use Rattle.cases.specs.Case.{caseOf}
 use Rattle.cases.specs.Conditions.{binderCount, blockTotal, tooDeep, caseRefusal, Accepted}
 use Rattle.cases.specs.Opening.{Opens}
@@ -36,12 +34,12 @@ use Rattle.translate.proofs.AcceptedCases.{model-holds}
 use Rattle.cases.proofs.FormulaRules.{length-nodes}
 use Rattle.translate.proofs.CaseParts.{from}
 use Rattle.routes.specs.declared.Value.{Value}
-use Rattle.routes.specs.Direct.{worked}
+use Rattle.routes.specs.computed.Worked.{worked}
 use Rattle.routes.specs.declared.Answer.the-variants.{Refused}
 use Rattle.routes.specs.declared.Cause.the-variants.{Open}
-use Rattle.routes.specs.Route.{routeNumber, outcome, direct, runOf, marksOnly, runConditions, RanBy, Ran}
+use Rattle.routes.specs.Route.{routeNumber, routeAnswer, direct, runOf, marksOnly, runConditions, RanBy, Ran}
 use Rattle.routes.specs.internal.Answering.{Rooted}
-use Rattle.routes.specs.internal.Evaluating.{Records, FormulaPart, caseIn, CaseParts, Masks, Blocks, Shown, Asks, Rule, Evaluated}
+use Rattle.routes.specs.internal.Evaluating.{Records, FormulaPart, caseIn, CaseParts, Masks, BinderBlocks, Shown, Asks, Rule, Evaluated}
 use Rattle.routes.proofs.DirectLaws.{direct-exists}
 use Rattle.routes.proofs.TableLaws.{binders-before}
 use Rattle.routes.proofs.RouteLaws.{case-refused, case-accepted}
@@ -56,7 +54,7 @@ some-node {part} {f} {a} p =
     omega (arith, root t (formula-table a t (p .formed)), length-nodes part f)
 
 -- before any round every set is empty
-none-shown : (n : ℕ) (t : List Node) → binderCount t ≤ blockLimit → Shown n t (replicate blockLimit (replicate wordCount 0)) (none n)
+none-shown : (n : ℕ) (t : List Node) → binderCount t ≤ blockLimit → Shown n t (replicate blockLimit (replicate wordCount 0)) (allEmpty n)
 none-shown n t few = record {
   sized = λ i. length-replicate n false;
   row = λ i h e.
@@ -67,7 +65,7 @@ none-shown n t few = record {
 module _ {h : Header} {records formula labels : List ℕ} (limit : ℕ) (nodes : FormulaPart formula (h .nodes) (h .actions)) where
   -- what the evaluator is handed at the root
   pub root-asked : {blocks : List ℕ} → Records records (h .transitions) (h .states) (h .labels) → length labels ≡ nodeLimit
-      → length blocks ≡ nodeLimit → Blocks (nodesIn formula (h .nodes)) blocks → Asks h records formula labels blocks 0 0 limit
+      → length blocks ≡ nodeLimit → BinderBlocks (nodesIn formula (h .nodes)) blocks → Asks h records formula labels blocks 0 0 limit
   root-asked model l b numbered = record {
     parts = record {
       model = model;
@@ -83,19 +81,19 @@ module _ {h : Header} {records formula labels : List ℕ} (limit : ℕ) (nodes :
   -- what it answers there
   root-worked : {action : ℕ → Action} {o : Value} → Masks action (nodesIn formula (h .nodes)) labels
       → Evaluated h records formula labels (replicate blockLimit (replicate wordCount 0)) 0 0 limit o
-      → Rooted (worked (h .states) (transitionsIn records (h .transitions)) (formulaAt action (nodesIn formula (h .nodes)) 0) (none (h .states)))
+      → Rooted (worked (h .states) (transitionsIn records (h .transitions)) (formulaAt action (nodesIn formula (h .nodes)) 0) (allEmpty (h .states)))
       limit o
   root-worked {action} {o} masks e =
       let n : ℕ = h .states in
       let t : List Node = nodesIn formula (h .nodes) in
-      let w : Worked = worked n (transitionsIn records (h .transitions)) (formulaAt action t 0) (none n) in
+      let w : Worked = worked n (transitionsIn records (h .transitions)) (formulaAt action t 0) (allEmpty n) in
       let shown = none-shown n t (nodes .shallow) in
-      let given : Rule h records formula labels (replicate blockLimit (replicate wordCount 0)) 0 0 limit action (none n) (w .0) (w .1) =
-      (masks, shown, direct-exists n (transitionsIn records (h .transitions)) (formulaAt action t 0) (none n) (shown .sized)) in
+      let given : Rule h records formula labels (replicate blockLimit (replicate wordCount 0)) 0 0 limit action (allEmpty n) (w .0) (w .1) =
+      (masks, shown, direct-exists n (transitionsIn records (h .transitions)) (formulaAt action t 0) (allEmpty n) (shown .sized)) in
       let right : o .spent ≡ false → (o .rounds ≡ 0 + w .1) × (o .set ≡ words wordCount (w .0)) =
-      λ z. e .right z action (none n) (w .0) (w .1) given in
+      λ z. e .right z action (allEmpty n) (w .0) (w .1) given in
       record {
-        over = λ z. omega (arith, e .over z action (none n) (w .0) (w .1) given);
+        over = λ z. omega (arith, e .over z action (allEmpty n) (w .0) (w .1) given);
         within = λ z. omega (arith, e .high z, right z .0);
         rounds = λ z. omega (arith, right z .0);
         set = λ z. right z .1;
@@ -161,8 +159,8 @@ module _ (b : List ℕ) (accepted : Accepted b) where
 
 -- A case that is not opened is refused with its number.
 pub open-refused : {b marks : List ℕ} {limit : ℕ} {opened : Opened} {cause : Cause′} → Opens (caseRefusal b) (headerOf b) opened → opened ≡ Refused′ cause
-    → Ran direct b (marksOnly marks) limit (outcome (Refused (Open cause))) marks
-unfolding outcome routeNumber
+    → Ran direct b (marksOnly marks) limit (routeAnswer (Refused (Open cause))) marks
+unfolding routeAnswer routeNumber
 open-refused {b} {marks} {limit} {cause = cause} o e =
     let x = opened-refused o e in
     record { by = ran-refused (ap refused (x .0)) (case-refused direct b (marksOnly marks) limit (x .1)) (x .1) }

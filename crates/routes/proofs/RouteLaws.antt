@@ -10,29 +10,27 @@ use borrow.Author.Tests.{ltb-true, ltb-false, lt-ltb, le-ltb}
 use lib.Dec.{ltb}
 use lib.ListN.{length, drop}
 use Rattle.sets.specs.Lists.{every}
-use Rattle.sets.specs.Size.{wordCount}
-use Rattle.sets.specs.Words.{words}
-use Rattle.sets.specs.Refusals.{Conditions, firstOf, Outcome, refused, byRefusal, GivesMarks}
+use Rattle.sets.specs.Words.{words, wordCount}
+use Rattle.sets.specs.Refusals.{Conditions, firstOf, Outcome, refused, byRefusal, GivesMarks, reportOf}
 use Rattle.sets.proofs.Refusals.{Without, apart, reached, none-reached, none-of-first, one-of-first, refusing, reports, refuses, number-is}
-use Rattle.solver.specs.Outcome as Solver
-use Rattle.solver.specs.Outcome.{solveConditions, solveRefusal}
+use Rattle.solver.specs.Outcome.{solveConditions, solveRefusal, solveExceeds, solveTooShort}
 use Rattle.solver.proofs.Promises.{formed-accepted}
 use Rattle.cases.specs.Case.{Case, caseOf}
 use Rattle.cases.specs.Conditions.{layoutConditions, modelConditions, formulaConditions, caseConditions, caseRefusal, Accepted}
 use Rattle.translate.specs.Translating.{file, translateConditions, translateRefusal}
 use Rattle.translate.proofs.Promises.{well-formed}
 use Rattle.translate.proofs.Translations.{unrefused, lacks-room, own-number}
-use Rattle.routes.specs.Route.{Route, equation, Lent, runOf, routeReport, tooShort, exceeds, runConditions, routeConditions, Enough, routeOutcome, marksAfter, RanBy}
+use Rattle.routes.specs.Route.{Route, equation, Lent, runOf, tooShort, exceeds, runConditions, routeConditions, Enough, routeOutcome, marksAfter, RanBy}
 
 -- ---- whatever keeps the contract, by its conditions
 module _ {cs : Conditions} {R : Route} {c : Case} {marks : List ℕ} {o : Outcome} {after : List ℕ} (ran : RanBy cs R c marks o after) where
   -- the number is that of the first condition that holds
   pub number-ran : o .refusal ≡ firstOf cs
-  unfolding routeOutcome routeReport
+  unfolding routeOutcome
   number-ran = ap (λ (o : Outcome). o .refusal) (ran .answers) ∙ number-is cs _ refl
 
   -- with 0 the report is answered, and the marks are written
-  pub reported : GivesMarks o → o ≡ routeReport c (runOf R c .0) (runOf R c .1)
+  pub reported : GivesMarks o → o ≡ reportOf (c .initial) (runOf R c .0) (runOf R c .1)
   unfolding routeOutcome
   reported g = ran .answers ∙ reports cs _ (sym number-ran ∙ g)
 
@@ -139,7 +137,7 @@ module _ (R : Route) (b : List ℕ) (l : Lent) (limit : ℕ) where
 pub translate-then-solve : (b : List ℕ) (l : Lent) (limit : ℕ)
     → firstOf (routeConditions equation b l limit)
     ≡ byRefusal (translateRefusal b (length (l .file))) (solveRefusal (file b) (length (l .work)) (length (l .marks)) limit) (translateRefusal b (length (l .file)))
-unfolding runConditions tooShort exceeds firstOf solveRefusal solveConditions Solver.exceeds runOf
+unfolding runConditions tooShort exceeds firstOf solveRefusal solveConditions solveExceeds runOf
 translate-then-solve b l limit = by-cases (ℕ-discrete (caseRefusal b) 0) accepted
     (λ d. case-refused equation b l limit d ∙ sym (rw (own-number b (length (l .file)) d) (refusing (caseRefusal b) _ (caseRefusal b) d)))
   where
@@ -149,7 +147,7 @@ translate-then-solve b l limit = by-cases (ℕ-discrete (caseRefusal b) 0) accep
     accepted h = case-accepted equation b l limit h ∙ go (ltb (length (l .file)) (length (file b))) refl
       where
         go : (x : Bool) → ltb (length (l .file)) (length (file b)) ≡ x
-            → firstOf ((13, x || Solver.tooShort (file b) (length (l .work)) (length (l .marks))) ∷ (14, exceeds equation (caseOf b) limit) ∷ [])
+            → firstOf ((13, x || solveTooShort (file b) (length (l .work)) (length (l .marks))) ∷ (14, exceeds equation (caseOf b) limit) ∷ [])
             ≡ byRefusal (translateRefusal b (length (l .file))) (solveRefusal (file b) (length (l .work)) (length (l .marks)) limit) (translateRefusal b (length (l .file)))
         go true e = rw (lacks-room b (length (l .file)) .1 (h, ltb-true (length (l .file)) (length (file b)) e))
         go false e =

@@ -10,17 +10,16 @@ use lib.Dec.{T, ltb, ltb→lt}
 use lib.ListN.{length, getD, drop, replicate, getD-replicate}
 use lib.Seq.{getD-take, getD-drop, ext-getD}
 use Rattle.sets.specs.Lists.{every, forSome}
-use Rattle.sets.specs.States.{States, has}
+use Rattle.sets.specs.States.{States, has, Valuation}
 use Rattle.sets.proofs.Lists.{table-at, kept-equal, all-kept, any-kept}
-use Rattle.solver.specs.Cells.{Cell, value, Values, evaluate, part}
-use Rattle.sets.specs.Valuation.{Valuation}
+use Rattle.solver.specs.Cells.{Cell, value, Values, part}
+use Rattle.solver.specs.computed.Solved.{evaluate}
 use Rattle.solver.proofs.Values.{evaluate-values, length-part}
-use Rattle.cases.specs.Formula.{Formula, False, True, And, Or, Box, Diamond, Variable, Fix, nodes}
+use Rattle.cases.specs.Formula.{Formula, False, True, And, Or, Box, Diamond, Variable, Fix, nodes, Stands}
 use Rattle.cases.specs.declared.Transition.{Transition}
 use Rattle.cases.specs.Case.{keep}
 use Rattle.cases.specs.Meaning.{setOf, from, boxIn, diamondIn}
 use Rattle.translate.specs.Cells.{targets, cellOf, cellsFrom}
-use Rattle.translate.specs.Nodes.{Stands}
 use Rattle.translate.proofs.Unfold.{and-operands, or-operands, box-operand, diamond-operand, length-cells, cell-at, cells-ordered}
 
 -- n states, the transitions, and the block of each binder

@@ -10,17 +10,16 @@ use native.Mathlib.Omega.{arith}
 use lib.Dec.{T, ltb→lt}
 use lib.ListN.{length, getD, set, take, length-set}
 use lib.Seq.{getD-set-same, getD-set-other, take-length}
-use Rattle.cases.specs.Limits.{nodeLimit}
 use Rattle.cases.specs.Action.{Action}
 use Rattle.cases.specs.declared.Node.{Node}
-use Rattle.cases.specs.File.{nodeIn}
+use Rattle.cases.specs.File.{nodeIn, nodeLimit}
 use Rattle.cases.specs.internal.Masks.{maskOf}
 use Rattle.cases.specs.Conditions.{nodeAt, nodeOk, isBinder, binderCount}
 use Rattle.cases.specs.internal.Checks.{nodesIn}
 use Rattle.cases.proofs.FormulaRules.{length-nodes}
 use Rattle.translate.proofs.ShapeFields.{node-read}
 use Rattle.translate.proofs.CaseSources.{nodes-pass}
-use Rattle.routes.specs.internal.Evaluating.{isModal, FormulaPart, Masks, Blocks}
+use Rattle.routes.specs.internal.Evaluating.{isModal, FormulaPart, Masks, BinderBlocks}
 
 -- ---- a number for each node
 
@@ -123,5 +122,5 @@ module _ {t : List Node} {xs : List ℕ} where
   }
 
 -- blocks of all nodes
-pub blocks-done : (part : List ℕ) (f i : ℕ) {xs : List ℕ} {count : ℕ} → Counted (nodesIn part f) xs count i → f ≤ i → Blocks (nodesIn part f) xs
+pub blocks-done : (part : List ℕ) (f i : ℕ) {xs : List ℕ} {count : ℕ} → Counted (nodesIn part f) xs count i → f ≤ i → BinderBlocks (nodesIn part f) xs
 blocks-done part f i c h = record { block = λ j l _. c .stored .so-far j (omega (arith, length-nodes part f)) }

@@ -6,14 +6,15 @@ use Prim.Native.Nat.{ℕ, zero, suc, _+_}
 use native.Mathlib.Numerals.{add-one}
 use borrow.Author.Tests.{eq-eqb}
 use lib.Dec.{T, eqb, eqb·suc-suc}
-use Rattle.sets.specs.States.{States, has, start, Extremal}
-use Rattle.sets.specs.Loop.{Worked, iterate}
+use Rattle.sets.specs.States.{States, has, start, Extremal, Valuation, update, Sized}
+use Rattle.sets.specs.computed.Iteration.{Worked, iterate}
 use Rattle.sets.proofs.Lists.{and-right}
-use Rattle.sets.specs.Valuation.{Valuation, bind, Sized}
-use Rattle.sets.proofs.Valuation.{bind-sized}
-use Rattle.cases.specs.Formula.{Formula, False, True, And, Or, Box, Diamond, Variable, Fix, free}
+use Rattle.sets.proofs.Valuation.{update-sized}
+use Rattle.cases.specs.Formula.{Formula, False, True, And, Or, Box, Diamond, Variable, Fix}
+use Rattle.cases.specs.internal.Scope.{free}
 use Rattle.cases.specs.declared.Transition.{Transition}
-use Rattle.cases.specs.Meaning.{setOf, boxIn, diamondIn, Means, meaning}
+use Rattle.cases.specs.Meaning.{setOf, boxIn, diamondIn, Means}
+use Rattle.cases.specs.computed.Meanings.{meaning}
 use Rattle.cases.proofs.MeaningLaws.{means-scope, means-exists, means-unique}
 use Rattle.translate.specs.Whole.{raise, bindsFirst, whole, binderNodes, indexIn, blockIn}
 use Rattle.routes.proofs.Shallow.{shallow}
@@ -59,7 +60,7 @@ root-set n ts (Fix sign i a) σ = rw (eq-eqb i i refl)
 module _ (n : ℕ) (ts : List Transition) where
   -- a raised formula means what it did, where the sets are raised too
   meaning-raise : (a : Formula) (ρ : Valuation) → meaning n ts (raise a) ρ ≡ meaning n ts a (λ j. ρ (j + 1))
-  unfolding meaning raise bind
+  unfolding meaning raise update
   meaning-raise False ρ = refl
   meaning-raise True ρ = refl
   meaning-raise (And a b) ρ = ap₂ (λ (x y : States). setOf n (λ s. has x s && has y s)) (meaning-raise a ρ) (meaning-raise b ρ)
@@ -68,10 +69,10 @@ module _ (n : ℕ) (ts : List Transition) where
   meaning-raise (Diamond α a) ρ = ap (λ (x : States). setOf n (diamondIn n ts α x)) (meaning-raise a ρ)
   meaning-raise (Variable i) ρ = refl
   meaning-raise (Fix sign i a) ρ =
-      ap (λ (f : States → Worked). iterate (suc n) f (start n sign) .0) (λ t v. (body v (meaning-raise a (bind ρ (i + 1) v)) t, 0))
+      ap (λ (f : States → Worked). iterate (suc n) f (start n sign) .0) (λ t v. (body v (meaning-raise a (update ρ (i + 1) v)) t, 0))
     where
-      body : (v : States) → meaning n ts (raise a) (bind ρ (i + 1) v) ≡ meaning n ts a (λ j. bind ρ (i + 1) v (j + 1))
-          → meaning n ts (raise a) (bind ρ (i + 1) v) ≡ meaning n ts a (bind (λ j. ρ (j + 1)) i v)
+      body : (v : States) → meaning n ts (raise a) (update ρ (i + 1) v) ≡ meaning n ts a (λ j. update ρ (i + 1) v (j + 1))
+          → meaning n ts (raise a) (update ρ (i + 1) v) ≡ meaning n ts a (update (λ j. ρ (j + 1)) i v)
       body v e = e ∙ ap (meaning n ts a) (λ t j. cond (same-raised j i t) v (ρ (j + 1)))
 
   -- Where no variable is free, the formula that is translated means what the formula does, whatever sets are given.
@@ -84,15 +85,15 @@ module _ (n : ℕ) (ts : List Transition) where
       w : States
       w = meaning n ts (Fix true 0 (raise a)) ρ
 
-      fixed : Extremal n true (λ u. Means n ts (raise a) (bind ρ 0 u) u) w
+      fixed : Extremal n true (λ u. Means n ts (raise a) (update ρ 0 u) u) w
       fixed = means-exists n ts (Fix true 0 (raise a)) ρ r
 
-      sized : Sized n (bind ρ 0 w)
-      sized = bind-sized ρ 0 w r (fixed .sized)
+      sized : Sized n (update ρ 0 w)
+      sized = update-sized ρ 0 w r (fixed .sized)
 
       go : (b : Bool) → meaning n ts (cond b a (Fix true 0 (raise a))) ρ ≡ meaning n ts a σ
       go true = means-scope n ts a ρ σ r q (λ i t. absurd (none i t))
       go false =
-          means-unique n ts (raise a) (bind ρ 0 w) sized w (fixed .holds)
-          ∙ meaning-raise a (bind ρ 0 w)
-          ∙ means-scope n ts a (λ j. bind ρ 0 w (j + 1)) σ (λ j. sized (j + 1)) q (λ i t. absurd (none i t))
+          means-unique n ts (raise a) (update ρ 0 w) sized w (fixed .holds)
+          ∙ meaning-raise a (update ρ 0 w)
+          ∙ means-scope n ts a (λ j. update ρ 0 w (j + 1)) σ (λ j. sized (j + 1)) q (λ i t. absurd (none i t))

@@ -1,20 +1,17 @@
--- The two routes: what each works out, its own rounds, what it answers, and what it leaves in lent memory.
+-- The two routes: what each works out, its own rounds, what it answers, and what it leaves in lent memory; and what the programs lend.
 use mathlib.Core.Path.{_≡_}
 use mathlib.Core.Bool.{Bool, false, _||_}
 use mathlib.Core.List.{List, [], _∷_, _++_, map}
 use Prim.Native.Nat.{ℕ}
 use lib.Dec.{ltb}
-use lib.ListN.{length, drop}
-use Rattle.sets.specs.Size.{wordCount}
-use Rattle.sets.specs.States.{States, has, size}
-use Rattle.sets.specs.Words.{words, bit}
-use Rattle.sets.specs.Valuation.{none}
-use Rattle.sets.specs.Loop.{Worked}
-use Rattle.sets.specs.Refusals.{Conditions, firstOf, Outcome, Spent, refused, byRefusal, outcomeBy}
-use Rattle.solver.specs.Cells.{evaluate}
-use Rattle.solver.specs.File.{cellCount, cells}
-use Rattle.solver.specs.Outcome.{run, Scratch}
-use Rattle.solver.specs.Outcome as Solver
+use lib.ListN.{length, drop, replicate}
+use Rattle.sets.specs.States.{States, allEmpty}
+use Rattle.sets.specs.Words.{words, bit, wordCount}
+use Rattle.sets.specs.computed.Iteration.{Worked}
+use Rattle.sets.specs.Refusals.{Conditions, firstOf, Outcome, Spent, refused, reportOf, byRefusal, outcomeBy}
+use Rattle.solver.specs.computed.Solved.{evaluate, run}
+use Rattle.solver.specs.File.{sizesOf, cells, cellLimit}
+use Rattle.solver.specs.Outcome.{Scratch, solveNumber, FileRounds, solveTooShort}
 use Rattle.cases.specs.Case.{Case, caseOf}
 use Rattle.translate.specs.Bytes.{fileOf}
 use Rattle.cases.specs.Conditions.{caseConditions}
@@ -25,17 +22,18 @@ use Rattle.routes.specs.declared.Cause.the-variants.{Open, Run}
 use Rattle.routes.specs.declared.Answer.{Answer}
 use Rattle.routes.specs.declared.Answer.the-variants.{Solved, Refused}
 use Rattle.routes.specs.declared.Numbers.{Numbers}
-use Rattle.routes.specs.Direct.{Direct, worked}
+use Rattle.routes.specs.Direct.{Direct}
+use Rattle.routes.specs.computed.Worked.{worked}
 
 -- the paper's number of each cause
 unfoldable pub routeNumber : Cause → ℕ
 routeNumber (Open cause) = caseNumber cause
-routeNumber (Run cause) = Solver.solveNumber cause
+routeNumber (Run cause) = solveNumber cause
 
 -- the outcome that an answer stands for
-unfoldable pub outcome : Answer → Outcome
-outcome (Solved r) = record { refusal = 0; verdict = bit (r .verdict); count = r .count; rounds = r .rounds }
-outcome (Refused cause) = refused (routeNumber cause)
+unfoldable pub routeAnswer : Answer → Outcome
+routeAnswer (Solved r) = record { refusal = 0; verdict = bit (r .verdict); count = r .count; rounds = r .rounds }
+routeAnswer (Refused cause) = refused (routeNumber cause)
 
 -- the outcome that numbers stand for
 unfoldable pub shown : Numbers → Outcome
@@ -49,17 +47,13 @@ pub data Route : Type 0 where
 -- Own rounds: what a route's rules count without a limit. Of direct: until the root's set is worked out. Of the equation route: on the
 -- case's equation file, from block 0 until that block stops. This is the paper's.
 unfoldable pub OwnRounds : Route → Case → ℕ → Type 0
-OwnRounds direct c r = (v : States) × Direct (c .states) (c .transitions) (c .formula) (none (c .states)) v r
-OwnRounds equation c r = Solver.OwnRounds (fileOf c) r
+OwnRounds direct c r = (v : States) × Direct (c .states) (c .transitions) (c .formula) (allEmpty (c .states)) v r
+OwnRounds equation c r = FileRounds (fileOf c) r
 
 -- The same by functions that compute: the set of the root, or of block 0, and the rounds.
 unfoldable pub runOf : Route → Case → Worked
-runOf direct c = worked (c .states) (c .transitions) (c .formula) (none (c .states))
+runOf direct c = worked (c .states) (c .transitions) (c .formula) (allEmpty (c .states))
 runOf equation c = (run (fileOf c) .0 0, run (fileOf c) .1)
-
--- a report: is the initial state marked, how many states are, and the rounds
-unfoldable pub routeReport : Case → States → ℕ → Outcome
-routeReport c v r = record { refusal = 0; verdict = bit (has v (c .initial)); count = size v; rounds = r }
 
 -- ---- the conditions in order
 
@@ -80,9 +74,9 @@ marksOnly marks = lent [] [] marks
 -- the file's length, and at the working bytes.
 unfoldable pub tooShort : Route → Case → Lent → Bool
 tooShort direct c l = ltb (length (l .marks)) wordCount
-tooShort equation c l = ltb (length (l .file)) (length (fileOf c)) || Solver.tooShort (fileOf c) (length (l .work)) (length (l .marks))
+tooShort equation c l = ltb (length (l .file)) (length (fileOf c)) || solveTooShort (fileOf c) (length (l .work)) (length (l .marks))
 
--- 14: the rounds exceed the limit
+-- 14: the rounds exceed the limit. Of an accepted case they are the own rounds, by `exceeds-iff` (proofs/Promises.antt).
 unfoldable pub exceeds : Route → Case → ℕ → Bool
 exceeds R c limit = ltb limit (runOf R c .1)
 
@@ -102,7 +96,7 @@ Enough R c l = tooShort R c l ≡ false
 
 -- the report, or the number of the first condition that holds
 unfoldable pub routeOutcome : Conditions → Route → Case → Outcome
-routeOutcome cs R c = outcomeBy cs (routeReport c (runOf R c .0) (runOf R c .1))
+routeOutcome cs R c = outcomeBy cs (reportOf (c .initial) (runOf R c .0) (runOf R c .1))
 
 -- of any bytes
 abbrev pub outcomeOf : Route → List ℕ → Lent → ℕ → Outcome
@@ -116,7 +110,7 @@ marksAfter cs R c marks = byRefusal (firstOf cs) (words wordCount (runOf R c .0)
 unfoldable pub workAfter : List ℕ → Lent → ℕ → List ℕ
 workAfter b l limit =
     byRefusal (firstOf (routeConditions equation b l limit))
-    (map bit (evaluate (cells (file b)) (run (file b) .0)) ++ drop (cellCount (file b)) (l .work)) (l .work)
+    (map bit (evaluate (cells (file b)) (run (file b) .0)) ++ drop (sizesOf (file b) .cells) (l .work)) (l .work)
 
 -- ---- the contracts
 
@@ -135,4 +129,16 @@ pub record EquationRan (b : List ℕ) (l : Lent) (limit : ℕ) (o : Outcome) (fi
   pub ran : Ran equation b l limit o marks′
   pub file-is : file′ ≡ fileAfter b (l .file)
   pub work-is : ¬ Spent o → work′ ≡ workAfter b l limit
-  pub work-14 : Spent o → Scratch (cellCount (file b)) (l .work) work′
+  pub work-14 : Spent o → Scratch (sizesOf (file b) .cells) (l .work) work′
+
+-- ---- what the programs lend
+
+-- Their limit, their bytes for the equation file, and their memory: fresh, with working bytes and mark words for every file.
+abbrev pub programLimit : ℕ
+programLimit = 1_000_000
+
+abbrev pub programFile : ℕ
+programFile = 65_536
+
+abbrev pub programMemory : Lent
+programMemory = record { file = replicate programFile 0; work = replicate cellLimit 0; marks = replicate wordCount 0 }

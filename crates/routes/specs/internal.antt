@@ -1,3 +1,3 @@
--- What serves the contracts of functions only.
+-- What serves the contracts of inner functions, and laws beneath the promises.
 pub mod Evaluating
 pub mod Answering

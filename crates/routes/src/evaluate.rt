@@ -11,7 +11,7 @@ ghost use mathlib.Core.Path.{_≡_};
 ghost use Prim.Native.Nat.{_<_};
 ghost use Rattle.routes.specs.Route.{direct, runOf};
 ghost use Rattle.routes.specs.internal.Answering.{Rooted};
-ghost use Rattle.routes.specs.internal.Evaluating.{value, caseIn, CaseParts, Asks, KindAt, Evaluated};
+ghost use Rattle.routes.specs.internal.Evaluating.{returned, caseIn, CaseParts, Asks, KindAt, Evaluated};
 
 fn wide(x: u8) -> usize
     ensures { λ r. ⌜ r ≡ x ⌝ }
@@ -21,7 +21,7 @@ fn wide(x: u8) -> usize
 
 // A set, the node after those that it is of, the rounds so far, and whether they are spent.
 fn value_of(set: [u64; WORDS], next: usize, rounds: u64, spent: bool) -> Value
-    ensures { λ r. ⌜ r ≡ value set next rounds spent ⌝ }
+    ensures { λ r. ⌜ r ≡ returned set next rounds spent ⌝ }
 {
     Value {
         set: set,

@@ -13,12 +13,12 @@ use sets::WORDS;
 use translate::Written;
 ghost use mathlib.Core.Path.{_≡_};
 ghost use Prim.Native.Nat.{_<_, _≤_};
-ghost use Rattle.sets.specs.Size.{stateLimit};
+ghost use Rattle.sets.specs.Words.{stateLimit};
 ghost use Rattle.sets.specs.Refusals.{refused as Outcome·refused};
 ghost use Rattle.cases.specs.File.{headerOf};
 ghost use Rattle.cases.specs.Conditions.{Accepted};
 ghost use Rattle.translate.specs.Translating.{translateNumber, writtenNumber};
-ghost use Rattle.routes.specs.Route.{routeNumber, outcome, direct as Route·direct, lent, marksOnly, runConditions, RanBy, Ran, EquationRan};
+ghost use Rattle.routes.specs.Route.{routeNumber, routeAnswer, direct as Route·direct, lent, marksOnly, runConditions, RanBy, Ran, EquationRan};
 ghost use Rattle.routes.specs.internal.Answering.{Reported};
 ghost use Rattle.routes.specs.internal.Evaluating.{caseIn, CaseParts};
 
@@ -81,7 +81,7 @@ pub fn direct_parts(
     requires { ⌜ CaseParts h (now records) (now actions) (now formula) ⌝ }
     ensures { λ r. ⌜ RanBy
         (runConditions Route·direct (caseIn h (now (records .entry)) (now (actions .entry)) (now (formula .entry))) (marksOnly (now (marks .entry))) limit)
-        Route·direct (caseIn h (now (records .entry)) (now (actions .entry)) (now (formula .entry))) (now (marks .entry)) (outcome r) (now (marks .exit)) ⌝ }
+        Route·direct (caseIn h (now (records .entry)) (now (actions .entry)) (now (formula .entry))) (now (marks .entry)) (routeAnswer r) (now (marks .exit)) ⌝ }
 {
     if marks.len() < WORDS {
         return Answer::Refused(Cause::Run(solver::Cause::Memory));
@@ -98,7 +98,7 @@ pub fn direct_parts(
 // Direct on an accepted case and its header.
 fn direct_opened(case: &[u8], h: Header, marks: &mut [u64], limit: u64) -> Answer
     requires { ⌜ Accepted (now case) × (h ≡ headerOf (now case)) ⌝ }
-    ensures { λ r. ⌜ Ran Route·direct (now (case .entry)) (marksOnly (now (marks .entry))) limit (outcome r) (now (marks .exit)) ⌝ }
+    ensures { λ r. ⌜ Ran Route·direct (now (case .entry)) (marksOnly (now (marks .entry))) limit (routeAnswer r) (now (marks .exit)) ⌝ }
 {
     let records = h.transitions_at;
     let actions = h.actions_at;
@@ -115,7 +115,7 @@ fn direct_opened(case: &[u8], h: Header, marks: &mut [u64], limit: u64) -> Answe
 
 // Evaluates the formula of a case on sets of states. Is lent the words of a set for the marks.
 pub fn direct(case: &[u8], marks: &mut [u64], limit: u64) -> Answer
-    ensures { λ r. ⌜ Ran Route·direct (now (case .entry)) (marksOnly (now (marks .entry))) limit (outcome r) (now (marks .exit)) ⌝ }
+    ensures { λ r. ⌜ Ran Route·direct (now (case .entry)) (marksOnly (now (marks .entry))) limit (routeAnswer r) (now (marks .exit)) ⌝ }
 {
     match cases::open(case) {
         Opened::Accepted(h) => direct_opened(case, h, marks, limit),
@@ -136,7 +136,7 @@ fn translating_cause(cause: translate::Cause) -> Cause
 // The refusal of a translation that wrote no file.
 fn unwritten(written: Written) -> Answer
     requires { ⌜ ¬ (writtenNumber written ≡ 0) ⌝ }
-    ensures { λ r. ⌜ outcome r ≡ Outcome·refused (writtenNumber written) ⌝ }
+    ensures { λ r. ⌜ routeAnswer r ≡ Outcome·refused (writtenNumber written) ⌝ }
 {
     match written {
         Written::File(_) => Answer::Refused(Cause::Run(solver::Cause::Memory)),
@@ -153,7 +153,7 @@ pub fn equation(
     marks: &mut [u64],
     limit: u64,
 ) -> Answer
-    ensures { λ r. ⌜ EquationRan (now (case .entry)) (lent (now (file .entry)) (now (work .entry)) (now (marks .entry))) limit (outcome r)
+    ensures { λ r. ⌜ EquationRan (now (case .entry)) (lent (now (file .entry)) (now (work .entry)) (now (marks .entry))) limit (routeAnswer r)
         (now (file .exit)) (now (work .exit)) (now (marks .exit)) ⌝ }
 {
     let written = translate::translate(case, file);

@@ -5,12 +5,12 @@ use crate::Numbers;
 use crate::Report;
 ghost use mathlib.Core.Path.{_≡_};
 ghost use Rattle.sets.specs.Words.{bit};
-ghost use Rattle.solver.specs.Outcome.{solveNumber, outcome as Solver·outcome};
-ghost use Rattle.routes.specs.Route.{routeNumber, outcome, shown};
+ghost use Rattle.solver.specs.Outcome.{solveNumber, solveAnswer};
+ghost use Rattle.routes.specs.Route.{routeNumber, routeAnswer, shown};
 
 // An answer of solve's.
 pub fn solving_answer(answer: solver::Answer) -> Answer
-    ensures { λ r. ⌜ outcome r ≡ Solver·outcome answer ⌝ }
+    ensures { λ r. ⌜ routeAnswer r ≡ solveAnswer answer ⌝ }
 {
     match answer {
         solver::Answer::Solved(report) => Answer::Solved(Report {
@@ -52,7 +52,7 @@ fn flag(b: bool) -> u64
 
 // The numbers of an answer.
 pub fn numbers_of(answer: Answer) -> Numbers
-    ensures { λ r. ⌜ shown r ≡ outcome answer ⌝ }
+    ensures { λ r. ⌜ shown r ≡ routeAnswer answer ⌝ }
 {
     match answer {
         Answer::Solved(report) => Numbers {

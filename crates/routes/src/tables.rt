@@ -7,12 +7,12 @@ ghost use mathlib.Core.Path.{_≡_};
 ghost use mathlib.Core.Bool.{cond};
 ghost use Prim.Native.Nat.{_+_, _<_, _≤_};
 ghost use lib.ListN.{length};
-ghost use Rattle.cases.specs.Limits.{nodeLimit};
+ghost use Rattle.cases.specs.File.{nodeLimit};
 ghost use Rattle.cases.specs.Prefix.{actionAt};
 ghost use Rattle.cases.specs.Conditions.{nodeAt, isBinder};
 ghost use Rattle.cases.specs.internal.Masks.{maskOf};
-ghost use Rattle.cases.specs.internal.Checks.{nodesIn, Holds};
-ghost use Rattle.routes.specs.internal.Evaluating.{isModal, ActionPart, FormulaPart, Masks, Blocks};
+ghost use Rattle.cases.specs.internal.Checks.{nodesIn, NodesFit};
+ghost use Rattle.routes.specs.internal.Evaluating.{isModal, ActionPart, FormulaPart, Masks, BinderBlocks};
 
 // The mask of the labels that node i accepts; 0 where it is no box or diamond.
 fn mask_of(actions: &[u8], a: usize, formula: &[u8], f: usize, i: usize) -> u64
@@ -47,7 +47,7 @@ pub fn masks_of(actions: &[u8], a: usize, formula: &[u8], f: usize) -> [u64; NOD
 
 // 1 for a binder, 0 for another node.
 fn one_if_binder(formula: &[u8], f: usize, i: usize) -> u8
-    requires { ⌜ Holds nodeLimit (now formula) f × (i < f) ⌝ }
+    requires { ⌜ NodesFit nodeLimit (now formula) f × (i < f) ⌝ }
     ensures { λ r. ⌜ (r ≡ cond (isBinder (nodeAt (nodesIn (now (formula .entry)) f) i)) 1 0) × (r ≤ 1) ⌝ }
 {
     if is_binder(node_at(formula, i)) {
@@ -58,8 +58,8 @@ fn one_if_binder(formula: &[u8], f: usize, i: usize) -> u8
 
 // How many binders stand before each node.
 pub fn blocks_of(formula: &[u8], f: usize) -> [u8; NODES]
-    requires { ⌜ Holds nodeLimit (now formula) f ⌝ }
-    ensures { λ r. ⌜ (length r ≡ nodeLimit) × Blocks (nodesIn (now (formula .entry)) f) r ⌝ }
+    requires { ⌜ NodesFit nodeLimit (now formula) f ⌝ }
+    ensures { λ r. ⌜ (length r ≡ nodeLimit) × BinderBlocks (nodesIn (now (formula .entry)) f) r ⌝ }
 {
     let mut blocks = [0u8; NODES];
     let mut count = 0;

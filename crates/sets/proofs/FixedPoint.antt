@@ -5,8 +5,9 @@ use mathlib.Core.List.{[], _∷_, map}
 use Prim.Native.Nat.{ℕ, zero, suc, _+_, _*_, _≤_, _<_}
 use native.Mathlib.Omega.{arith}
 use lib.ListN.{length, length-replicate}
-use Rattle.sets.specs.States.{States, Subset, same, start, Before, Extremal}
-use Rattle.sets.specs.Loop.{Step, Loop, stop, again, Worked, iterate}
+use Rattle.sets.specs.States.{States, Subset, start, Before, Extremal}
+use Rattle.sets.specs.Loop.{Step, Loop, stop, again}
+use Rattle.sets.specs.computed.Iteration.{Worked, same, iterate}
 use Rattle.sets.specs.internal.Functions.{stepOf, dual}
 use Rattle.sets.proofs.Order.{same-eq, same-ne, before-eq, before-trans, start-first, room, room-length, room-less}
 

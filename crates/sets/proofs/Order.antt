@@ -7,7 +7,8 @@ use native.Mathlib.Omega.{arith}
 use borrow.Author.Tests.{ltb-true, ltb-false}
 use lib.Dec.{T, ltb}
 use lib.ListN.{length, replicate}
-use Rattle.sets.specs.States.{States, has, Subset, same, size, start, Before, Extremal}
+use Rattle.sets.specs.States.{States, has, Subset, size, start, Before, Extremal}
+use Rattle.sets.specs.computed.Iteration.{same}
 use Rattle.sets.specs.Words.{bit}
 use Rattle.sets.proofs.Lists.{and-left, and-right}
 

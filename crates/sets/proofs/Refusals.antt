@@ -3,13 +3,17 @@ use mathlib.Core.Path.{_≡_, refl, sym, ap, _∙_}
 use mathlib.Core.Logic.{_↔_}
 use mathlib.Core.Bool.{Bool, true, false, not}
 use mathlib.Core.List.{[], _∷_, _++_, List·Memᴰ, List·Memᴰ·head, List·Memᴰ·tail}
-use Prim.Native.Nat.{ℕ, zero, suc}
+use Prim.Native.Nat.{ℕ, zero, suc, _≤_}
 use native.Mathlib.Decide.{ℕ-discrete}
 use borrow.Author.Tests.{eq-eqb}
-use lib.Dec.{T, T-not, eqb}
+use lib.Dec.{T, T-not, eqb, leb, leb→le}
 use Rattle.sets.specs.Lists.{every}
-use Rattle.sets.specs.Refusals.{Conditions, numbersOf, firstOf, NoneHolds, FirstHolds, Outcome, refused, byRefusal, outcomeBy}
+use Rattle.sets.specs.Refusals.{between, Conditions, numbersOf, firstOf, NoneHolds, FirstHolds, Outcome, refused, byRefusal, outcomeBy}
 use Rattle.sets.proofs.Lists.{and-left, and-right}
+
+-- a number that is tested to be in a range
+pub bounds : (low high x : ℕ) → T (between low high x) → (low ≤ x) × (x ≤ high)
+bounds low high x t = (leb→le low x (and-left (leb low x) (leb x high) t), leb→le x high (and-right (leb low x) (leb x high) t))
 
 -- k is the number of none of them; the checker finds this by computing
 abbrev pub Without : ℕ → Conditions → Type 0

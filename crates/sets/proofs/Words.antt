@@ -14,9 +14,9 @@ use lib.Dec.{eqb, lit<}
 use lib.Bits.{bitAnd, bitOr, and-step, or-step, and-zero-l, or-zero-r}
 use lib.Pow.{pow-mono, pow-pos, shl-exact, shr-shr}
 use Rattle.sets.specs.Lists.{numbersFrom}
-use Rattle.sets.specs.Size.{wordCount, stateLimit}
 use Rattle.sets.specs.States.{States, has, start, size}
-use Rattle.sets.specs.Words.{words, fromBits, marked, states, bit, Marks}
+use Rattle.sets.specs.Words.{words, fromBits, marked, bit, Marks, wordCount, stateLimit}
+use Rattle.sets.specs.internal.Functions.{states}
 use Rattle.sets.specs.internal.Decides.{Decides}
 use Rattle.sets.proofs.Lists.{length-table, table-at, false-true}
 

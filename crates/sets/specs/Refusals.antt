@@ -5,6 +5,8 @@ use mathlib.Core.List.{List, [], _∷_, _++_, map}
 use Prim.Native.Nat.{ℕ, zero, suc}
 use lib.Dec.{T, leb}
 use Rattle.sets.specs.Lists.{every}
+use Rattle.sets.specs.States.{States, has, size}
+use Rattle.sets.specs.Words.{bit}
 
 -- whether x is from low to high
 abbrev pub between : ℕ → ℕ → ℕ → Bool
@@ -49,6 +51,10 @@ Spent o = o .refusal ≡ 14
 
 abbrev pub refused : ℕ → Outcome
 refused k = record { refusal = k; verdict = 0; count = 0; rounds = 0 }
+
+-- the report of a set of marked states: is the initial state marked, how many are, and the rounds
+abbrev pub reportOf : ℕ → States → ℕ → Outcome
+reportOf initial v rounds = record { refusal = 0; verdict = bit (has v initial); count = size v; rounds = rounds }
 
 -- by a refusal number: what holds after success, or after a refusal
 abbrev pub byRefusal : {A : Type 0} → ℕ → A → A → A

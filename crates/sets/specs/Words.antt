@@ -1,21 +1,22 @@
 -- The words that hold a set: state s is bit s mod 64 of word s / 64, and bits from n up are zero.
 use mathlib.Core.Path.{_≡_}
 use mathlib.Core.Bool.{Bool, false, cond}
-use mathlib.Core.List.{List, [], _∷_, _++_, map}
+use mathlib.Core.List.{List, [], _∷_, _++_}
 use Prim.Native.Nat.{ℕ, zero, suc, _+_, _*_, _/_, _%_, _^_, _<_, _≤_}
 use lib.ListN.{length, getD, take, drop}
 use lib.Dec.{eqb}
-use Rattle.sets.specs.Lists.{numbersFrom}
-use Rattle.sets.specs.Size.{wordCount, stateLimit}
 use Rattle.sets.specs.States.{States, has}
+
+-- The words that hold a set, and the states that they have room for. The code's WORDS and STATES.
+abbrev pub wordCount : ℕ
+wordCount = 4
+
+abbrev pub stateLimit : ℕ
+stateLimit = 64 * wordCount
 
 -- whether the bit of state s is 1
 unfoldable pub marked : List ℕ → ℕ → Bool
 marked ws s = eqb (getD ws (s / 64) 0 / 2 ^ (s % 64) % 2) 1
-
--- the set of n states that words stand for
-unfoldable pub states : ℕ → List ℕ → States
-states n ws = map (marked ws) (numbersFrom 0 n)
 
 -- a truth value as a bit
 abbrev pub bit : Bool → ℕ

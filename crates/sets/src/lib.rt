@@ -5,10 +5,10 @@ ghost use mathlib.Core.List.{map, _++_};
 ghost use Prim.Native.Nat.{ℕ, _-_, _^_, _<_, _≤_};
 ghost use lib.Bits.{bitAnd, bitOr};
 ghost use lib.ListN.{length, set, take, drop};
-ghost use Rattle.sets.specs.Size.{wordCount, stateLimit};
 ghost use Rattle.sets.specs.Lists.{numbersFrom};
 ghost use Rattle.sets.specs.States.{States, has, start, size};
-ghost use Rattle.sets.specs.Words.{words, fromBits, marked, states};
+ghost use Rattle.sets.specs.Words.{words, fromBits, marked, wordCount, stateLimit};
+ghost use Rattle.sets.specs.internal.Functions.{states};
 ghost use Rattle.sets.specs.internal.Decides.{Decides};
 
 pub const WORDS: usize = 4;

@@ -7,20 +7,18 @@ use native.Mathlib.Omega.{arith}
 use borrow.Author.Tests.{lt-ltb}
 use lib.Dec.{ltb}
 use lib.ListN.{length, drop, length-replicate}
-use Rattle.sets.specs.Size.{wordCount}
-use Rattle.sets.specs.States.{States, has, size}
-use Rattle.sets.specs.Words.{words, bit, marked, states}
+use Rattle.sets.specs.States.{States, has, size, allEmpty}
+use Rattle.sets.specs.Words.{words, bit, marked, wordCount}
+use Rattle.sets.specs.internal.Functions.{states}
 use Rattle.sets.proofs.Words.{marked-words, states-words}
-use Rattle.sets.specs.Valuation.{none}
-use Rattle.solver.specs.Cells.{evaluate}
-use Rattle.solver.specs.File.{stateCount, cellCount, initialState, blocks, cells}
-use Rattle.solver.specs.internal.Forms.{sizesOf}
+use Rattle.solver.specs.computed.Solved.{evaluate, run}
+use Rattle.solver.specs.File.{sizesOf, blocks, cells}
 use Rattle.solver.specs.Conditions.{layoutOk, tablesOk, WellFormed}
 use Rattle.solver.specs.internal.Forms.{opened}
-use Rattle.solver.specs.Outcome.{solveNumber, outcome, run, badLayout, badTable, tooShort, solveConditions, solveRefusal, Enough, report, solveOutcome, Scratch, Answered}
+use Rattle.solver.specs.Outcome.{solveNumber, solveAnswer, badLayout, badTable, solveTooShort, solveConditions, solveRefusal, SolveEnough, report, solveOutcome, Scratch, Answered}
 use Rattle.sets.specs.Refusals.{Conditions, refused}
 use Rattle.sets.proofs.Refusals.{holds-here, holds-later, reports, refuses}
-use Rattle.solver.specs.internal.Working.{Opens, Ran, spent}
+use Rattle.solver.specs.internal.Working.{OpenFile, AllSolved, spent}
 use Rattle.solver.specs.declared.Sizes.{Sizes}
 use Rattle.solver.specs.declared.Cause.{Cause}
 use Rattle.solver.specs.declared.Cause.the-variants.{Layout, Table, Memory, Spent}
@@ -44,7 +42,7 @@ module _ (e : List ℕ) (work marks limit : ℕ) where
   unfolding solveRefusal solveConditions badLayout badTable
   refusal-12 h g = sym (holds-later 11 _ _ (rw h) (holds-here 12 _ _ (rw g)))
 
-  pub refusal-13 : WellFormed e → tooShort e work marks ≡ true → solveRefusal e work marks limit ≡ 13
+  pub refusal-13 : WellFormed e → solveTooShort e work marks ≡ true → solveRefusal e work marks limit ≡ 13
   unfolding solveRefusal solveConditions badLayout badTable
   refusal-13 f h = sym (holds-later 11 _ _ (rw (f .layout)) (holds-later 12 _ _ (rw (f .tables)) (holds-here 13 _ _ h)))
 
@@ -56,8 +54,8 @@ module _ (e work marks : List ℕ) (limit : ℕ) where
 
   -- a refusal but 14 changes nothing
   pub answered-refused : (cause : Cause) → solveRefusal e (length work) (length marks) limit ≡ solveNumber cause → ¬ (solveNumber cause ≡ 0) → ¬ (solveNumber cause ≡ 14) →
-      Answered e work marks limit (outcome (Refused cause)) work marks
-  unfolding outcome solveOutcome solveRefusal
+      Answered e work marks limit (solveAnswer (Refused cause)) work marks
+  unfolding solveAnswer solveOutcome solveRefusal
   answered-refused cause h n m = record {
     answers = sym (refuses conditions (report e) (λ z. n (sym h ∙ z)) ∙ ap refused h);
     marks-are = sym (marks-kept e (length work) marks limit (λ z. n (sym h ∙ z)));
@@ -66,8 +64,8 @@ module _ (e work marks : List ℕ) (limit : ℕ) where
   }
 
   -- 14 leaves the marks, and bits in the working bytes
-  pub answered-spent : {after : List ℕ} → solveRefusal e (length work) (length marks) limit ≡ 14 → Scratch (cellCount e) work after → Answered e work marks limit (outcome (Refused Spent)) after marks
-  unfolding outcome solveNumber solveOutcome solveRefusal
+  pub answered-spent : {after : List ℕ} → solveRefusal e (length work) (length marks) limit ≡ 14 → Scratch (sizesOf e .cells) work after → Answered e work marks limit (solveAnswer (Refused Spent)) after marks
+  unfolding solveAnswer solveNumber solveOutcome solveRefusal
   answered-spent h s = record {
     answers = sym (refuses conditions (report e) (λ z. omega arith) ∙ ap refused h);
     marks-are = sym (marks-kept e (length work) marks limit (λ z. omega arith));
@@ -77,10 +75,10 @@ module _ (e work marks : List ℕ) (limit : ℕ) where
 
   -- success
   pub answered-solved : {r : Report} {workAfter marksAfter : List ℕ} → solveRefusal e (length work) (length marks) limit ≡ 0 →
-      r .verdict ≡ has (run e .0 0) (initialState e) → r .count ≡ size (run e .0 0) → r .rounds ≡ run e .1 →
-      marksAfter ≡ words wordCount (run e .0 0) ++ drop wordCount marks → workAfter ≡ map bit (evaluate (cells e) (run e .0)) ++ drop (cellCount e) work →
-      Answered e work marks limit (outcome (Solved r)) workAfter marksAfter
-  unfolding outcome report solveOutcome solveRefusal
+      r .verdict ≡ has (run e .0 0) (sizesOf e .initial) → r .count ≡ size (run e .0 0) → r .rounds ≡ run e .1 →
+      marksAfter ≡ words wordCount (run e .0 0) ++ drop wordCount marks → workAfter ≡ map bit (evaluate (cells e) (run e .0)) ++ drop (sizesOf e .cells) work →
+      Answered e work marks limit (solveAnswer (Solved r)) workAfter marksAfter
+  unfolding solveAnswer report solveOutcome solveRefusal
   answered-solved h v c k m w = record {
     answers = rw (v, c, k) refl ∙ sym (reports conditions (report e) h);
     marks-are = m ∙ sym (marks-written e (length work) marks limit h);
@@ -89,61 +87,61 @@ module _ (e work marks : List ℕ) (limit : ℕ) where
   }
 
 -- ---- an opened file
-module _ {e : List ℕ} {sizes : Sizes} (o : Opens e sizes) (work marks : List ℕ) (limit : ℕ) where
+module _ {e : List ℕ} {sizes : Sizes} (o : OpenFile e sizes) (work marks : List ℕ) (limit : ℕ) where
   -- lent memory that is too short, one way or the other
-  short : tooShort e (length work) (length marks) ≡ true → Answered e work marks limit (outcome (Refused Memory)) work marks
+  short : solveTooShort e (length work) (length marks) ≡ true → Answered e work marks limit (solveAnswer (Refused Memory)) work marks
   unfolding solveNumber
   short h = answered-refused e work marks limit Memory (refusal-13 e (length work) (length marks) limit (o .formed) h) (λ z. omega arith) (λ z. omega arith)
 
-  pub few-bytes : length work < sizes .cells → Answered e work marks limit (outcome (Refused Memory)) work marks
-  unfolding tooShort
-  few-bytes h = short (rw (lt-ltb (length work) (cellCount e) (omega (arith, counted (o .counts) .cells))) refl)
+  pub few-bytes : length work < sizes .cells → Answered e work marks limit (solveAnswer (Refused Memory)) work marks
+  unfolding solveTooShort
+  few-bytes h = short (rw (lt-ltb (length work) (sizesOf e .cells) (omega (arith, counted (o .counts) .cells))) refl)
 
-  pub few-words : length marks < wordCount → Answered e work marks limit (outcome (Refused Memory)) work marks
-  unfolding tooShort
-  few-words h = short (rw (lt-ltb (length marks) wordCount h) (or-true (ltb (length work) (cellCount e))))
+  pub few-words : length marks < wordCount → Answered e work marks limit (solveAnswer (Refused Memory)) work marks
+  unfolding solveTooShort
+  few-words h = short (rw (lt-ltb (length marks) wordCount h) (or-true (ltb (length work) (sizesOf e .cells))))
 
   module _ (bytes : sizes .cells ≤ length work) (room : wordCount ≤ length marks)
-      {after row : List ℕ} {rounds status : ℕ} (r : Ran e limit after row rounds status) where
-    lent : WellFormed e × Enough e (length work) (length marks)
+      {after row : List ℕ} {rounds status : ℕ} (r : AllSolved e limit after row rounds status) where
+    lent : WellFormed e × SolveEnough e (length work) (length marks)
     lent = (o .formed, enough e (length work) (length marks) .0 (omega (arith, counted (o .counts) .cells), room))
 
     -- the part that was lent, and the rest
     abbrev whole : List ℕ
     whole = after ++ drop (sizes .cells) work
 
-    rest : drop (sizes .cells) work ≡ drop (cellCount e) work
+    rest : drop (sizes .cells) work ≡ drop (sizesOf e .cells) work
     rest = ap (λ (k : ℕ). drop k work) (counted (o .counts) .cells)
 
-    pub ended-spent : status ≡ spent → Answered e work marks limit (outcome (Refused Spent)) whole marks
+    pub ended-spent : status ≡ spent → Answered e work marks limit (solveAnswer (Refused Spent)) whole marks
     ended-spent z = answered-spent e work marks limit
         (is-14 e (length work) (length marks) limit .1 (lent, r .over z))
         (record { bytes = after; sized = r .room; bits = r .bits; are = ap (λ (l : List ℕ). after ++ l) rest })
 
     pub ended-solved : ¬ (status ≡ spent) → {verdict : Bool} → verdict ≡ marked row (sizes .initial) → {count : ℕ} → count ≡ size (states (sizes .states) row) →
         {marksAfter : List ℕ} → marksAfter ≡ row ++ drop wordCount marks →
-        Answered e work marks limit (outcome (Solved (record { verdict = verdict; count = count; rounds = rounds }))) whole marksAfter
+        Answered e work marks limit (solveAnswer (Solved (record { verdict = verdict; count = count; rounds = rounds }))) whole marksAfter
     unfolding run
     ended-solved n v k m =
         let s = layout-facts e (o .formed .layout) .counts in
         let first : States = run e .0 0 in
         let is = r .first n in
-        let long : length first ≡ stateCount e =
-        solved-sized (stateCount e) (cells e) (ordered e (o .formed)) (blocks e) (rw (length-cells e) (inside e (o .formed))) 0 (none (stateCount e)) (λ j. length-replicate (stateCount e) false) 0 in
+        let long : length first ≡ sizesOf e .states =
+        solved-sized (sizesOf e .states) (cells e) (ordered e (o .formed)) (blocks e) (rw (length-cells e) (inside e (o .formed))) 0 (allEmpty (sizesOf e .states)) (λ j. length-replicate (sizesOf e .states) false) 0 in
         answered-solved e work marks limit
         (is-0 e (length work) (length marks) limit .1 (lent, r .within n))
-        (v ∙ ap₂ (λ (w : List ℕ) (i : ℕ). marked w i) is (counted (o .counts) .initial) ∙ marked-words wordCount first (initialState e) (omega (arith, s .initial, s .few-states)))
-        (k ∙ ap₂ (λ (w : List ℕ) (i : ℕ). size (states i w)) is (counted (o .counts) .states) ∙ ap size (states-words (stateCount e) wordCount first long (s .few-states)))
+        (v ∙ ap₂ (λ (w : List ℕ) (i : ℕ). marked w i) is (counted (o .counts) .initial) ∙ marked-words wordCount first (sizesOf e .initial) (omega (arith, s .initial, s .few-states)))
+        (k ∙ ap₂ (λ (w : List ℕ) (i : ℕ). size (states i w)) is (counted (o .counts) .states) ∙ ap size (states-words (sizesOf e .states) wordCount first long (s .few-states)))
         (r .counted n)
         (m ∙ ap (λ (l : List ℕ). l ++ drop wordCount marks) is)
         (ap₂ (λ (x y : List ℕ). x ++ y) (r .values n) rest)
 
 -- ---- opening a file: its counts, or the condition that holds
-pub opens-file : {e : List ℕ} {sizes : Sizes} → File sizes ≡ opened e → Opens e sizes
+pub opens-file : {e : List ℕ} {sizes : Sizes} → File sizes ≡ opened e → OpenFile e sizes
 unfolding opened
 opens-file {e} {sizes} h = go (layoutOk e) (tablesOk e) refl refl
   where
-    go : (a b : Bool) → layoutOk e ≡ a → tablesOk e ≡ b → Opens e sizes
+    go : (a b : Bool) → layoutOk e ≡ a → tablesOk e ≡ b → OpenFile e sizes
     go true true p q =
         let z : opened e ≡ File (sizesOf e) = rw (p, q, opened) refl in
         record { formed = record { layout = p; tables = q }; counts = cc }
@@ -156,11 +154,11 @@ opens-file {e} {sizes} h = go (layoutOk e) (tablesOk e) refl refl
         let n : _≡_ {A = ℕ} 0 1 = cc in
         absurd (omega arith)
 
-pub unfit : {e : List ℕ} {cause : Cause} → Unfit cause ≡ opened e → (work marks : List ℕ) (limit : ℕ) → Answered e work marks limit (outcome (Refused cause)) work marks
+pub unfit : {e : List ℕ} {cause : Cause} → Unfit cause ≡ opened e → (work marks : List ℕ) (limit : ℕ) → Answered e work marks limit (solveAnswer (Refused cause)) work marks
 unfolding opened solveNumber
 unfit {e} {cause} h work marks limit = go (layoutOk e) (tablesOk e) refl refl
   where
-    go : (a b : Bool) → layoutOk e ≡ a → tablesOk e ≡ b → Answered e work marks limit (outcome (Refused cause)) work marks
+    go : (a b : Bool) → layoutOk e ≡ a → tablesOk e ≡ b → Answered e work marks limit (solveAnswer (Refused cause)) work marks
     go true true p q =
         let z : opened e ≡ File (sizesOf e) = rw (p, q, opened) refl in
         let n : _≡_ {A = ℕ} 0 1 = cc in

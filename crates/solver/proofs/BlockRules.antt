@@ -10,7 +10,7 @@ use lib.ListN.{length, drop}
 use Rattle.sets.specs.Lists.{numbersFrom, every}
 use Rattle.sets.proofs.Lists.{length-range, range-at, loop-ends, loop-next}
 use Rattle.solver.specs.declared.Sizes.{Sizes}
-use Rattle.solver.specs.File.{u32, blockCount, blocksAt}
+use Rattle.solver.specs.File.{u32, sizesOf, blocksAt}
 use Rattle.solver.specs.Conditions.{blockOk, tablesOk}
 use Rattle.solver.specs.internal.Checks.{Read, restOk}
 use Rattle.solver.proofs.Tables.{counted}
@@ -29,13 +29,13 @@ block-cells e s r k first h f = rw (le-leb _ _ h, f, counted (r .sizes-are) .sta
 
 -- whether the blocks from k on keep their rules
 abbrev pub blocksLeft : List ℕ → ℕ → Bool
-blocksLeft e k = every (blockOk e) (drop k (numbersFrom 0 (blockCount e)))
+blocksLeft e k = every (blockOk e) (drop k (numbersFrom 0 (sizesOf e .blocks)))
 
 -- the loop over the blocks, at block k
 module _ (e : List ℕ) (s : Sizes) (r : Read e s) (k : ℕ) (left : blocksLeft e 0 ≡ blocksLeft e k) where
   -- how many there are
-  length-blocks : length (numbersFrom 0 (blockCount e)) ≡ s .blocks
-  length-blocks = length-range 0 (blockCount e) ∙ sym (counted (r .sizes-are) .blocks)
+  length-blocks : length (numbersFrom 0 (sizesOf e .blocks)) ≡ s .blocks
+  length-blocks = length-range 0 (sizesOf e .blocks) ∙ sym (counted (r .sizes-are) .blocks)
 
   -- every block has passed
   pub blocks-end : s .blocks ≤ k → true ≡ blocksLeft e 0
@@ -44,9 +44,9 @@ module _ (e : List ℕ) (s : Sizes) (r : Read e s) (k : ℕ) (left : blocksLeft 
 
   module _ (more : k < s .blocks) where
     -- block k and those after it are left
-    block-next : blocksLeft e 0 ≡ every (blockOk e) (k ∷ drop (k + 1) (numbersFrom 0 (blockCount e)))
+    block-next : blocksLeft e 0 ≡ every (blockOk e) (k ∷ drop (k + 1) (numbersFrom 0 (sizesOf e .blocks)))
     block-next =
-        loop-next (every (blockOk e)) _ k left 0 k (omega (arith, length-blocks)) (range-at (blockCount e) k 0 (omega (arith, counted (r .sizes-are) .blocks)))
+        loop-next (every (blockOk e)) _ k left 0 k (omega (arith, length-blocks)) (range-at (sizesOf e .blocks) k 0 (omega (arith, counted (r .sizes-are) .blocks)))
 
     -- block k breaks its rule
     pub block-breaks : blockOk e k ≡ false → false ≡ blocksLeft e 0
@@ -59,7 +59,7 @@ module _ (e : List ℕ) (s : Sizes) (r : Read e s) (k : ℕ) (left : blocksLeft 
     block-goes-on t = block-next ∙ rw t refl
 
 -- condition 12 by its two halves, the blocks and the cells
-module _ (e : List ℕ) (blocks : Bool) (blocks-is : blocks ≡ every (blockOk e) (numbersFrom 0 (blockCount e))) where
+module _ (e : List ℕ) (blocks : Bool) (blocks-is : blocks ≡ every (blockOk e) (numbersFrom 0 (sizesOf e .blocks))) where
   -- a block breaks its rule
   pub tables-broken : blocks ≡ false → blocks ≡ tablesOk e
   unfolding tablesOk

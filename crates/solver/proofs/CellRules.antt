@@ -11,7 +11,7 @@ use Rattle.sets.specs.Lists.{numbersFrom, every, sum}
 use Rattle.sets.proofs.Lists.{length-range, range-at, and-false, false-true, drop-next, loop-ends, loop-next}
 use Rattle.solver.specs.declared.Sizes.{Sizes}
 use Rattle.solver.specs.declared.Span.{Span}
-use Rattle.solver.specs.File.{stateCount, blockCount, cellCount, operandCount, Entry, entryAt, operands, listOf}
+use Rattle.solver.specs.File.{sizesOf, Entry, entryAt, operands, listOf}
 use Rattle.solver.specs.Conditions.{isList, arity, operandsBefore, operandOk, operandsOk, cellOk}
 use Rattle.solver.specs.internal.Checks.{Read, restOk, Spans}
 use Rattle.solver.proofs.Tables.{counted, operandAt, length-list, list-at, before-next, before-grows}
@@ -23,7 +23,7 @@ listLeft e i from count j = every (operandOk e i) (drop j (listOf (operands e) f
 -- the loop over a list, at operand j
 module _ (e : List ℕ) (s : Sizes) (r : Read e s) (i from count j : ℕ) (fits : from + count ≤ s .operands)
     (left : operandsOk e i from count ≡ listLeft e i from count j) where
-  room : from + count ≤ operandCount e
+  room : from + count ≤ sizesOf e .operands
   room = omega (arith, counted (r .sizes-are) .operands)
 
   -- every operand has passed
@@ -45,18 +45,18 @@ module _ (e : List ℕ) (s : Sizes) (r : Read e s) (i from count j : ℕ) (fits 
     pub operand-high : s .cells ≤ o → false ≡ operandsOk e i from count
     unfolding every
     operand-high h =
-        let broken : operandOk e i o ≡ false = and-false (ltb i o) _ (le-ltb o (cellCount e) (omega (arith, counted (r .sizes-are) .cells))) in
+        let broken : operandOk e i o ≡ false = and-false (ltb i o) _ (le-ltb o (sizesOf e .cells) (omega (arith, counted (r .sizes-are) .cells))) in
         sym (list-next ∙ rw broken refl)
 
     -- it keeps its rule
     pub operand-goes-on : i < o → o < s .cells → operandsOk e i from count ≡ listLeft e i from count (j + 1)
     unfolding every
-    operand-goes-on h g = list-next ∙ rw (lt-ltb i o h, lt-ltb o (cellCount e) (omega (arith, counted (r .sizes-are) .cells))) refl
+    operand-goes-on h g = list-next ∙ rw (lt-ltb i o h, lt-ltb o (sizesOf e .cells) (omega (arith, counted (r .sizes-are) .cells))) refl
 
 -- the rule of cell i by its kind
 module _ (e : List ℕ) (i : ℕ) {x : Entry} (is : x ≡ entryAt e i) where
   cell-rule : cellOk e i ≡ cond (isList x) (eqb (x .one) (operandsBefore e i) && operandsOk e i (x .one) (x .two))
-      (eqb (x .kind) 2 && ltb (x .one) (blockCount e) && ltb (x .two) (stateCount e))
+      (eqb (x .kind) 2 && ltb (x .one) (sizesOf e .blocks) && ltb (x .two) (sizesOf e .states))
   unfolding cellOk
   cell-rule = rw is refl
 
@@ -65,7 +65,7 @@ module _ (e : List ℕ) (i : ℕ) {x : Entry} (is : x ≡ entryAt e i) where
   cell-list k = cell-rule ∙ rw (le-leb (x .kind) 1 k) refl
 
   -- a variable
-  pub cell-variable : x .kind ≡ 2 → cellOk e i ≡ (ltb (x .one) (blockCount e) && ltb (x .two) (stateCount e))
+  pub cell-variable : x .kind ≡ 2 → cellOk e i ≡ (ltb (x .one) (sizesOf e .blocks) && ltb (x .two) (sizesOf e .states))
   cell-variable k = cell-rule ∙ rw (lt-leb (x .kind) 1 (omega arith), eq-eqb (x .kind) 2 k) refl
 
   -- no kind
@@ -82,18 +82,18 @@ unfolding arity
 arity-other x k = rw (lt-leb (x .kind) 1 k) refl
 
 -- the cells from i on: cell i, and those after it
-rest-step : (e : List ℕ) (i : ℕ) → i < cellCount e → restOk e i
-    ≡ (cellOk e i && every (cellOk e) (drop (i + 1) (numbersFrom 0 (cellCount e))) && eqb (operandsBefore e (cellCount e)) (operandCount e))
+rest-step : (e : List ℕ) (i : ℕ) → i < sizesOf e .cells → restOk e i
+    ≡ (cellOk e i && every (cellOk e) (drop (i + 1) (numbersFrom 0 (sizesOf e .cells))) && eqb (operandsBefore e (sizesOf e .cells)) (sizesOf e .operands))
 unfolding every
 rest-step e i own =
-    let h : i < length (numbersFrom 0 (cellCount e)) = omega (arith, length-range 0 (cellCount e)) in
-    rw (drop-next (numbersFrom 0 (cellCount e)) i 0 i h (range-at (cellCount e) i 0 own)) refl
+    let h : i < length (numbersFrom 0 (sizesOf e .cells)) = omega (arith, length-range 0 (sizesOf e .cells)) in
+    rw (drop-next (numbersFrom 0 (sizesOf e .cells)) i 0 i h (range-at (sizesOf e .cells) i 0 own)) refl
 
 -- What is found of cell i, whose numbers x have been read, where the lists before it have `used` operands:
 module _ {e : List ℕ} {s : Sizes} (r : Read e s) {i used : ℕ} (inside : i < s .cells) (before : used ≡ operandsBefore e i) (room : used ≤ s .operands)
     {x : Entry} (is : x ≡ entryAt e i) where
   -- the cell is one of the file's
-  own : i < cellCount e
+  own : i < sizesOf e .cells
   own = omega (arith, counted (r .sizes-are) .cells)
 
   -- the operands before the next cell
@@ -129,8 +129,8 @@ module _ {e : List ℕ} {s : Sizes} (r : Read e s) {i used : ℕ} (inside : i < 
   -- a list that runs past the operand table: the sum of all is then above p
   pub found-past : x .kind ≤ 1 → s .operands < used + x .two → Spans e i used (record { ok = false; count = 0 })
   found-past k h = record {
-    broken = λ f. and-false (every (cellOk e) (drop i (numbersFrom 0 (cellCount e)))) _ (ne-eqb (operandsBefore e (cellCount e)) (operandCount e) (λ q.
-        omega (arith, before-grows e (i + 1) (cellCount e) (omega (arith, own)), next-is, arity-list x k, counted (r .sizes-are) .operands)));
+    broken = λ f. and-false (every (cellOk e) (drop i (numbersFrom 0 (sizesOf e .cells)))) _ (ne-eqb (operandsBefore e (sizesOf e .cells)) (sizesOf e .operands) (λ q.
+        omega (arith, before-grows e (i + 1) (sizesOf e .cells) (omega (arith, own)), next-is, arity-list x k, counted (r .sizes-are) .operands)));
     holds = λ t. absurd (false-true t);
     next = λ t. absurd (false-true t);
     fits = omega (arith, counted (r .sizes-are) .operands);
@@ -155,8 +155,8 @@ module _ (e : List ℕ) (s : Sizes) (r : Read e s) (i used : ℕ) (before : used
   pub cells-end : i ≡ s .cells → eqb used (s .operands) ≡ restOk e 0
   unfolding every
   cells-end h =
-      let all : i ≡ cellCount e = omega (arith, counted (r .sizes-are) .cells) in
-      let none : drop i (numbersFrom 0 (cellCount e)) ≡ [] = drop-of-length-le (numbersFrom 0 (cellCount e)) {i = i} (omega (arith, length-range 0 (cellCount e))) in
+      let all : i ≡ sizesOf e .cells = omega (arith, counted (r .sizes-are) .cells) in
+      let none : drop i (numbersFrom 0 (sizesOf e .cells)) ≡ [] = drop-of-length-le (numbersFrom 0 (sizesOf e .cells)) {i = i} (omega (arith, length-range 0 (sizesOf e .cells))) in
       sym (left ∙ rw (none, ← all, ← before, ← counted (r .sizes-are) .operands) refl)
 
   module _ (found : Span) (f : Spans e i used found) where

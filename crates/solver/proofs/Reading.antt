@@ -7,37 +7,31 @@ use native.Mathlib.Omega.{arith}
 use mir.Syntax.{w64}
 use mir.Val.{Fits}
 use borrow.Author.Tests.{le-leb, lt-leb, lt-ltb, eq-eqb}
-use lib.Dec.{T, leb, leb·zero, leb→le, ltb→lt, eqb→eq}
+use lib.Dec.{T, leb·zero, ltb→lt, eqb→eq}
 use lib.ListN.{length}
+use Rattle.sets.proofs.Refusals.{bounds}
 use Rattle.sets.specs.Lists.{every}
-use Rattle.sets.specs.Size.{stateLimit}
+use Rattle.sets.specs.Words.{stateLimit}
 use Rattle.sets.specs.internal.Decides.{Decides}
-use Rattle.sets.proofs.Lists.{and-left, and-right, test}
+use Rattle.sets.proofs.Lists.{test}
 use Rattle.solver.specs.declared.Cause.the-variants.{Layout, Table}
 use Rattle.solver.specs.declared.Opened.the-variants.{File, Unfit}
 use Rattle.solver.specs.declared.Sizes.{Sizes}
-use Rattle.solver.specs.File.{stateCount, blockCount, cellCount, operandCount, blocksAt, cellsAt, operandsAt}
-use Rattle.solver.specs.internal.Forms.{sizesOf}
-use Rattle.solver.specs.Limits.{blockLimit, cellLimit, operandLimit}
-use Rattle.sets.specs.Refusals.{between}
+use Rattle.solver.specs.File.{sizesOf, blocksAt, cellsAt, operandsAt, blockLimit, cellLimit, operandLimit}
 use Rattle.solver.specs.Conditions.{layoutOk, tablesOk}
 use Rattle.solver.specs.internal.Forms.{opened}
 use Rattle.solver.specs.internal.Checks.{Read}
-use Rattle.solver.specs.internal.Working.{Opens}
+use Rattle.solver.specs.internal.Working.{OpenFile}
 use Rattle.solver.proofs.Tables.{counted}
-
--- a number that is tested to be in a range
-bounds : (low high x : ℕ) → T (between low high x) → (low ≤ x) × (x ≤ high)
-bounds low high x t = (leb→le low x (and-left (leb low x) (leb x high) t), leb→le x high (and-right (leb low x) (leb x high) t))
 
 -- if condition 11 does not hold, the file can be read
 pub layout-facts : (e : List ℕ) → layoutOk e ≡ true → Read e (sizesOf e)
 unfolding layoutOk
 layout-facts e h =
     let t : T (layoutOk e) = rw h tt in
-    let states = bounds 1 stateLimit (stateCount e) (test 2 _ t tt) in
-    let blocks = bounds 1 blockLimit (blockCount e) (test 3 _ t tt) in
-    let cells = bounds 1 cellLimit (cellCount e) (test 4 _ t tt) in
+    let states = bounds 1 stateLimit (sizesOf e .states) (test 2 _ t tt) in
+    let blocks = bounds 1 blockLimit (sizesOf e .blocks) (test 3 _ t tt) in
+    let cells = bounds 1 cellLimit (sizesOf e .cells) (test 4 _ t tt) in
     record {
       sizes-are = refl;
       counts = record {
@@ -47,7 +41,7 @@ layout-facts e h =
         few-blocks = blocks .1;
         some-cell = cells .0;
         few-cells = cells .1;
-        few-operands = bounds 0 operandLimit (operandCount e) (test 5 _ t tt) .1;
+        few-operands = bounds 0 operandLimit (sizesOf e .operands) (test 5 _ t tt) .1;
         initial = ltb→lt _ _ (test 6 _ t tt);
       };
       places = record {
@@ -100,14 +94,14 @@ unfolding layoutOk every
 layout-short e h = rw (lt-leb 36 (length e) h) refl
 
 -- a file that is opened can be read
-pub opens-read : {e : List ℕ} {s : Sizes} → Opens e s → Read e s
+pub opens-read : {e : List ℕ} {s : Sizes} → OpenFile e s → Read e s
 opens-read {e} {s} o = layout-read e s (o .counts) (o .formed .layout)
 
 -- its block numbers are small, and those of the file
-pub few-blocks : {e : List ℕ} {s : Sizes} {k : ℕ} → Opens e s → k < s .blocks → k < blockLimit
+pub few-blocks : {e : List ℕ} {s : Sizes} {k : ℕ} → OpenFile e s → k < s .blocks → k < blockLimit
 few-blocks o h = omega (arith, opens-read o .counts .few-blocks)
 
-pub own-block : {e : List ℕ} {s : Sizes} {k : ℕ} → Opens e s → k < s .blocks → k < blockCount e
+pub own-block : {e : List ℕ} {s : Sizes} {k : ℕ} → OpenFile e s → k < s .blocks → k < sizesOf e .blocks
 own-block o h = omega (arith, counted (o .counts) .blocks)
 
 -- the offset of a block's row among the sets is a number of the code's
@@ -119,10 +113,10 @@ module _ {e : List ℕ} {s : Sizes} (r : Read e s) where
   pub block-inside : {k : ℕ} → k < s .blocks → blocksAt + 8 * k + 8 ≤ length e
   block-inside h = omega (arith, r .places .ends)
 
-  pub cell-inside : {i : ℕ} → i < s .cells → cellsAt e + 12 * i + 12 ≤ length e
+  pub cell-inside : {i : ℕ} → i < s .cells → cellsAt (sizesOf e) + 12 * i + 12 ≤ length e
   cell-inside h = let n = counted (r .sizes-are) in omega (arith, r .places .ends)
 
-  pub operand-inside : {j : ℕ} → j < s .operands → operandsAt e + 4 * j + 4 ≤ length e
+  pub operand-inside : {j : ℕ} → j < s .operands → operandsAt (sizesOf e) + 4 * j + 4 ≤ length e
   operand-inside h = let n = counted (r .sizes-are) in omega (arith, r .places .ends)
 
 -- what opening a file answers

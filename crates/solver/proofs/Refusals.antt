@@ -9,14 +9,13 @@ use borrow.Author.Tests.{not-false, ltb-true, ltb-false, lt-ltb, le-ltb}
 use lib.Dec.{ltb}
 use lib.ListN.{length, drop}
 use Rattle.sets.specs.Lists.{every}
-use Rattle.sets.specs.Size.{wordCount}
-use Rattle.sets.specs.Words.{words, bit}
+use Rattle.sets.specs.Words.{words, bit, wordCount}
 use Rattle.sets.specs.Refusals.{Conditions, firstOf, Outcome, refused}
 use Rattle.sets.proofs.Refusals.{none-holds, holds-later, none-here, reached, none-reached, refusing, reports, refuses, number-is}
-use Rattle.solver.specs.Cells.{evaluate}
-use Rattle.solver.specs.File.{cellCount, cells}
+use Rattle.solver.specs.computed.Solved.{evaluate, run}
+use Rattle.solver.specs.File.{sizesOf, cells}
 use Rattle.solver.specs.Conditions.{layoutOk, tablesOk, WellFormed}
-use Rattle.solver.specs.Outcome.{run, badLayout, badTable, tooShort, exceeds, solveConditions, solveRefusal, Enough, report, solveOutcome, solveMarks, solveWork, Answered}
+use Rattle.solver.specs.Outcome.{badLayout, badTable, solveTooShort, solveExceeds, solveConditions, solveRefusal, SolveEnough, report, solveOutcome, solveMarks, solveWork, Answered}
 
 -- ---- the conditions in plain words
 
@@ -32,11 +31,11 @@ or-false true b h = absurd (true≢false h)
 or-false false b h = (refl, h)
 
 -- 13 does not hold where a byte for each cell and the words of a set are lent
-pub enough : (e : List ℕ) (work marks : ℕ) → (cellCount e ≤ work) × (wordCount ≤ marks) ↔ Enough e work marks
-unfolding tooShort
+pub enough : (e : List ℕ) (work marks : ℕ) → (sizesOf e .cells ≤ work) × (wordCount ≤ marks) ↔ SolveEnough e work marks
+unfolding solveTooShort
 enough e work marks = (
-  λ h. rw (le-ltb work (cellCount e) (h .0), le-ltb marks wordCount (h .1)),
-  λ h. let x = or-false (ltb work (cellCount e)) (ltb marks wordCount) h in (ltb-false work (cellCount e) (x .0), ltb-false marks wordCount (x .1)),
+  λ h. rw (le-ltb work (sizesOf e .cells) (h .0), le-ltb marks wordCount (h .1)),
+  λ h. let x = or-false (ltb work (sizesOf e .cells)) (ltb marks wordCount) h in (ltb-false work (sizesOf e .cells) (x .0), ltb-false marks wordCount (x .1)),
 )
 
 -- ---- the number
@@ -44,9 +43,9 @@ enough e work marks = (
 module _ (e : List ℕ) (work marks : ℕ) where
   -- the conditions before 14
   abbrev early : Conditions
-  early = (11, badLayout e) ∷ (12, badTable e) ∷ (13, tooShort e work marks) ∷ []
+  early = (11, badLayout e) ∷ (12, badTable e) ∷ (13, solveTooShort e work marks) ∷ []
 
-  none-early : firstOf early ≡ 0 ↔ WellFormed e × Enough e work marks
+  none-early : firstOf early ≡ 0 ↔ WellFormed e × SolveEnough e work marks
   none-early = (
     λ z.
         let x = none-here 11 _ _ (λ h. omega arith) z in
@@ -57,19 +56,19 @@ module _ (e : List ℕ) (work marks : ℕ) where
 
   module _ (limit : ℕ) where
     -- solve succeeds on a well-formed file with enough memory whose rounds are within the limit
-    pub is-0 : solveRefusal e work marks limit ≡ 0 ↔ (WellFormed e × Enough e work marks) × (run e .1 ≤ limit)
-    unfolding solveRefusal solveConditions exceeds every
+    pub is-0 : solveRefusal e work marks limit ≡ 0 ↔ (WellFormed e × SolveEnough e work marks) × (run e .1 ≤ limit)
+    unfolding solveRefusal solveConditions solveExceeds every
     is-0 =
-        let x = none-reached early 14 (exceeds e limit) (λ h. omega arith) tt in (
+        let x = none-reached early 14 (solveExceeds e limit) (λ h. omega arith) tt in (
           λ z. (none-early .0 (x .0 z .0), ltb-false limit (run e .1) (x .0 z .1)),
           λ h. x .1 (none-early .1 (h .0), le-ltb limit (run e .1) (h .1)),
         )
 
     -- and is spent where they exceed it
-    pub is-14 : solveRefusal e work marks limit ≡ 14 ↔ (WellFormed e × Enough e work marks) × (limit < run e .1)
-    unfolding solveRefusal solveConditions exceeds every
+    pub is-14 : solveRefusal e work marks limit ≡ 14 ↔ (WellFormed e × SolveEnough e work marks) × (limit < run e .1)
+    unfolding solveRefusal solveConditions solveExceeds every
     is-14 =
-        let x = reached early 14 (exceeds e limit) [] (λ h. omega arith) tt tt tt in (
+        let x = reached early 14 (solveExceeds e limit) [] (λ h. omega arith) tt tt tt in (
           λ z. (none-early .0 (x .0 z .0), ltb-true limit (run e .1) (x .0 z .1)),
           λ h. x .1 (none-early .1 (h .0), lt-ltb limit (run e .1) (h .1)),
         )
@@ -88,7 +87,7 @@ module _ (e : List ℕ) (work : ℕ) (marks : List ℕ) (limit : ℕ) where
 
 -- The working bytes, in the same way.
 module _ (e work : List ℕ) (marks limit : ℕ) where
-  pub work-written : solveRefusal e (length work) marks limit ≡ 0 → solveWork e work marks limit ≡ map bit (evaluate (cells e) (run e .0)) ++ drop (cellCount e) work
+  pub work-written : solveRefusal e (length work) marks limit ≡ 0 → solveWork e work marks limit ≡ map bit (evaluate (cells e) (run e .0)) ++ drop (sizesOf e .cells) work
   unfolding solveWork
   work-written z = rw z
 
@@ -120,5 +119,5 @@ module _ {e work marks : List ℕ} {limit : ℕ} {o : Outcome} {work′ marks′
   pub answered-marks : o .refusal ≡ 0 → marks′ ≡ words wordCount (run e .0 0) ++ drop wordCount marks
   answered-marks z = a .marks-are ∙ marks-written e (length work) marks limit (sym answered-number ∙ z)
 
-  pub answered-work : o .refusal ≡ 0 → work′ ≡ map bit (evaluate (cells e) (run e .0)) ++ drop (cellCount e) work
+  pub answered-work : o .refusal ≡ 0 → work′ ≡ map bit (evaluate (cells e) (run e .0)) ++ drop (sizesOf e .cells) work
   answered-work z = a .work-is (λ s. omega arith) ∙ work-written e work (length marks) limit (sym answered-number ∙ z)

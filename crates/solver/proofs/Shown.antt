@@ -9,19 +9,15 @@ use lib.Dec.{eqb}
 use lib.ListN.{length, getD, set, length-map, length-set, List·getD-map, List·getD-eq-default}
 use lib.Seq.{getD-set-same, getD-set-other}
 use Rattle.sets.specs.Lists.{every, forSome}
-use Rattle.sets.specs.Size.{wordCount, stateLimit}
-use Rattle.sets.specs.States.{has}
-use Rattle.sets.specs.Words.{marked, bit}
+use Rattle.sets.specs.States.{has, Valuation}
+use Rattle.sets.specs.Words.{marked, bit, wordCount, stateLimit}
 use Rattle.sets.proofs.Lists.{kept-equal}
 use Rattle.sets.proofs.Words.{marked-words}
-use Rattle.solver.specs.Limits.{blockLimit}
 use Rattle.solver.specs.Cells.{Cell, value, Values}
 use Rattle.solver.specs.internal.Forms.{Ordered}
-use Rattle.sets.specs.Valuation.{Valuation}
-use Rattle.solver.specs.File.{stateCount, cellCount, operands, Entry, entryAt, entryCell, cells, listOf}
-use Rattle.solver.specs.internal.Forms.{sizesOf}
-use Rattle.solver.specs.internal.Checks.{Counts}
-use Rattle.solver.specs.internal.Working.{Ready, ListAt, Holds, Shows, Valued, Evaluated, truths}
+use Rattle.solver.specs.File.{sizesOf, operands, Entry, entryAt, entryCell, cells, listOf, blockLimit}
+use Rattle.solver.specs.internal.Checks.{SizesFit}
+use Rattle.solver.specs.internal.Working.{Ready, ListAt, HoldsRows, Shows, Valued, CellsValued, truths}
 use Rattle.solver.specs.declared.Sizes.{Sizes}
 use Rattle.solver.proofs.Tables.{counted, length-cells, cell-at, operand-at}
 use Rattle.solver.proofs.Reading.{layout-facts}
@@ -87,7 +83,7 @@ abbrev pub cellAt : List ℕ → ℕ → Cell
 cellAt e i = entryCell (operands e) (entryAt e i .kind) (entryAt e i .one) (entryAt e i .two)
 
 module _ {e : List ℕ} {sizes : Sizes} {work : List ℕ} (r : Ready e sizes work) {i : ℕ} (h : i < sizes .cells) where
-  own : i < cellCount e
+  own : i < sizesOf e .cells
   own = omega (arith, counted (r .opens .counts) .cells)
 
   -- the bytes above (cellAt e i) i are the values above (cellAt e i) i
@@ -114,7 +110,7 @@ module _ {e : List ℕ} {sizes : Sizes} {work : List ℕ} (r : Ready e sizes wor
     abbrev facts : Keeps e i (entryAt e i .kind) (entryAt e i .one) (entryAt e i .two)
     facts = cell-kept e (r .opens .formed) i own
 
-    abbrev few : Counts (sizesOf e)
+    abbrev few : SizesFit (sizesOf e)
     few = layout-facts e (r .opens .formed .layout) .counts
 
     pub variable-fits : x .kind ≡ 2 → (x .one < blockLimit) × (x .two < stateLimit)
@@ -154,14 +150,14 @@ module _ {e : List ℕ} {sizes : Sizes} {work : List ℕ} (r : Ready e sizes wor
         }
 
 -- ---- all cells, from the last down
-pub evaluated-none : {e : List ℕ} {sizes : Sizes} {work : List ℕ} {rows : List (List ℕ)} → Ready e sizes work → Evaluated e rows (sizes .cells) work
+pub evaluated-none : {e : List ℕ} {sizes : Sizes} {work : List ℕ} {rows : List (List ℕ)} → Ready e sizes work → CellsValued e rows (sizes .cells) work
 evaluated-none {e} r = record {
   room = r .room;
   bits = r .bits;
   right = λ ρ vs holds v. record { byte = λ j a b. absurd (omega (arith, v .sized, length-cells e, counted (r .opens .counts) .cells)) };
 }
 
-pub evaluated-more : {e : List ℕ} {work : List ℕ} {rows : List (List ℕ)} {i x : ℕ} → Evaluated e rows (i + 1) work → i < cellCount e → Valued e rows i work x → Evaluated e rows i (set work i x)
+pub evaluated-more : {e : List ℕ} {work : List ℕ} {rows : List (List ℕ)} {i x : ℕ} → CellsValued e rows (i + 1) work → i < sizesOf e .cells → Valued e rows i work x → CellsValued e rows i (set work i x)
 evaluated-more {e} {work} {rows} {i} {x} d h w = record {
   room = length-set work i x ∙ d .room;
   bits = λ j. low j (ℕ-discrete j i);
@@ -175,6 +171,6 @@ evaluated-more {e} {work} {rows} {i} {x} d h w = record {
     low j (yes q) = rw (q, here) (w .low)
     low j (no q) = rw (getD-set-other work i j x 0 q) (d .bits j)
 
-    at : (ρ : Valuation) (vs : List Bool) → Holds (stateCount e) rows ρ → Values (cells e) ρ vs → (j : ℕ) → i ≤ j → j < length vs → Dec (j ≡ i) → getD (set work i x) j 0 ≡ bit (getD vs j false)
+    at : (ρ : Valuation) (vs : List Bool) → HoldsRows (sizesOf e .states) rows ρ → Values (cells e) ρ vs → (j : ℕ) → i ≤ j → j < length vs → Dec (j ≡ i) → getD (set work i x) j 0 ≡ bit (getD vs j false)
     at ρ vs holds v j a b (yes q) = rw (q, here) (w .right ρ vs holds v (d .right ρ vs holds v))
     at ρ vs holds v j a b (no q) = rw (getD-set-other work i j x 0 q) (d .right ρ vs holds v .byte j (omega arith) b)

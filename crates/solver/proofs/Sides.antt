@@ -9,41 +9,38 @@ use native.Mathlib.Decide.{ℕ-discrete}
 use lib.Dec.{eqb}
 use lib.ListN.{length, getD, set, take, drop, length-append, length-drop, drop-of-length-le, length-set}
 use lib.Seq.{take-suc, take-all, drop-cons, length-take-le, set-at, getD-take, getD-drop, getD-set-same, getD-set-other}
-use Rattle.sets.specs.Size.{wordCount}
-use Rattle.sets.specs.States.{States}
-use Rattle.sets.specs.Words.{words}
-use Rattle.solver.specs.Limits.{blockLimit}
-use Rattle.sets.specs.Valuation.{Valuation, bind}
-use Rattle.solver.specs.File.{stateCount, blockCount, blockAt}
+use Rattle.sets.specs.States.{States, Valuation, update}
+use Rattle.sets.specs.Words.{words, wordCount}
+use Rattle.solver.specs.File.{sizesOf, blockAt, blockLimit}
 use Rattle.solver.specs.Conditions.{WellFormed}
-use Rattle.solver.specs.internal.Working.{Opens, Ready, Holds, Valued, Evaluated, RightSidesOf, Applied}
+use Rattle.solver.specs.internal.Working.{OpenFile, Ready, HoldsRows, Valued, CellsValued, RightSidesOf, Applied}
 use Rattle.solver.specs.declared.Sizes.{Sizes}
 use Rattle.solver.proofs.Tables.{counted, length-cells}
 use Rattle.solver.proofs.Reading.{few-blocks, own-block}
 use Rattle.solver.proofs.WellFormed.{block-kept}
 use Rattle.solver.proofs.Values.{length-part}
 use Rattle.solver.proofs.Shown.{bit-back, evaluated-more}
-use Rattle.sets.proofs.Valuation.{bind-same, bind-other}
+use Rattle.sets.proofs.Valuation.{update-same, update-other}
 
 -- ---- the sets of all blocks
 
 -- the right-hand sides of a block are a set of the file's states
-pub sides-sized : (e : List ℕ) (k : ℕ) {σ : Valuation} {w : States} → WellFormed e → k < blockCount e → RightSidesOf e k σ w → length w ≡ stateCount e
+pub sides-sized : (e : List ℕ) (k : ℕ) {σ : Valuation} {w : States} → WellFormed e → k < sizesOf e .blocks → RightSidesOf e k σ w → length w ≡ sizesOf e .states
 sides-sized e k f h s =
-    ap length (s .are) ∙ length-part (stateCount e) (blockAt e k .first) (s .values) (omega (arith, block-kept e f k h, s .each .sized, length-cells e))
+    ap length (s .are) ∙ length-part (sizesOf e .states) (blockAt e k .first) (s .values) (omega (arith, block-kept e f k h, s .each .sized, length-cells e))
 
 -- rows that hold v for block k, and for the others what was held
-pub holds-bind : {n : ℕ} {rows after : List (List ℕ)} {ρ : Valuation} → Holds n rows ρ → (k : ℕ) (v : States) → length v ≡ n → getD after k [] ≡ words wordCount v →
-    ((j : ℕ) → ¬ (j ≡ k) → getD after j [] ≡ getD rows j []) → Holds n after (bind ρ k v)
-holds-bind {n} {rows} {after} {ρ} h k v s e f = record { sized = λ j. long j (ℕ-discrete j k); row = λ j b. at j b (ℕ-discrete j k) }
+pub holds-update : {n : ℕ} {rows after : List (List ℕ)} {ρ : Valuation} → HoldsRows n rows ρ → (k : ℕ) (v : States) → length v ≡ n → getD after k [] ≡ words wordCount v →
+    ((j : ℕ) → ¬ (j ≡ k) → getD after j [] ≡ getD rows j []) → HoldsRows n after (update ρ k v)
+holds-update {n} {rows} {after} {ρ} h k v s e f = record { sized = λ j. long j (ℕ-discrete j k); row = λ j b. at j b (ℕ-discrete j k) }
   where
-    long : (j : ℕ) → Dec (j ≡ k) → length (bind ρ k v j) ≡ n
-    long j (yes q) = rw (q, bind-same ρ k v) s
-    long j (no q) = rw (bind-other ρ k v j q) (h .sized j)
+    long : (j : ℕ) → Dec (j ≡ k) → length (update ρ k v j) ≡ n
+    long j (yes q) = rw (q, update-same ρ k v) s
+    long j (no q) = rw (update-other ρ k v j q) (h .sized j)
 
-    at : (j : ℕ) → j < blockLimit → Dec (j ≡ k) → getD after j [] ≡ words wordCount (bind ρ k v j)
-    at j b (yes q) = rw (q, bind-same ρ k v) e
-    at j b (no q) = rw (bind-other ρ k v j q, f j q) (h .row j b)
+    at : (j : ℕ) → j < blockLimit → Dec (j ≡ k) → getD after j [] ≡ words wordCount (update ρ k v j)
+    at j b (yes q) = rw (q, update-same ρ k v) e
+    at j b (no q) = rw (update-other ρ k v j q, f j q) (h .row j b)
 
 -- ---- the states that are replaced
 
@@ -66,7 +63,7 @@ mixed-more s v w h l =
 
 -- a block of an opened file, and its first cell
 pub record BlockOf (e : List ℕ) (sizes : Sizes) (k first : ℕ) : Type 0 where
-  pub opens : Opens e sizes
+  pub opens : OpenFile e sizes
   pub has : k < sizes .blocks
   pub is : first ≡ blockAt e k .first
 
@@ -77,7 +74,7 @@ module _ {e : List ℕ} {sizes : Sizes} {k first : ℕ} (b : BlockOf e sizes k f
       let n = counted (b .opens .counts) in
       omega (arith, block-kept e (b .opens .formed) k (own-block (b .opens) (b .has)))
 
-  block-sides : {σ : Valuation} {w : States} → RightSidesOf e k σ w → length w ≡ stateCount e
+  block-sides : {σ : Valuation} {w : States} → RightSidesOf e k σ w → length w ≡ sizesOf e .states
   block-sides s = sides-sized e k (b .opens .formed) (own-block (b .opens) (b .has)) s
 
 -- With s states left: the cells from that of state s on are worked out under `rows`, and in `next` the states from s on are replaced.
@@ -85,16 +82,16 @@ pub record Replacing (e : List ℕ) (sizes : Sizes) (rows : List (List ℕ)) (k 
   pub block : BlockOf e sizes k first
   pub left : s ≤ sizes .states
   pub long : length next ≡ blockLimit
-  pub worked : Evaluated e rows (first + s) work
+  pub worked : CellsValued e rows (first + s) work
   pub others : (j : ℕ) → ¬ (j ≡ k) → getD next j [] ≡ getD rows j []
-  pub own : (σ : Valuation) (w : States) → Holds (stateCount e) rows σ → RightSidesOf e k σ w → getD next k [] ≡ words wordCount (mixed s (σ k) w)
+  pub own : (σ : Valuation) (w : States) → HoldsRows (sizesOf e .states) rows σ → RightSidesOf e k σ w → getD next k [] ≡ words wordCount (mixed s (σ k) w)
 
 module _ {e : List ℕ} {sizes : Sizes} {rows : List (List ℕ)} {k first : ℕ} where
   -- no state is replaced yet
-  pub replacing-none : {work : List ℕ} → BlockOf e sizes k first → length rows ≡ blockLimit → Evaluated e rows (first + sizes .states) work →
+  pub replacing-none : {work : List ℕ} → BlockOf e sizes k first → length rows ≡ blockLimit → CellsValued e rows (first + sizes .states) work →
       Replacing e sizes rows k first (sizes .states) work rows
   replacing-none b l d =
-      let n : sizes .states ≡ stateCount e = counted (b .opens .counts) .states in
+      let n : sizes .states ≡ sizesOf e .states = counted (b .opens .counts) .states in
       record {
         block = b;
         left = omega arith;
@@ -116,20 +113,20 @@ module _ {e : List ℕ} {sizes : Sizes} {rows : List (List ℕ)} {k first : ℕ}
   -- The right-hand side of state s is put in place: it is the value of cell first + s under `rows`.
   module _ {s v : ℕ} {work row : List ℕ} {next : List (List ℕ)} (r : Replacing e sizes rows k first (s + 1) work next) (x : Valued e rows (first + s) work v)
       (put : (u : States) → s < length u → getD next k [] ≡ words wordCount u → row ≡ words wordCount (set u s (eqb v 1))) where
-    up : Evaluated e rows (first + s + 1) work
+    up : CellsValued e rows (first + s + 1) work
     up =
         let a : first + (s + 1) ≡ first + s + 1 = omega arith in
         rw a at (r .worked)
 
-    inside : s < stateCount e
+    inside : s < sizesOf e .states
     inside = omega (arith, counted (r .block .opens .counts) .states)
 
-    side : (σ : Valuation) (w : States) → Holds (stateCount e) rows σ → RightSidesOf e k σ w → eqb v 1 ≡ getD w s false
+    side : (σ : Valuation) (w : States) → HoldsRows (sizesOf e .states) rows σ → RightSidesOf e k σ w → eqb v 1 ≡ getD w s false
     side σ w holds t =
         ap (λ (y : ℕ). eqb y 1) (x .right σ (t .values) holds (t .each) (up .right σ (t .values) holds (t .each)))
         ∙ bit-back (getD (t .values) (first + s) false)
         ∙ sym (ap (λ (u : States). getD u s false) (t .are)
-        ∙ getD-take (stateCount e) (drop (blockAt e k .first) (t .values)) s false inside
+        ∙ getD-take (sizesOf e .states) (drop (blockAt e k .first) (t .values)) s false inside
         ∙ getD-drop (blockAt e k .first) (t .values) s false
         ∙ ap (λ (i : ℕ). getD (t .values) (i + s) false) (sym (r .block .is)))
 
@@ -141,7 +138,7 @@ module _ {e : List ℕ} {sizes : Sizes} {rows : List (List ℕ)} {k first : ℕ}
       worked = evaluated-more up (omega (arith, block-fits (r .block), counted (r .block .opens .counts) .cells)) x;
       others = λ j q. getD-set-other next k j row [] q ∙ r .others j q;
       own = λ σ w holds t.
-          let a : length (σ k) ≡ stateCount e = holds .sized k in
+          let a : length (σ k) ≡ sizesOf e .states = holds .sized k in
           let z : length w ≡ length (σ k) = block-sides (r .block) t ∙ sym a in
           getD-set-same next k row [] (omega (arith, few-blocks (r .block .opens) (r .block .has)))
           ∙ put (mixed (s + 1) (σ k) w) (omega (arith, inside, mixed-long (s + 1) (σ k) w (omega (arith, inside)) z)) (r .own σ w holds t)
@@ -154,5 +151,5 @@ module _ {e : List ℕ} {sizes : Sizes} {rows : List (List ℕ)} {k first : ℕ}
   replacing-all {s} {work} {next} r z = record {
     room = r .worked .room;
     bits = r .worked .bits;
-    right = λ σ w holds t. holds-bind holds k w (block-sides (r .block) t) (r .own σ w holds t ∙ ap (λ (i : ℕ). words wordCount (mixed i (σ k) w)) z) (r .others);
+    right = λ σ w holds t. holds-update holds k w (block-sides (r .block) t) (r .own σ w holds t ∙ ap (λ (i : ℕ). words wordCount (mixed i (σ k) w)) z) (r .others);
   }

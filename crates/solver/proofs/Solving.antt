@@ -7,20 +7,19 @@ use native.Mathlib.Omega.{arith}
 use lib.Dec.{leb, leb→le}
 use lib.ListN.{length, length-replicate}
 use Rattle.sets.specs.Lists.{every}
-use Rattle.sets.specs.States.{States, Subset, start, Extremal}
-use Rattle.sets.specs.Loop.{Loop, Worked, iterate}
+use Rattle.sets.specs.States.{States, Subset, start, Extremal, Valuation, update, Sized}
+use Rattle.sets.specs.Loop.{Loop}
+use Rattle.sets.specs.computed.Iteration.{Worked, iterate}
 use Rattle.sets.proofs.Lists.{and-left, and-right}
 use Rattle.sets.proofs.Order.{extremal-map, extremal-one}
 use Rattle.sets.specs.internal.Functions.{stepOf}
 use Rattle.sets.proofs.FixedPoint.{step-set, step-rounds, loop-one, loop-map, cost, stops, extremal, fixed-mono}
-use Rattle.solver.specs.Cells.{Cell, evaluate, part}
-use Rattle.solver.specs.internal.Forms.{Ordered}
-use Rattle.sets.specs.Valuation.{Valuation, bind, Sized}
-use Rattle.sets.proofs.Valuation.{Included, bind-other, bind-sized, bind-mono}
+use Rattle.solver.specs.Cells.{Cell, part}
+use Rattle.solver.specs.computed.Solved.{evaluate, Reached, solved}
+use Rattle.solver.specs.internal.Forms.{Ordered, Inside}
+use Rattle.sets.proofs.Valuation.{Included, update-other, update-sized, update-mono}
 use Rattle.solver.specs.File.{Block}
-use Rattle.solver.specs.internal.Forms.{Inside}
-use Rattle.solver.specs.Standard.{RightSides, Solution}
-use Rattle.solver.specs.Rounds.{Reached, Solves, solved, powers}
+use Rattle.solver.specs.Solution.{RightSides, Solution, Solves, powers}
 use Rattle.solver.proofs.Values.{evaluate-values, evaluate-mono, sides-part, part-sides, sides-one, length-part, part-mono}
 
 -- The first block has its cells, and so have the later ones.
@@ -42,7 +41,7 @@ module _ (n : ℕ) (cs : List Cell) where
   -- one turn of the loop of block k: the later blocks solved anew, and the right-hand sides worked out
   unfoldable pub turn : Block → List Block → ℕ → Valuation → States → Worked
   turn b bs k ρ v =
-      let r : Reached = solved n cs bs (suc k) (bind ρ k v) in
+      let r : Reached = solved n cs bs (suc k) (update ρ k v) in
       (part n (b .first) (evaluate cs (r .0)), r .1)
 
   -- the loop of block k, and its outcome
@@ -51,7 +50,7 @@ module _ (n : ℕ) (cs : List Cell) where
 
   -- the first block takes the loop's set, and the later ones are solved with it
   pub solved-cons : (b : Block) (bs : List Block) (k : ℕ) (ρ : Valuation)
-      → solved n cs (b ∷ bs) k ρ ≡ (solved n cs bs (suc k) (bind ρ k (looped b bs k ρ .0)) .0, looped b bs k ρ .1)
+      → solved n cs (b ∷ bs) k ρ ≡ (solved n cs bs (suc k) (update ρ k (looped b bs k ρ .0)) .0, looped b bs k ρ .1)
   unfolding solved turn
   solved-cons b bs k ρ = refl
 
@@ -78,16 +77,16 @@ module _ (n : ℕ) (cs : List Cell) (ordered : Ordered cs) where
     turn-sized : (ρ : Valuation) (v : States) → length v ≡ n → length (go ρ v .0) ≡ n
     unfolding turn
     turn-sized ρ v o =
-        let σ : Valuation = solved n cs bs (suc k) (bind ρ k v) .0 in
+        let σ : Valuation = solved n cs bs (suc k) (update ρ k v) .0 in
         length-part n (b .first) (evaluate cs σ) (omega (arith, evaluate-values cs ordered σ .sized))
 
     turn-mono : (ρ σ : Valuation) → Sized n ρ → Sized n σ → Included ρ σ → (v w : States) → length v ≡ n → length w ≡ n → Subset v w → Subset (go ρ v .0) (go σ w .0)
     unfolding turn
     turn-mono ρ σ r q h v w o l g =
-        let x : Valuation = solved n cs bs (suc k) (bind ρ k v) .0 in
-        let y : Valuation = solved n cs bs (suc k) (bind σ k w) .0 in
+        let x : Valuation = solved n cs bs (suc k) (update ρ k v) .0 in
+        let y : Valuation = solved n cs bs (suc k) (update σ k w) .0 in
         part-mono n (b .first) (evaluate cs x) (evaluate cs y) (evaluate-mono cs ordered x y
-        (later .mono (bind ρ k v) (bind σ k w) (bind-sized ρ k v r o) (bind-sized σ k w q l) (bind-mono ρ σ k v w h g)))
+        (later .mono (update ρ k v) (update σ k w) (update-sized ρ k v r o) (update-sized σ k w q l) (update-mono ρ σ k v w h g)))
 
     own-mono : (ρ : Valuation) → Sized n ρ → (v w : States) → length v ≡ n → length w ≡ n → Subset v w → Subset (go ρ v .0) (go ρ w .0)
     own-mono ρ r = turn-mono ρ ρ r r (λ j s t. t)
@@ -103,49 +102,49 @@ module _ (n : ℕ) (cs : List Cell) (ordered : Ordered cs) where
       loop-extremal : Extremal n (b .sign) (λ v. go ρ v .0 ≡ v) (own ρ)
       loop-extremal = extremal n (b .sign) (go ρ) (turn-sized ρ) (own-mono ρ r)
 
-      bound-sized : Sized n (bind ρ k (own ρ))
-      bound-sized = bind-sized ρ k (own ρ) r (loop-extremal .sized)
+      bound-sized : Sized n (update ρ k (own ρ))
+      bound-sized = update-sized ρ k (own ρ) r (loop-extremal .sized)
 
       -- the sets held in a turn
       abbrev held : States → Valuation
-      held v = solved n cs bs (suc k) (bind ρ k v) .0
+      held v = solved n cs bs (suc k) (update ρ k v) .0
 
       -- a turn solves the later blocks and takes the right-hand sides
       turn-solves : (v : States) (τ : Valuation) (w : States) (p : ℕ) → length v ≡ n → stepOf held (go ρ) v τ w p
-          → Solves n cs bs (suc k) (bind ρ k v) τ p × RightSides n cs (b .first) τ w
+          → Solves n cs bs (suc k) (update ρ k v) τ p × RightSides n cs (b .first) τ w
       unfolding turn
       turn-solves v τ w p o e = rw (e .0) (
-        subst (λ (q : ℕ). Solves n cs bs (suc k) (bind ρ k v) (held v) q) (step-rounds (e .1)) (later .reached (bind ρ k v) (bind-sized ρ k v r o)),
+        subst (λ (q : ℕ). Solves n cs bs (suc k) (update ρ k v) (held v) q) (step-rounds (e .1)) (later .reached (update ρ k v) (update-sized ρ k v r o)),
         part-sides cs ordered (held v) (sym (step-set (e .1))),
       )
 
       -- so the loop does so turn by turn
-      loop-solves : Loop (λ u τ w q. Solves n cs bs (suc k) (bind ρ k u) τ q × RightSides n cs (b .first) τ w)
+      loop-solves : Loop (λ u τ w q. Solves n cs bs (suc k) (update ρ k u) τ q × RightSides n cs (b .first) τ w)
           (start n (b .sign)) (held (own ρ)) (looped n cs b bs k ρ .1)
       loop-solves =
           loop-map n (λ v τ w p o e. ap length (sym (step-set (e .1))) ∙ turn-sized ρ v o) turn-solves (length-replicate n (b .sign))
           (stops n (b .sign) (go ρ) (turn-sized ρ) (own-mono ρ r) held)
 
       -- The sets that a turn leaves as they are, are those equal to their right-hand sides under a solution of the later blocks.
-      loop-standard : Extremal n (b .sign) (λ u. (τ : Valuation) × Solution n cs bs (suc k) (bind ρ k u) τ × RightSides n cs (b .first) τ u) (own ρ)
+      loop-standard : Extremal n (b .sign) (λ u. (τ : Valuation) × Solution n cs bs (suc k) (update ρ k u) τ × RightSides n cs (b .first) τ u) (own ρ)
       unfolding turn
       loop-standard = extremal-map
-          (λ u o e. (solved n cs bs (suc k) (bind ρ k u) .0, later .standard (bind ρ k u) (bind-sized ρ k u r o), part-sides cs ordered _ (sym e)))
+          (λ u o e. (solved n cs bs (suc k) (update ρ k u) .0, later .standard (update ρ k u) (update-sized ρ k u r o), part-sides cs ordered _ (sym e)))
           (λ u o m. sym (sides-part cs ordered (m .0) (m .2)
-          ∙ ap (λ (τ : Valuation). part n (b .first) (evaluate cs τ)) (later .one (bind ρ k u) (bind-sized ρ k u r o) (m .0) (m .1))))
+          ∙ ap (λ (τ : Valuation). part n (b .first) (evaluate cs τ)) (later .one (update ρ k u) (update-sized ρ k u r o) (m .0) (m .1))))
           loop-extremal
 
     -- with what is known of the later blocks, the same is known from this block on
     exact-cons : Exact n cs (b ∷ bs) k
     unfolding solved turn Solves Solution
     exact-cons = record {
-      sized = λ ρ r. later .sized (bind ρ k (own ρ)) (bound-sized ρ r);
-      mono = λ ρ σ r q h. later .mono (bind ρ k (own ρ)) (bind σ k (own σ)) (bound-sized ρ r) (bound-sized σ q)
-          (bind-mono ρ σ k (own ρ) (own σ) h (loop-mono ρ σ r q h));
+      sized = λ ρ r. later .sized (update ρ k (own ρ)) (bound-sized ρ r);
+      mono = λ ρ σ r q h. later .mono (update ρ k (own ρ)) (update σ k (own σ)) (bound-sized ρ r) (bound-sized σ q)
+          (update-mono ρ σ k (own ρ) (own σ) h (loop-mono ρ σ r q h));
       reached = loop-solves;
-      standard = λ ρ r. (own ρ, loop-standard ρ r, later .standard (bind ρ k (own ρ)) (bound-sized ρ r));
-      one = λ ρ r σ m. later .one (bind ρ k (m .0)) (bind-sized ρ k (m .0) r (m .1 .sized)) σ (m .2)
-          ∙ ap (λ (v : States). solved n cs bs (suc k) (bind ρ k v) .0) (extremal-one (m .1) (loop-standard ρ r));
+      standard = λ ρ r. (own ρ, loop-standard ρ r, later .standard (update ρ k (own ρ)) (bound-sized ρ r));
+      one = λ ρ r σ m. later .one (update ρ k (m .0)) (update-sized ρ k (m .0) r (m .1 .sized)) σ (m .2)
+          ∙ ap (λ (v : States). solved n cs bs (suc k) (update ρ k v) .0) (extremal-one (m .1) (loop-standard ρ r));
     }
 
   -- so it is known of all blocks
@@ -177,7 +176,7 @@ module _ (n : ℕ) (cs : List Cell) (ordered : Ordered cs) where
   unfolding Solves
   solves-one [] k ρ σ τ r q d e = (d .0 ∙ sym (e .0), d .1 ∙ sym (e .1))
   solves-one (b ∷ bs) k ρ σ τ r q d e = loop-one (λ v x y u w t s f g.
-      let m = solves-one bs (suc k) (bind ρ k v) x y t s (f .0) (g .0) in
+      let m = solves-one bs (suc k) (update ρ k v) x y t s (f .0) (g .0) in
       (m .0, sides-one cs ordered (f .1) (g .1) (m .0), m .1)) d e
 
 -- Solving the blocks from k on keeps the sets of those below.
@@ -186,7 +185,7 @@ unfolding solved turn
 solved-below n cs [] k ρ j h = refl
 solved-below n cs (b ∷ bs) k ρ j h =
     let v : States = looped n cs b bs k ρ .0 in
-    solved-below n cs bs (suc k) (bind ρ k v) j (omega arith) ∙ bind-other ρ k v j (λ e. omega arith)
+    solved-below n cs bs (suc k) (update ρ k v) j (omega arith) ∙ update-other ρ k v j (λ e. omega arith)
 
 -- The rounds are at most m + m ^ 2 + .. + m ^ d, for d blocks and m = n + 1.
 pub rounds-bound : (n : ℕ) (cs : List Cell) (bs : List Block) (k : ℕ) (ρ : Valuation) → solved n cs bs k ρ .1 ≤ powers (suc n) (length bs)
@@ -194,4 +193,4 @@ unfolding solved turn
 rounds-bound n cs [] k ρ = omega arith
 rounds-bound n cs (b ∷ bs) k ρ =
     rw (powers-suc (suc n) (length bs))
-    (cost (turn n cs b bs k ρ) (powers (suc n) (length bs)) (λ v. rounds-bound n cs bs (suc k) (bind ρ k v)) (suc n) (start n (b .sign)))
+    (cost (turn n cs b bs k ρ) (powers (suc n) (length bs)) (λ v. rounds-bound n cs bs (suc k) (update ρ k v)) (suc n) (start n (b .sign)))

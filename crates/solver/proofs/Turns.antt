@@ -7,43 +7,40 @@ use native.Mathlib.Numerals.{add-one}
 use native.Mathlib.Decide.{ℕ-discrete}
 use lib.ListN.{length, getD, set, drop, drop-of-length-le, length-replicate}
 use lib.Seq.{drop-cons, getD-set-same, getD-set-other}
-use Rattle.sets.specs.Size.{wordCount}
-use Rattle.sets.specs.States.{States, start}
+use Rattle.sets.specs.States.{States, start, Valuation, update}
 use Rattle.sets.specs.Loop.{Step, Loop}
-use Rattle.sets.specs.Words.{words}
+use Rattle.sets.specs.Words.{words, wordCount}
 use Rattle.sets.proofs.Turns.{Left, turn, stops-here, goes-on as goes-further}
 use Rattle.sets.proofs.Words.{words-inj}
-use Rattle.solver.specs.Limits.{blockLimit}
-use Rattle.sets.specs.Valuation.{Valuation, bind}
-use Rattle.solver.specs.File.{Block, stateCount, blockCount, cellCount, blocks, blockAt, cells}
-use Rattle.solver.specs.Rounds.{Solves}
-use Rattle.solver.specs.internal.Working.{Opens, Holds, Started, SolvesFrom, RightSidesOf, Applied, Solving, Turned, spent, stable, replaced}
+use Rattle.solver.specs.File.{Block, sizesOf, blocks, blockAt, cells, blockLimit}
+use Rattle.solver.specs.Solution.{Solves}
+use Rattle.solver.specs.internal.Working.{OpenFile, HoldsRows, Started, SolvesFrom, RightSidesOf, Applied, Solving, Turned, spent, stable, replaced}
 use Rattle.solver.specs.declared.Sizes.{Sizes}
 use Rattle.solver.proofs.Tables.{length-blocks, block-at, counted}
 use Rattle.solver.proofs.Reading.{opens-read, few-blocks, own-block}
-use Rattle.sets.proofs.Valuation.{bind-same}
-use Rattle.solver.proofs.Sides.{sides-sized, holds-bind}
+use Rattle.sets.proofs.Valuation.{update-same}
+use Rattle.solver.proofs.Sides.{sides-sized, holds-update}
 
 -- ---- the rule, block by block
 
 -- one turn of block k's loop, with the sets ρ of the blocks before it
 abbrev pub Turn : List ℕ → ℕ → Valuation → Step Valuation
-Turn e k ρ u τ w q = SolvesFrom e (k + 1) (bind ρ k u) τ q × RightSidesOf e k τ w
+Turn e k ρ u τ w q = SolvesFrom e (k + 1) (update ρ k u) τ q × RightSidesOf e k τ w
 
 abbrev pub first : List ℕ → ℕ → States
-first e k = start (stateCount e) (blockAt e k .sign)
+first e k = start (sizesOf e .states) (blockAt e k .sign)
 
-pub from-none : (e : List ℕ) (k : ℕ) {ρ σ : Valuation} {r : ℕ} → blockCount e ≤ k → SolvesFrom e k ρ σ r → (σ ≡ ρ) × (r ≡ 0)
+pub from-none : (e : List ℕ) (k : ℕ) {ρ σ : Valuation} {r : ℕ} → sizesOf e .blocks ≤ k → SolvesFrom e k ρ σ r → (σ ≡ ρ) × (r ≡ 0)
 unfolding SolvesFrom Solves
 from-none e k {ρ} {σ} {r} h s =
-    subst (λ (bs : List Block). Solves (stateCount e) (cells e) bs k ρ σ r) (drop-of-length-le (blocks e) {i = k} (omega (arith, length-blocks e))) s
+    subst (λ (bs : List Block). Solves (sizesOf e .states) (cells e) bs k ρ σ r) (drop-of-length-le (blocks e) {i = k} (omega (arith, length-blocks e))) s
 
-pub from-block : (e : List ℕ) (k : ℕ) (ρ σ : Valuation) (r : ℕ) → k < blockCount e → SolvesFrom e k ρ σ r → Loop (Turn e k ρ) (first e k) σ r
+pub from-block : (e : List ℕ) (k : ℕ) (ρ σ : Valuation) (r : ℕ) → k < sizesOf e .blocks → SolvesFrom e k ρ σ r → Loop (Turn e k ρ) (first e k) σ r
 unfolding SolvesFrom Solves
-from-block e k ρ σ r h s = subst Later (sym (add-one k)) (subst (λ (bs : List Block). Solves (stateCount e) (cells e) bs k ρ σ r) split s)
+from-block e k ρ σ r h s = subst Later (sym (add-one k)) (subst (λ (bs : List Block). Solves (sizesOf e .states) (cells e) bs k ρ σ r) split s)
   where
     Later : ℕ → Type 0
-    Later j = Loop (λ u τ w q. Solves (stateCount e) (cells e) (drop j (blocks e)) j (bind ρ k u) τ q × RightSidesOf e k τ w) (first e k) σ r
+    Later j = Loop (λ u τ w q. Solves (sizesOf e .states) (cells e) (drop j (blocks e)) j (update ρ k u) τ q × RightSidesOf e k τ w) (first e k) σ r
 
     split : drop k (blocks e) ≡ blockAt e k ∷ drop (suc k) (blocks e)
     split =
@@ -85,9 +82,9 @@ module _ {e : List ℕ} {rows inner : List (List ℕ)} {k used limit usedInner s
       differs = λ m. absurd (m refl);
     }
 
-    module _ (left : usedInner < limit) {sizes : Sizes} (o : Opens e sizes) (b : k < sizes .blocks) {work : List ℕ} {next : List (List ℕ)} (a : Applied e inner k work next) where
-      row-is : (ρ τ : Valuation) (q : ℕ) (w : States) → Holds (stateCount e) rows ρ → SolvesFrom e (k + 1) ρ τ q → RightSidesOf e k τ w → getD next k [] ≡ words wordCount w
-      row-is ρ τ q w h t r = a .right τ w (s .right go ρ τ q h t .1) r .row k (few-blocks o b) ∙ ap (words wordCount) (bind-same τ k w)
+    module _ (left : usedInner < limit) {sizes : Sizes} (o : OpenFile e sizes) (b : k < sizes .blocks) {work : List ℕ} {next : List (List ℕ)} (a : Applied e inner k work next) where
+      row-is : (ρ τ : Valuation) (q : ℕ) (w : States) → HoldsRows (sizesOf e .states) rows ρ → SolvesFrom e (k + 1) ρ τ q → RightSidesOf e k τ w → getD next k [] ≡ words wordCount w
+      row-is ρ τ q w h t r = a .right τ w (s .right go ρ τ q h t .1) r .row k (few-blocks o b) ∙ ap (words wordCount) (update-same τ k w)
 
       pub settled : getD next k [] ≡ getD rows k [] → Turned e rows k used limit work inner (usedInner + 1) stable
       settled is = record {
@@ -126,17 +123,17 @@ module _ {e : List ℕ} {rows inner : List (List ℕ)} {k used limit usedInner s
 
 -- the rows hold a set for block k, beside ρ
 abbrev pub Beside : List ℕ → ℕ → Valuation → List (List ℕ) → States → Type 0
-Beside e k ρ rows v = Holds (stateCount e) rows (bind ρ k v)
+Beside e k ρ rows v = HoldsRows (sizesOf e .states) rows (update ρ k v)
 
 -- at the head of block k's loop: the rows `now` are turned, and the later blocks are where they start
 pub record Going (e : List ℕ) (rows : List (List ℕ)) (k used₀ limit : ℕ) (now : List (List ℕ)) (used : ℕ) : Type 0 where
   pub low : used₀ ≤ used
   pub high : used ≤ limit
   pub later : Started e (k + 1) now
-  pub left : (ρ σ : Valuation) (r : ℕ) → Holds (stateCount e) rows ρ → Loop (Turn e k ρ) (first e k) σ r → Left (Turn e k ρ) (Beside e k ρ now) σ used (used₀ + r)
+  pub left : (ρ σ : Valuation) (r : ℕ) → HoldsRows (sizesOf e .states) rows ρ → Loop (Turn e k ρ) (first e k) σ r → Left (Turn e k ρ) (Beside e k ρ now) σ used (used₀ + r)
 
 -- no blocks: no change
-pub unchanged : {e : List ℕ} {rows : List (List ℕ)} {k used limit : ℕ} {work : List ℕ} → blockCount e ≤ k → used ≤ limit → length work ≡ cellCount e → ((i : ℕ) → getD work i 0 ≤ 1) →
+pub unchanged : {e : List ℕ} {rows : List (List ℕ)} {k used limit : ℕ} {work : List ℕ} → sizesOf e .blocks ≤ k → used ≤ limit → length work ≡ sizesOf e .cells → ((i : ℕ) → getD work i 0 ≤ 1) →
     Solving e rows k used limit work rows used stable
 unchanged {e} {rows} {k} h l room bits = record {
   room = room;
@@ -146,24 +143,24 @@ unchanged {e} {rows} {k} h l room bits = record {
   high = λ m. l;
   right = λ m ρ σ r holds s.
       let z = from-none e k h s in
-      (omega (arith, z .1), subst (Holds (stateCount e) rows) (sym (z .0)) holds);
+      (omega (arith, z .1), subst (HoldsRows (sizesOf e .states) rows) (sym (z .0)) holds);
 }
 
-pub begins : {e : List ℕ} {rows : List (List ℕ)} {k used limit : ℕ} → used ≤ limit → k < blockCount e → Started e k rows → Going e rows k used limit rows used
+pub begins : {e : List ℕ} {rows : List (List ℕ)} {k used limit : ℕ} → used ≤ limit → k < sizesOf e .blocks → Started e k rows → Going e rows k used limit rows used
 begins {e} {k = k} l b s = record {
   low = omega arith;
   high = l;
   later = record { row = λ j h. s .row j (omega arith) };
   left = λ ρ σ r holds run. record {
     now = first e k;
-    known = holds-bind holds k (first e k) (length-replicate (stateCount e) (blockAt e k .sign)) (s .row k (omega arith) b) (λ j n. refl);
+    known = holds-update holds k (first e k) (length-replicate (sizesOf e .states) (blockAt e k .sign)) (s .row k (omega arith) b) (λ j n. refl);
     rest = r;
     run = run;
     sum = refl;
   };
 }
 
-module _ {e : List ℕ} {sizes : Sizes} {rows now : List (List ℕ)} {k used₀ limit used : ℕ} (o : Opens e sizes) (b : k < sizes .blocks) (l : length rows ≡ blockLimit) (s : Started e k rows)
+module _ {e : List ℕ} {sizes : Sizes} {rows now : List (List ℕ)} {k used₀ limit used : ℕ} (o : OpenFile e sizes) (b : k < sizes .blocks) (l : length rows ≡ blockLimit) (s : Started e k rows)
     (g : Going e rows k used₀ limit now used) {work : List ℕ} {after : List (List ℕ)} {usedAfter status : ℕ} (t : Turned e now k used limit work after usedAfter status) where
   out-of-rounds : status ≡ spent → Solving e rows k used₀ limit work after usedAfter status
   out-of-rounds z = record {
@@ -172,7 +169,7 @@ module _ {e : List ℕ} {sizes : Sizes} {rows now : List (List ℕ)} {k used₀ 
     over = λ z ρ σ r h s.
         let m = g .left ρ σ r h (from-block e k ρ σ r (own-block o b) s) in
         let y = turn (m .run) in
-        omega (arith, t .over z (bind ρ k (m .now)) (y .held) (y .took) (m .known) (y .step .0), y .less, m .sum);
+        omega (arith, t .over z (update ρ k (m .now)) (y .held) (y .took) (m .known) (y .step .0), y .less, m .sum);
     low = λ m. absurd (m z);
     high = λ m. absurd (m z);
     right = λ m. absurd (m z);
@@ -189,8 +186,8 @@ module _ {e : List ℕ} {sizes : Sizes} {rows now : List (List ℕ)} {k used₀ 
       high = λ m. t .high go;
       right = λ m ρ σ r h s.
           let y = g .left ρ σ r h (from-block e k ρ σ r (own-block o b) s) in
-          let x = stops-here (λ τ w q f. t .same z (bind ρ k (y .now)) τ q w (y .known) (f .0) (f .1) ∙ bind-same ρ k (y .now)) (y .run) in
-          (omega (arith, t .counted go (bind ρ k (y .now)) σ (x .took) (y .known) (x .step .0), x .sum, y .sum), t .kept z (bind ρ k (y .now)) σ (x .took) (y .known) (x .step .0));
+          let x = stops-here (λ τ w q f. t .same z (update ρ k (y .now)) τ q w (y .known) (f .0) (f .1) ∙ update-same ρ k (y .now)) (y .run) in
+          (omega (arith, t .counted go (update ρ k (y .now)) σ (x .took) (y .known) (x .step .0), x .sum, y .sum), t .kept z (update ρ k (y .now)) σ (x .took) (y .known) (x .step .0));
     }
 
     -- it goes on from the set that was put in place, with the later blocks where they start
@@ -201,17 +198,17 @@ module _ {e : List ℕ} {sizes : Sizes} {rows now : List (List ℕ)} {k used₀ 
       later = record { row = λ j h d. getD-set-other rows k j (getD after k []) [] (λ q. omega arith) ∙ s .row j (omega arith) d };
       left = λ ρ σ r h run.
           let y = g .left ρ σ r h run in
-          let other : (τ : Valuation) (w : States) (q : ℕ) → Turn e k ρ (y .now) τ w q → (getD after k [] ≡ words wordCount w) × ¬ (w ≡ bind ρ k (y .now) k) =
-          λ τ w q f. t .differs go z (bind ρ k (y .now)) τ q w (y .known) (f .0) (f .1) in
-          let x = goes-further (λ τ w q f d. other τ w q f .1 (d ∙ sym (bind-same ρ k (y .now)))) (y .run) in
+          let other : (τ : Valuation) (w : States) (q : ℕ) → Turn e k ρ (y .now) τ w q → (getD after k [] ≡ words wordCount w) × ¬ (w ≡ update ρ k (y .now) k) =
+          λ τ w q f. t .differs go z (update ρ k (y .now)) τ q w (y .known) (f .0) (f .1) in
+          let x = goes-further (λ τ w q f d. other τ w q f .1 (d ∙ sym (update-same ρ k (y .now)))) (y .run) in
           record {
             now = x .next;
-            known = holds-bind h k (x .next) (sides-sized e k (o .formed) (own-block o b) (x .step .1))
+            known = holds-update h k (x .next) (sides-sized e k (o .formed) (own-block o b) (x .step .1))
                 (getD-set-same rows k (getD after k []) [] (rw l (few-blocks o b)) ∙ other (x .held) (x .next) (x .took) (x .step) .0)
                 (λ j n. getD-set-other rows k j (getD after k []) [] n);
             rest = x .rest;
             run = x .run;
-            sum = omega (arith, t .counted go (bind ρ k (y .now)) (x .held) (x .took) (y .known) (x .step .0), x .sum, y .sum);
+            sum = omega (arith, t .counted go (update ρ k (y .now)) (x .held) (x .took) (y .known) (x .step .0), x .sum, y .sum);
           };
     }
 

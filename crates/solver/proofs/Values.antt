@@ -9,12 +9,12 @@ use lib.Dec.{T, eqb, ltb, ltb→lt}
 use lib.ListN.{length, getD, take, drop, set, replicate, length-set, length-replicate, length-drop, List·getD-eq-default}
 use lib.Seq.{take-nil, length-take-le, getD-drop, getD-set-same, getD-set-other, ext-getD}
 use Rattle.sets.specs.Lists.{every}
-use Rattle.sets.specs.States.{States, has, Subset}
+use Rattle.sets.specs.States.{States, has, Subset, Valuation}
 use Rattle.sets.proofs.Lists.{Kept, kept-equal, kept-implies, all-kept, any-kept}
-use Rattle.solver.specs.Cells.{Cell, And, Or, Variable, operandsOf, value, Values, workOut, evaluate, part}
+use Rattle.solver.specs.Cells.{Cell, And, Or, Variable, operandsOf, value, Values, part}
+use Rattle.solver.specs.computed.Solved.{workOut, evaluate}
 use Rattle.solver.specs.internal.Forms.{Ordered}
-use Rattle.sets.specs.Valuation.{Valuation}
-use Rattle.solver.specs.Standard.{RightSides}
+use Rattle.solver.specs.Solution.{RightSides}
 
 -- A relation that and and or keep goes from the sets and the values above cell i to the value of cell i.
 module _ {R : Bool → Bool → Type 0} (kept : Kept R) (ρ σ : Valuation) (sets : (k s : ℕ) → R (has (ρ k) s) (has (σ k) s)) where

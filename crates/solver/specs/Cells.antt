@@ -2,11 +2,10 @@
 use mathlib.Core.Path.{_≡_}
 use mathlib.Core.Bool.{Bool, false}
 use mathlib.Core.List.{List, []}
-use Prim.Native.Nat.{ℕ, zero, suc, _<_}
-use lib.ListN.{length, getD, take, drop, set, replicate}
+use Prim.Native.Nat.{ℕ, _<_}
+use lib.ListN.{length, getD, take, drop}
 use Rattle.sets.specs.Lists.{every, forSome}
-use Rattle.sets.specs.States.{States, has}
-use Rattle.sets.specs.Valuation.{Valuation}
+use Rattle.sets.specs.States.{States, has, Valuation}
 
 -- A cell is an and or an or of the cells with the given numbers, or the variable of a block in a state.
 pub data Cell : Type 0 where
@@ -29,14 +28,6 @@ value ρ vs (Variable k s) = has (ρ k) s
 pub record Values (cs : List Cell) (ρ : Valuation) (vs : List Bool) : Type 0 where
   pub sized : length vs ≡ length cs
   pub rule : (i : ℕ) → i < length cs → getD vs i false ≡ value ρ vs (getD cs i (And []))
-
--- The same by a function that computes; the paper's are Values. They are worked out from the last cell down: the first i cells are still to do.
-unfoldable pub workOut : List Cell → Valuation → ℕ → List Bool → List Bool
-workOut cs ρ zero vs = vs
-workOut cs ρ (suc i) vs = workOut cs ρ i (set vs i (value ρ vs (getD cs i (And []))))
-
-unfoldable pub evaluate : List Cell → Valuation → List Bool
-evaluate cs ρ = workOut cs ρ (length cs) (replicate (length cs) false)
 
 -- the values of the n cells from b on
 abbrev pub part : ℕ → ℕ → List Bool → States

@@ -11,14 +11,12 @@ ghost use mathlib.Core.List.{[]};
 ghost use Prim.Native.Nat.{_<_, _≤_};
 ghost use lib.Dec.{eqb};
 ghost use lib.ListN.{getD};
-ghost use Rattle.sets.specs.Size.{stateLimit};
 ghost use Rattle.sets.specs.Lists.{forSome};
-ghost use Rattle.sets.specs.Words.{marked, bit};
-ghost use Rattle.solver.specs.Limits.{blockLimit};
-ghost use Rattle.sets.specs.Valuation.{Valuation};
+ghost use Rattle.sets.specs.Words.{marked, bit, stateLimit};
+ghost use Rattle.sets.specs.States.{Valuation};
 ghost use Rattle.solver.specs.Cells.{value};
-ghost use Rattle.solver.specs.File.{operands, listOf, entryCell};
-ghost use Rattle.solver.specs.internal.Working.{Ready, ListAt, Valued, Evaluated, Applied, truths};
+ghost use Rattle.solver.specs.File.{operands, listOf, entryCell, blockLimit};
+ghost use Rattle.solver.specs.internal.Working.{Ready, ListAt, Valued, CellsValued, Applied, truths};
 
 // Whether one of the operands from a place of the operand table on has the value wanted.
 fn finds(file: &[u8], sizes: Sizes, from: usize, count: usize, wanted: u8, work: &[u8]) -> bool
@@ -85,7 +83,7 @@ pub fn evaluate(
     work: &mut [u8],
 )
     requires { ⌜ Ready (now file) sizes (now work) × (from ≤ sizes .cells) ⌝ }
-    ensures { λ _. ⌜ Evaluated (now (file .entry)) sets from (now (work .exit)) ⌝ }
+    ensures { λ _. ⌜ CellsValued (now (file .entry)) sets from (now (work .exit)) ⌝ }
 {
     let mut i = sizes.cells;
     while from < i {

@@ -15,15 +15,14 @@ ghost use lib.Dec.{ltb};
 ghost use lib.ListN.{length};
 ghost use Rattle.sets.specs.Lists.{numbersFrom, every};
 ghost use Rattle.sets.specs.internal.Decides.{Decides};
-ghost use Rattle.solver.specs.File.{blockCount};
-ghost use Rattle.solver.specs.internal.Forms.{sizesOf};
+ghost use Rattle.solver.specs.File.{sizesOf, cellsAt, operandsAt, blocksAt};
 ghost use Rattle.solver.specs.Conditions.{layoutOk, blockOk, operandsBefore, operandsOk, tablesOk};
 ghost use Rattle.solver.specs.internal.Forms.{opened};
-ghost use Rattle.solver.specs.internal.Checks.{Counts, Places, Read, cellsFrom, operandsFrom, restOk, Spans};
+ghost use Rattle.solver.specs.internal.Checks.{SizesFit, Places, Read, restOk, Spans};
 
 // Whether each count is in its range, and the initial state is a state.
 fn counts_hold(sizes: Sizes) -> bool
-    ensures { λ r. ⌜ Decides (Counts sizes) r ⌝ }
+    ensures { λ r. ⌜ Decides (SizesFit sizes) r ⌝ }
 {
     if sizes.states < 1 || sets::STATES < sizes.states {
         return false;
@@ -42,23 +41,23 @@ fn counts_hold(sizes: Sizes) -> bool
 
 // Where the cells start.
 fn cells_from(sizes: Sizes) -> usize
-    requires { ⌜ Counts sizes ⌝ }
-    ensures { λ r. ⌜ r ≡ cellsFrom sizes ⌝ }
+    requires { ⌜ SizesFit sizes ⌝ }
+    ensures { λ r. ⌜ r ≡ cellsAt sizes ⌝ }
 {
     HEADER + 8 * sizes.blocks
 }
 
 // Where the operands start.
 fn operands_from(sizes: Sizes) -> usize
-    requires { ⌜ Counts sizes ⌝ }
-    ensures { λ r. ⌜ r ≡ operandsFrom sizes ⌝ }
+    requires { ⌜ SizesFit sizes ⌝ }
+    ensures { λ r. ⌜ r ≡ operandsAt sizes ⌝ }
 {
     cells_from(sizes) + 12 * sizes.cells
 }
 
 // Whether the version, the offsets and the length are right.
 fn places_hold(file: &[u8], sizes: Sizes) -> bool
-    requires { ⌜ 36 ≤ length (now file) ⌝ ∗ ⌜ Counts sizes ⌝ }
+    requires { ⌜ blocksAt ≤ length (now file) ⌝ ∗ ⌜ SizesFit sizes ⌝ }
     ensures { λ r. ⌜ Decides (Places (now (file .entry)) sizes) r ⌝ }
 {
     if number_at(file, 0) != 1 {
@@ -79,7 +78,7 @@ fn places_hold(file: &[u8], sizes: Sizes) -> bool
 
 // Whether condition 11 does not hold.
 fn layout_holds(file: &[u8], sizes: Sizes) -> bool
-    requires { ⌜ 36 ≤ length (now file) ⌝ ∗ ⌜ sizes ≡ sizesOf (now file) ⌝ }
+    requires { ⌜ blocksAt ≤ length (now file) ⌝ ∗ ⌜ sizes ≡ sizesOf (now file) ⌝ }
     ensures { λ r. ⌜ r ≡ layoutOk (now (file .entry)) ⌝ }
 {
     if counts_hold(sizes) {
@@ -103,7 +102,7 @@ fn block_holds(file: &[u8], sizes: Sizes, k: usize) -> bool
 // Whether every block keeps its rule.
 fn blocks_hold(file: &[u8], sizes: Sizes) -> bool
     requires { ⌜ Read (now file) sizes ⌝ }
-    ensures { λ r. ⌜ r ≡ every (blockOk (now (file .entry))) (numbersFrom 0 (blockCount (now (file .entry)))) ⌝ }
+    ensures { λ r. ⌜ r ≡ every (blockOk (now (file .entry))) (numbersFrom 0 (sizesOf (now (file .entry)) .blocks)) ⌝ }
 {
     let mut k = 0;
     while k < sizes.blocks {

@@ -4,8 +4,7 @@ use crate::Sizes;
 ghost use mathlib.Core.Path.{_≡_};
 ghost use Prim.Native.Nat.{_+_, _*_, _^_, _<_, _≤_};
 ghost use lib.ListN.{length};
-ghost use Rattle.solver.specs.File.{u32, cellsAt, operandsAt, entryAt};
-ghost use Rattle.solver.specs.internal.Forms.{sizesOf};
+ghost use Rattle.solver.specs.File.{u32, cellsAt, operandsAt, entryAt, sizesOf, blocksAt};
 
 // How many bytes stand before the first table.
 pub const HEADER: usize = 36;
@@ -29,7 +28,7 @@ pub fn number_at(file: &[u8], at: usize) -> usize
 
 // The counts in the header.
 pub fn sizes_of(file: &[u8]) -> Sizes
-    requires { ⌜ 36 ≤ length (now file) ⌝ }
+    requires { ⌜ blocksAt ≤ length (now file) ⌝ }
     ensures { λ r. ⌜ r ≡ sizesOf (now (file .entry)) ⌝ }
 {
     Sizes {
@@ -43,7 +42,7 @@ pub fn sizes_of(file: &[u8]) -> Sizes
 
 // The three numbers of cell i.
 pub fn entry_at(file: &[u8], sizes: Sizes, i: usize) -> Entry
-    requires { ⌜ (sizes ≡ sizesOf (now file)) × (cellsAt (now file) + 12 * i + 12 ≤ length (now file)) ⌝ }
+    requires { ⌜ (sizes ≡ sizesOf (now file)) × (cellsAt (sizesOf (now file)) + 12 * i + 12 ≤ length (now file)) ⌝ }
     ensures { λ r. ⌜ r ≡ entryAt (now (file .entry)) i ⌝ }
 {
     let at = HEADER + 8 * sizes.blocks + 12 * i;
@@ -56,8 +55,8 @@ pub fn entry_at(file: &[u8], sizes: Sizes, i: usize) -> Entry
 
 // The number at place j of the operand table.
 pub fn operand_at(file: &[u8], sizes: Sizes, j: usize) -> usize
-    requires { ⌜ (sizes ≡ sizesOf (now file)) × (operandsAt (now file) + 4 * j + 4 ≤ length (now file)) ⌝ }
-    ensures { λ r. ⌜ r ≡ u32 (now (file .entry)) (operandsAt (now (file .entry)) + 4 * j) ⌝ }
+    requires { ⌜ (sizes ≡ sizesOf (now file)) × (operandsAt (sizesOf (now file)) + 4 * j + 4 ≤ length (now file)) ⌝ }
+    ensures { λ r. ⌜ r ≡ u32 (now (file .entry)) (operandsAt (sizesOf (now (file .entry))) + 4 * j) ⌝ }
 {
     number_at(file, HEADER + 8 * sizes.blocks + 12 * sizes.cells + 4 * j)
 }

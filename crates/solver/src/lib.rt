@@ -5,12 +5,13 @@ mod file;
 mod rounds;
 
 use conditions::open_file;
+pub use file::HEADER;
 use sets::WORDS;
 ghost use mathlib.Core.Path.{_≡_};
 ghost use lib.ListN.{length, replicate};
-ghost use Rattle.solver.specs.File.{cellCount};
-ghost use Rattle.solver.specs.Outcome.{outcome, Answered};
-ghost use Rattle.solver.specs.internal.Working.{Opens, Ran};
+ghost use Rattle.solver.specs.File.{sizesOf};
+ghost use Rattle.solver.specs.Outcome.{solveAnswer, Answered};
+ghost use Rattle.solver.specs.internal.Working.{OpenFile, AllSolved};
 
 pub const BLOCKS: usize = 6;
 
@@ -19,7 +20,7 @@ pub const CELLS: usize = 65 * sets::STATES;
 pub const OPERANDS: usize = 133_120;
 
 // The length of the largest equation file.
-pub const LARGEST: usize = file::HEADER + 8 * BLOCKS + 12 * CELLS + 4 * OPERANDS;
+pub const LARGEST: usize = HEADER + 8 * BLOCKS + 12 * CELLS + 4 * OPERANDS;
 
 // The counts of an equation file, and its initial state.
 pub struct Sizes {
@@ -89,8 +90,8 @@ fn run(
     rounds: &mut u64,
     status: &mut u8,
 ) -> [u64; WORDS]
-    requires { ⌜ Opens (now file) sizes × (length (now work) ≡ cellCount (now file)) × (now rounds ≡ 0) ⌝ }
-    ensures { λ r. ⌜ Ran (now (file .entry)) limit (now (work .exit)) r (now (rounds .exit)) (now (status .exit)) ⌝ }
+    requires { ⌜ OpenFile (now file) sizes × (length (now work) ≡ sizesOf (now file) .cells) × (now rounds ≡ 0) ⌝ }
+    ensures { λ r. ⌜ AllSolved (now (file .entry)) limit (now (work .exit)) r (now (rounds .exit)) (now (status .exit)) ⌝ }
 {
     clear(work);
     let starts = rounds::starts(file, sizes);
@@ -113,8 +114,8 @@ fn run(
 
 // Solves a file whose conditions 11 and 12 do not hold.
 fn solve_opened(file: &[u8], sizes: Sizes, work: &mut [u8], marks: &mut [u64], limit: u64) -> Answer
-    requires { ⌜ Opens (now file) sizes ⌝ }
-    ensures { λ r. ⌜ Answered (now (file .entry)) (now (work .entry)) (now (marks .entry)) limit (outcome r) (now (work .exit)) (now (marks .exit)) ⌝ }
+    requires { ⌜ OpenFile (now file) sizes ⌝ }
+    ensures { λ r. ⌜ Answered (now (file .entry)) (now (work .entry)) (now (marks .entry)) limit (solveAnswer r) (now (work .exit)) (now (marks .exit)) ⌝ }
 {
     let c = sizes.cells;
     if work.len() < c {
@@ -141,7 +142,7 @@ fn solve_opened(file: &[u8], sizes: Sizes, work: &mut [u8], marks: &mut [u64], l
 
 // Solves an equation file. Is lent c working bytes, and the words of a set for the marks.
 pub fn solve(file: &[u8], work: &mut [u8], marks: &mut [u64], limit: u64) -> Answer
-    ensures { λ r. ⌜ Answered (now (file .entry)) (now (work .entry)) (now (marks .entry)) limit (outcome r) (now (work .exit)) (now (marks .exit)) ⌝ }
+    ensures { λ r. ⌜ Answered (now (file .entry)) (now (work .entry)) (now (marks .entry)) limit (solveAnswer r) (now (work .exit)) (now (marks .exit)) ⌝ }
 {
     match open_file(file) {
         Opened::File(sizes) => solve_opened(file, sizes, work, marks, limit),

@@ -7,11 +7,10 @@ use crate::file::number_at;
 use sets::WORDS;
 ghost use mathlib.Core.Path.{_≡_};
 ghost use Prim.Native.Nat.{_+_, _-_, _<_, _≤_};
-ghost use Rattle.sets.specs.Size.{wordCount};
 ghost use Rattle.sets.specs.States.{start};
-ghost use Rattle.sets.specs.Words.{words};
-ghost use Rattle.solver.specs.File.{stateCount, blockCount, blockAt};
-ghost use Rattle.solver.specs.internal.Working.{Opens, Ready, Holds, Started, Solving, Turned, starting};
+ghost use Rattle.sets.specs.Words.{words, wordCount};
+ghost use Rattle.solver.specs.File.{sizesOf, blockAt};
+ghost use Rattle.solver.specs.internal.Working.{OpenFile, Ready, HoldsRows, Started, Solving, Turned, starting};
 
 // How a round, or the solving of a block, ends.
 pub const REPLACED: u8 = 0;
@@ -22,16 +21,16 @@ pub const SPENT: u8 = 2;
 
 // Where block k starts: no state for mu, every state for nu.
 fn start_of(file: &[u8], sizes: Sizes, k: usize) -> [u64; WORDS]
-    requires { ⌜ Opens (now file) sizes × (k < sizes .blocks) ⌝ }
-    ensures { λ r. ⌜ r ≡ words wordCount (start (stateCount (now (file .entry))) (blockAt (now (file .entry)) k .sign)) ⌝ }
+    requires { ⌜ OpenFile (now file) sizes × (k < sizes .blocks) ⌝ }
+    ensures { λ r. ⌜ r ≡ words wordCount (start (sizesOf (now (file .entry)) .states) (blockAt (now (file .entry)) k .sign)) ⌝ }
 {
     sets::initial(sizes.states, number_at(file, HEADER + 8 * k) == 1)
 }
 
 // Where all blocks start.
 pub fn starts(file: &[u8], sizes: Sizes) -> [[u64; WORDS]; BLOCKS]
-    requires { ⌜ Opens (now file) sizes ⌝ }
-    ensures { λ r. ⌜ Holds (stateCount (now (file .entry))) r (starting (now (file .entry)) (blockCount (now (file .entry)))) ⌝ }
+    requires { ⌜ OpenFile (now file) sizes ⌝ }
+    ensures { λ r. ⌜ HoldsRows (sizesOf (now (file .entry)) .states) r (starting (now (file .entry)) (sizesOf (now (file .entry)) .blocks)) ⌝ }
 {
     let mut sets = [[0u64; WORDS]; BLOCKS];
     for k in 0..sizes.blocks {

@@ -10,11 +10,12 @@ use lib.ListN.{length, length-map, length-append}
 use Rattle.sets.specs.Lists.{every}
 use Rattle.sets.proofs.Lists.{and-left, and-right, length-table}
 use Rattle.cases.specs.Action.{Action}
-use Rattle.cases.specs.Formula.{Formula, False, True, And, Or, Box, Diamond, Variable, Fix, nodes, binders}
+use Rattle.cases.specs.Formula.{Formula, False, True, And, Or, Box, Diamond, Variable, Fix, nodes}
+use Rattle.cases.specs.internal.Scope.{binders}
 use Rattle.cases.specs.declared.Node.{Node}
 use Rattle.cases.specs.Prefix.{arityIn, formulaArities, actionAt, formulaAt}
-use Rattle.cases.specs.File.{stateCount, labelCount, initialState, transitionCount, nodeCount, actionCount, transitionTable, actionTable, formulaTable}
-use Rattle.cases.specs.File.{transitionPart, formulaPart, transitionIn, nodeIn}
+use Rattle.cases.specs.File.{headerOf, transitionTable, actionTable, formulaTable, transitionIn, nodeIn}
+use Rattle.cases.specs.internal.Checks.{transitionPart, formulaPart}
 use Rattle.cases.specs.Case.{caseOf}
 use Rattle.cases.specs.Conditions.{transitionOk, nodeAt, isBinder, badModel, blockTotal, tooDeep, Accepted}
 use Rattle.cases.specs.internal.Tables.{made, formulaOperator, FormulaTable}
@@ -32,22 +33,22 @@ use Rattle.translate.proofs.CaseFile.{Fit}
 
 -- the initial state is a state, and the transitions have states and labels
 pub model-holds : (b : List ℕ) → badModel b ≡ false
-    → (initialState b < stateCount b) × (every (transitionOk (stateCount b) (labelCount b)) (transitionTable b) ≡ true)
+    → (headerOf b .initial < headerOf b .states) × (every (transitionOk (headerOf b .states) (headerOf b .labels)) (transitionTable b) ≡ true)
 unfolding badModel
 model-holds b e =
-    let low : Bool = ltb (initialState b) (stateCount b) in
-    let oks : Bool = every (transitionOk (stateCount b) (labelCount b)) (transitionTable b) in
+    let low : Bool = ltb (headerOf b .initial) (headerOf b .states) in
+    let oks : Bool = every (transitionOk (headerOf b .states) (headerOf b .labels)) (transitionTable b) in
     let good : T (low && oks) = held (low && oks) (not-false (low && oks) e) in
-    (ltb→lt (initialState b) (stateCount b) (and-left low oks good), holds oks (and-right low oks good))
+    (ltb→lt (headerOf b .initial) (headerOf b .states) (and-left low oks good), holds oks (and-right low oks good))
 
 -- how long the tables are
-pub length-transitions : (b : List ℕ) → length (transitionTable b) ≡ transitionCount b
+pub length-transitions : (b : List ℕ) → length (transitionTable b) ≡ headerOf b .transitions
 unfolding transitionTable
-length-transitions b = length-table (transitionIn (transitionPart b)) (transitionCount b)
+length-transitions b = length-table (transitionIn (transitionPart b)) (headerOf b .transitions)
 
-pub length-formula : (b : List ℕ) → length (formulaTable b) ≡ nodeCount b
+pub length-formula : (b : List ℕ) → length (formulaTable b) ≡ headerOf b .nodes
 unfolding formulaTable
-length-formula b = length-table (nodeIn (formulaPart b)) (nodeCount b)
+length-formula b = length-table (nodeIn (formulaPart b)) (headerOf b .nodes)
 
 -- ---- the formula
 
@@ -113,7 +114,7 @@ fit b ok =
     let p : Passed b = passed b ok in
     let t : List Node = formulaTable b in
     let action : ℕ → Action = actionAt (actionTable b) in
-    let table : FormulaTable t = formula-table (actionCount b) t (p .formula) in
+    let table : FormulaTable t = formula-table (headerOf b .actions) t (p .formula) in
     let model = model-holds b (p .model) in
     record {
       states-low = p .lies .counts .some-state;

@@ -8,12 +8,11 @@ use native.Mathlib.Nat.{mul-le-mul}
 use lib.Dec.{T, eqb, ltb}
 use lib.ListN.{length}
 use Rattle.sets.specs.Lists.{every, forSome}
-use Rattle.sets.specs.Size.{stateLimit}
+use Rattle.sets.specs.Words.{stateLimit}
 use Rattle.sets.proofs.Lists.{and-right, all-mono}
-use Rattle.solver.specs.Limits.{blockLimit, cellLimit, operandLimit}
-use Rattle.solver.specs.File.{stateCount, blockCount, cellCount, operandCount, initialState, blocks, operands, cells}
+use Rattle.solver.specs.File.{sizesOf, blocks, operands, cells, blockLimit, cellLimit, operandLimit, blocksAt}
 use Rattle.solver.specs.Conditions.{WellFormed}
-use Rattle.cases.specs.Limits.{transitionLimit, nodeLimit}
+use Rattle.cases.specs.File.{transitionLimit, nodeLimit}
 use Rattle.cases.specs.Formula.{Formula, nodes}
 use Rattle.cases.specs.Case.{Case, distinct}
 use Rattle.cases.specs.Conditions.{transitionOk}
@@ -114,23 +113,23 @@ module _ (c : Case) (fit : Fit c) where
   }
 
   -- The file gives the equations back.
-  pub states-back : stateCount (fileOf c) ≡ c .states
+  pub states-back : sizesOf (fileOf c) .states ≡ c .states
   unfolding fileOf systemOf
   states-back = back.states-back (systemOf c) ready
 
-  pub initial-back : initialState (fileOf c) ≡ c .initial
+  pub initial-back : sizesOf (fileOf c) .initial ≡ c .initial
   unfolding fileOf systemOf
   initial-back = back.initial-back (systemOf c) ready
 
-  pub block-count-back : blockCount (fileOf c) ≡ length (systemOf c .blocks)
+  pub block-count-back : sizesOf (fileOf c) .blocks ≡ length (systemOf c .blocks)
   unfolding fileOf
   block-count-back = back.block-count-back (systemOf c) ready
 
-  pub cell-count-back : cellCount (fileOf c) ≡ length (systemOf c .cells)
+  pub cell-count-back : sizesOf (fileOf c) .cells ≡ length (systemOf c .cells)
   unfolding fileOf
   cell-count-back = back.cell-count-back (systemOf c) ready
 
-  pub operand-count-back : operandCount (fileOf c) ≡ length (allOperands (systemOf c .cells))
+  pub operand-count-back : sizesOf (fileOf c) .operands ≡ length (allOperands (systemOf c .cells))
   unfolding fileOf
   operand-count-back = back.operand-count-back (systemOf c) ready
 
@@ -148,7 +147,7 @@ module _ (c : Case) (fit : Fit c) where
 
   -- its length
   pub length-file : length (fileOf c)
-      ≡ 36 + 8 * length (systemOf c .blocks) + 12 * length (systemOf c .cells) + 4 * length (allOperands (systemOf c .cells))
+      ≡ blocksAt + 8 * length (systemOf c .blocks) + 12 * length (systemOf c .cells) + 4 * length (allOperands (systemOf c .cells))
   unfolding fileOf
   length-file = back.length-file (systemOf c)
 

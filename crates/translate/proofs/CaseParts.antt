@@ -7,9 +7,8 @@ use lib.Dec.{ltb}
 use lib.ListN.{length, take, drop}
 use borrow.Author.Tests.{ltb-true, ltb-false}
 use borrow.Rule.Slice.PartAt.{part-to-end}
-use Rattle.cases.specs.Limits.{transitionLimit}
 use Rattle.cases.specs.declared.Header.{Header}
-use Rattle.cases.specs.File.{stateCount, initialState, transitionCount, nodeCount, headerOf}
+use Rattle.cases.specs.File.{headerOf, transitionLimit}
 use Rattle.cases.specs.Case.{caseOf}
 use Rattle.cases.specs.Conditions.{nodeAt, isBinder, Accepted}
 use Rattle.cases.specs.internal.Checks.{nodesIn}
@@ -21,14 +20,14 @@ use Rattle.translate.specs.Bytes.{System, systemOf, fileOf}
 use Rattle.translate.specs.internal.Parts.{distinctIn}
 use Rattle.translate.specs.internal.Tabled.{FirstFlags, Tables, HoldsShapes}
 use Rattle.translate.specs.internal.Sources.{Sources, shapeSystem, Emitted}
-use Rattle.translate.specs.Translating.{file, Translated}
+use Rattle.translate.specs.Translating.{file, translateNumber, writtenNumber, writtenLength, Translated}
 use Rattle.translate.proofs.CaseSources as of-case
 use Rattle.translate.proofs.Translations.{too-short, file-written}
 
 -- the equations of an accepted case, written or not
 module _ (b before : List ℕ) (accepted : Accepted b) {w : Written} {after : List ℕ} (emitted : Emitted (systemOf (caseOf b)) before w after) where
-  ends-by : (r : Bool) → ltb (length before) (length (file b)) ≡ r → Translated b before w after
-  unfolding fileOf
+  ends-by : (r : Bool) → ltb (length before) (length (file b)) ≡ r → Translated b before (writtenNumber w) (writtenLength w) after
+  unfolding fileOf writtenNumber writtenLength translateNumber
   ends-by true e =
       let is : w ≡ Refused Memory = emitted .answer ∙ ap (λ (x : Bool). cond x (Refused Memory) (File (length (file b)))) e in
       let same : after ≡ before = emitted .written ∙ ap (λ (x : Bool). cond x before (file b ++ drop (length (file b)) before)) e in
@@ -39,7 +38,7 @@ module _ (b before : List ℕ) (accepted : Accepted b) {w : Written} {after : Li
       (file-written b before accepted (length (file b)) refl (ltb-false (length before) (length (file b)) e)
       (emitted .written ∙ ap (λ (x : Bool). cond x before (file b ++ drop (length (file b)) before)) e))
 
-  pub ends-translated : Translated b before w after
+  pub ends-translated : Translated b before (writtenNumber w) (writtenLength w) after
   ends-translated = ends-by (ltb (length before) (length (file b))) refl
 
 -- the part of the file that starts at an offset
@@ -84,22 +83,22 @@ module _ (b : List ℕ) (accepted : Accepted b) where
 
   module _ (first : List ℕ) (shapes : List Shape) (added : ℕ) where
     sources-header : Held b first shapes added (headerOf b)
-        → Sources (from b (headerOf b .«transitions_at»)) first (transitionCount b) shapes (added + nodeCount b) (stateCount b)
+        → Sources (from b (headerOf b .«transitions_at»)) first (headerOf b .transitions) shapes (added + headerOf b .nodes) (headerOf b .states)
     sources-header held =
         let one = part-to-end b (headerOf b .«transitions_at») in
         let two = part-to-end b (headerOf b .«actions_at») in
         let three = part-to-end b (headerOf b .«formula_at») in
-        rw one (of-case.sources b accepted first shapes (added + nodeCount b) (rw one at (held .flags)) (rw (two, three) at (held .nodes))
-        (ap (λ (x : ℕ). x + nodeCount b) (rw three at (held .before))))
+        rw one (of-case.sources b accepted first shapes (added + headerOf b .nodes) (rw one at (held .flags)) (rw (two, three) at (held .nodes))
+        (ap (λ (x : ℕ). x + headerOf b .nodes) (rw three at (held .before))))
 
     system-header : Held b first shapes added (headerOf b)
-        → shapeSystem (stateCount b) (initialState b) (distinctIn (from b (headerOf b .«transitions_at»)) first (transitionCount b)) (take (added + nodeCount b) shapes) ≡ systemOf (caseOf b)
+        → shapeSystem (headerOf b .states) (headerOf b .initial) (distinctIn (from b (headerOf b .«transitions_at»)) first (headerOf b .transitions)) (take (added + headerOf b .nodes) shapes) ≡ systemOf (caseOf b)
     system-header held =
         let one = part-to-end b (headerOf b .«transitions_at») in
         let two = part-to-end b (headerOf b .«actions_at») in
         let three = part-to-end b (headerOf b .«formula_at») in
-        rw one (of-case.system-of b accepted first shapes (added + nodeCount b) (rw one at (held .flags)) (rw (two, three) at (held .nodes))
-        (ap (λ (x : ℕ). x + nodeCount b) (rw three at (held .before))))
+        rw one (of-case.system-of b accepted first shapes (added + headerOf b .nodes) (rw one at (held .flags)) (rw (two, three) at (held .nodes))
+        (ap (λ (x : ℕ). x + headerOf b .nodes) (rw three at (held .before))))
 
     module _ {h : Header} (e : h ≡ headerOf b) (held : Held b first shapes added h) where
       -- what the writers are handed
@@ -111,7 +110,7 @@ module _ (b : List ℕ) (accepted : Accepted b) where
       -- what follows from what they leave
       pub left-as : {before : List ℕ} {w : Written} {after : List ℕ}
           → Emitted (shapeSystem (h .states) (h .initial) (distinctIn (from b (h .«transitions_at»)) first (h .transitions)) (take (added + h .nodes) shapes)) before w after
-          → Translated b before w after
+          → Translated b before (writtenNumber w) (writtenLength w) after
       left-as {before} {w} {after} emitted =
           let is : shapeSystem (h .states) (h .initial) (distinctIn (from b (h .«transitions_at»)) first (h .transitions)) (take (added + h .nodes) shapes) ≡ systemOf (caseOf b) =
           subst (λ (x : Header). shapeSystem (x .states) (x .initial) (distinctIn (from b (x .«transitions_at»)) first (x .transitions)) (take (added + x .nodes) shapes) ≡ systemOf (caseOf b)) (sym e)

@@ -10,17 +10,15 @@ use lib.ListN.{length, getD, take, length-map}
 use lib.Seq.{getD-take}
 use Rattle.sets.specs.Lists.{numbersFrom, every}
 use Rattle.sets.proofs.Lists.{false-true, and-left, and-right, all-at, all-mono, length-table, table-at}
-use Rattle.cases.specs.Limits.{labelLimit, transitionLimit, nodeLimit}
 use Rattle.cases.specs.Action.{Action}
 use Rattle.cases.specs.Formula.{Formula}
 use Rattle.cases.specs.declared.Node.{Node}
 use Rattle.cases.specs.declared.Transition.{Transition}
 use Rattle.cases.specs.Prefix.{arityIn, formulaArities, exactly, endOf, actionAt, formulaAt}
-use Rattle.cases.specs.File.{stateCount, labelCount, initialState, transitionCount, actionCount, nodeCount, transitionPart, actionPart, formulaPart, headerOf}
-use Rattle.cases.specs.File.{transitionTable, actionTable, formulaTable}
+use Rattle.cases.specs.File.{headerOf, labelLimit, transitionLimit, nodeLimit, transitionTable, actionTable, formulaTable}
 use Rattle.cases.specs.Case.{caseOf, distinct}
 use Rattle.cases.specs.Conditions.{transitionOk, nodeAt, nodeOk, isBinder, badFormula, Accepted}
-use Rattle.cases.specs.internal.Checks.{transitionsIn, nodesIn}
+use Rattle.cases.specs.internal.Checks.{transitionsIn, nodesIn, transitionPart, actionPart, formulaPart}
 use Rattle.cases.specs.internal.Tables.{FormulaTable}
 use Rattle.cases.proofs.Spans.{exactly-whole, second-node}
 use Rattle.cases.proofs.Trees.{arity-at}
@@ -126,10 +124,10 @@ module _ (b : List ℕ) (accepted : Accepted b) where
   table = formulaTable b
 
   formed : FormulaTable table
-  formed = formula-table (actionCount b) table (good .formula)
+  formed = formula-table (headerOf b .actions) table (good .formula)
 
   -- an accepted case has tables that can be read
-  pub tables : Tables (actionPart b) (actionCount b) (formulaPart b) (nodeCount b)
+  pub tables : Tables (actionPart b) (headerOf b .actions) (formulaPart b) (headerOf b .nodes)
   unfolding actionTable formulaTable nodesIn
   tables = record {
     action-part = actions-inside (good .lies);
@@ -142,12 +140,12 @@ module _ (b : List ℕ) (accepted : Accepted b) where
     };
     modal = λ i h m.
         let inside : i < length table = omega (arith, length-formula b) in
-        modal-inside (actionCount b) (nodeAt table i .arg) (nodeAt table i .kind) (formed .kinds i inside) m
-        (nodes-pass (actionCount b) table (good .formula) i inside);
+        modal-inside (headerOf b .actions) (nodeAt table i .arg) (nodeAt table i .kind) (formed .kinds i inside) m
+        (nodes-pass (headerOf b .actions) table (good .formula) i inside);
   }
 
   -- its parts and counts are within their limits
-  pub parts : (6 * transitionCount b ≤ length (transitionPart b)) × (transitionCount b ≤ transitionLimit) × (1 ≤ nodeCount b)
+  pub parts : (6 * headerOf b .transitions ≤ length (transitionPart b)) × (headerOf b .transitions ≤ transitionLimit) × (1 ≤ headerOf b .nodes)
       × (headerOf b .«transitions_at» ≤ length b) × (headerOf b .«actions_at» ≤ length b) × (headerOf b .«formula_at» ≤ length b)
   parts =
       let l = good .lies in
@@ -175,8 +173,8 @@ module _ (b : List ℕ) (accepted : Accepted b) where
   -- each label of a distinct transition has a bit in a mask
   labels-low : T (every (λ t. ltb (t .label) labelLimit) transitions)
   labels-low =
-      let n : ℕ = stateCount b in
-      let l : ℕ = labelCount b in
+      let n : ℕ = headerOf b .states in
+      let l : ℕ = headerOf b .labels in
       all-distinct (λ t. ltb (t .label) labelLimit) (transitionTable b)
       (all-mono (transitionOk n l) (λ t. ltb (t .label) labelLimit)
       (λ t h.
@@ -194,23 +192,23 @@ module _ (b : List ℕ) (accepted : Accepted b) where
       (omega (arith, known .before), known .binder))
 
   -- the equations of the formula's shapes are the case's
-  system-of-shapes : shapeSystem (stateCount b) (initialState b) transitions (shapesFrom (blockIn formula) formula 0) ≡ systemOf (caseOf b)
+  system-of-shapes : shapeSystem (headerOf b .states) (headerOf b .initial) transitions (shapesFrom (blockIn formula) formula 0) ≡ systemOf (caseOf b)
   unfolding shapeSystem systemOf caseOf
   system-of-shapes =
-      let n : ℕ = stateCount b in
+      let n : ℕ = headerOf b .states in
       rw (
         shape-blocks n (blockIn formula) formula 0,
         shape-cells n transitions (blockIn formula) (shape-cell n transitions labels-low (blockIn formula)) formula 0,
       )
 
   -- flags and shapes that were read from the tables
-  module _ (first : List ℕ) (shapes : List Shape) (k : ℕ) (flags : FirstFlags (transitionPart b) (transitionCount b) first)
-      (holds-shapes : HoldsShapes (actionPart b) (actionCount b) (formulaPart b) (nodeCount b) shapes)
-      (count : k ≡ cond (isBinder (nodeAt (nodesIn (formulaPart b) (nodeCount b)) 0)) 0 1 + nodeCount b) where
+  module _ (first : List ℕ) (shapes : List Shape) (k : ℕ) (flags : FirstFlags (transitionPart b) (headerOf b .transitions) first)
+      (holds-shapes : HoldsShapes (actionPart b) (headerOf b .actions) (formulaPart b) (headerOf b .nodes) shapes)
+      (count : k ≡ cond (isBinder (nodeAt (nodesIn (formulaPart b) (headerOf b .nodes)) 0)) 0 1 + headerOf b .nodes) where
     -- the flagged transitions are the distinct ones
-    transitions-same : distinctIn (transitionPart b) first (transitionCount b) ≡ transitions
+    transitions-same : distinctIn (transitionPart b) first (headerOf b .transitions) ≡ transitions
     unfolding distinctIn transitionTable transitionsIn
-    transitions-same = flagged-distinct (transitionPart b) (transitionCount b) first flags
+    transitions-same = flagged-distinct (transitionPart b) (headerOf b .transitions) first flags
 
     -- there are k shapes
     shape-count : k ≡ length (tableShapes action table)
@@ -223,7 +221,7 @@ module _ (b : List ℕ) (accepted : Accepted b) where
     shapes-taken = rw shape-count (holds-shapes .starts)
 
     -- The equations of the shapes are the case's.
-    pub system-of : shapeSystem (stateCount b) (initialState b) (distinctIn (transitionPart b) first (transitionCount b)) (take k shapes) ≡ systemOf (caseOf b)
+    pub system-of : shapeSystem (headerOf b .states) (headerOf b .initial) (distinctIn (transitionPart b) first (headerOf b .transitions)) (take k shapes) ≡ systemOf (caseOf b)
     system-of = rw (transitions-same, shapes-taken, ← shapes-of-table) system-of-shapes
 
     -- a shape of the array is one of the table
@@ -235,11 +233,11 @@ module _ (b : List ℕ) (accepted : Accepted b) where
         rw same (shapes-fine action table formed few i inside)
 
     -- The writers are handed what they ask.
-    pub sources : Sources (transitionPart b) first (transitionCount b) shapes k (stateCount b)
+    pub sources : Sources (transitionPart b) first (headerOf b .transitions) shapes k (headerOf b .states)
     unfolding shapeSystem
     sources =
         let l = good .lies in
-        let few : k ≤ nodeLimit + 1 = omega (arith, count, l .counts .few-nodes, added-small (isBinder (nodeAt (nodesIn (formulaPart b) (nodeCount b)) 0))) in
+        let few : k ≤ nodeLimit + 1 = omega (arith, count, l .counts .few-nodes, added-small (isBinder (nodeAt (nodesIn (formulaPart b) (headerOf b .nodes)) 0))) in
         let operands = ap (λ (y : System). length (allOperands (y .cells))) system-of in
         record {
           recorded = record { records = parts .0; flags = omega (arith, flags .long, parts .1) };

@@ -10,7 +10,7 @@ use borrow.Author.Tests.{eqb-true, ne-eqb}
 use Rattle.sets.specs.Lists.{numbersFrom}
 use Rattle.sets.proofs.Lists.{length-range}
 use Rattle.solver.specs.Cells.{Cell, operandsOf}
-use Rattle.cases.specs.Limits.{transitionLimit}
+use Rattle.cases.specs.File.{transitionLimit}
 use Rattle.cases.specs.Action.{Action, accepts}
 use Rattle.cases.specs.Formula.{Formula, False, True, And, Or, Box, Diamond, Variable, Fix, nodes}
 use Rattle.cases.specs.declared.Transition.{Transition}

@@ -13,16 +13,13 @@ use lib.Seq.{getD-append-add, append-snoc, getD-append-seam, take-append-seam}
 use Rattle.sets.specs.Lists.{numbersFrom, every}
 use Rattle.sets.proofs.Lists.{and-left, and-right, and-both, all-at}
 use Rattle.solver.specs.File.{Block}
-use Rattle.cases.specs.Formula.{Formula, False, True, And, Or, Box, Diamond, Variable, Fix, nodes}
+use Rattle.cases.specs.Formula.{Formula, False, True, And, Or, Box, Diamond, Variable, Fix, nodes, subformulas, Stands}
 use Rattle.cases.specs.declared.Transition.{Transition}
-use Rattle.cases.specs.Case.{keep, copies, copiesBefore, sameTransition, transitionAt, distinct}
+use Rattle.cases.specs.Case.{keep, copies, copiesBefore, sameTransition, transitionAt, distinct, fresh}
 use Rattle.translate.specs.Whole.{raise, bindsFirst, whole, binderNodes, indexIn, blockIn}
-use Rattle.translate.specs.Nodes.{subformulas, Stands}
-use Rattle.translate.specs.Copies.{fresh}
 use Rattle.translate.specs.Tables.{Constant, RHS, Equation, E}
-use Rattle.translate.specs.Plain.{Plain, Unfolding}
+use Rattle.translate.specs.Unfolding.{Plain, Unfolding, Agree}
 use Rattle.translate.specs.Cells.{cellsFrom, blocksFrom}
-use Rattle.translate.specs.Equations.{Agree}
 use Rattle.translate.proofs.Unfold.{length-subformulas, by-parts, fix-operand, length-cells, unfolded-RHS}
 
 -- n states, the distinct transitions, the block of each binder, and what stands for an element past the end of a list

@@ -15,8 +15,8 @@ use Rattle.translate.specs.declared.Written.the-variants.{File, Refused}
 use Rattle.translate.specs.Bytes.{System, allOperands, blockNumbers, cellNumbers, numbers, bytes}
 use Rattle.translate.specs.internal.Shapes.{shapeBlocks, shapeCells}
 use Rattle.translate.specs.internal.Parts.{Wrote, WroteAt, WroteAll, WroteCells, distinctIn}
-use Rattle.solver.specs.Limits.{cellLimit}
-use Rattle.translate.specs.internal.Sources.{Sources, Sized, shapeSystem, Emitted}
+use Rattle.solver.specs.File.{cellLimit, blocksAt}
+use Rattle.translate.specs.internal.Sources.{Sources, RoomFor, shapeSystem, Emitted}
 use Rattle.translate.proofs.NumberBytes.{length-bytes, length-blockNumbers, length-cellNumbers}
 use Rattle.translate.proofs.Putting.{wrote-lent, wrote-more}
 use Rattle.translate.proofs.ReadBack.{length-file}
@@ -24,12 +24,12 @@ use Rattle.translate.proofs.NodeParts.{length-cells-to}
 
 -- the header of a file of some equations
 abbrev header : ℕ → ℕ → ℕ → ℕ → ℕ → List ℕ
-header n d c p initial = 1 ∷ n ∷ d ∷ c ∷ p ∷ initial ∷ 36 ∷ (36 + 8 * d) ∷ (36 + 8 * d + 12 * c) ∷ []
+header n d c p initial = 1 ∷ n ∷ d ∷ c ∷ p ∷ initial ∷ blocksAt ∷ (blocksAt + 8 * d) ∷ (blocksAt + 8 * d + 12 * c) ∷ []
 
 -- header, blocks, cells and operands, each written into the part that starts where the one before ends
-module _ (y : System) {c d p room : ℕ} (sized : Sized y c d p room) where
-  pub filled : {s t u v w : List ℕ} → Wrote (header (y .states) d c p (y .initial)) s t → WroteAt 36 (blockNumbers (y .blocks)) t u
-      → WroteAt (36 + 8 * d) (cellNumbers 0 (y .cells)) u v → WroteAt (36 + 8 * d + 12 * c) (allOperands (y .cells)) v w → Wrote (numbers y) s w
+module _ (y : System) {c d p room : ℕ} (sized : RoomFor y c d p room) where
+  pub filled : {s t u v w : List ℕ} → Wrote (header (y .states) d c p (y .initial)) s t → WroteAt blocksAt (blockNumbers (y .blocks)) t u
+      → WroteAt (blocksAt + 8 * d) (cellNumbers 0 (y .cells)) u v → WroteAt (blocksAt + 8 * d + 12 * c) (allOperands (y .cells)) v w → Wrote (numbers y) s w
   unfolding numbers
   filled {s} {t} {u} {v} {w} a b e f =
       let h : List ℕ = header (y .states) d c p (y .initial) in
@@ -45,16 +45,16 @@ module _ (y : System) {c d p room : ℕ} (sized : Sized y c d p room) where
       (subst (λ (l : List ℕ). Wrote l s w) (append-assoc (h ++ x) z o ∙ append-assoc h x (z ++ o)) four)
 
   -- the file's length
-  pub file-length : length (bytes (numbers y)) ≡ 36 + 8 * d + 12 * c + 4 * p
+  pub file-length : length (bytes (numbers y)) ≡ blocksAt + 8 * d + 12 * c + 4 * p
   file-length = rw (sized .blocks, sized .cells, sized .operands) (length-file y)
 
   -- there is no room for the file, or it is written
-  pub short : {s t : List ℕ} → length s < 36 + 8 * d + 12 * c + 4 * p → t ≡ s → Emitted y s (Refused Memory) t
+  pub short : {s t : List ℕ} → length s < blocksAt + 8 * d + 12 * c + 4 * p → t ≡ s → Emitted y s (Refused Memory) t
   short {s} h e =
       let no : ltb (length s) (length (bytes (numbers y))) ≡ true = lt-ltb (length s) (length (bytes (numbers y))) (rw file-length h) in
       record { answer = rw no; written = e ∙ rw no }
 
-  pub done : {s t : List ℕ} → 36 + 8 * d + 12 * c + 4 * p ≤ length s → Wrote (numbers y) s t → Emitted y s (File (36 + 8 * d + 12 * c + 4 * p)) t
+  pub done : {s t : List ℕ} → blocksAt + 8 * d + 12 * c + 4 * p ≤ length s → Wrote (numbers y) s t → Emitted y s (File (blocksAt + 8 * d + 12 * c + 4 * p)) t
   done {s} {t} h w =
       let yes : ltb (length s) (length (bytes (numbers y))) ≡ false = le-ltb (length s) (length (bytes (numbers y))) (rw file-length h) in
       record { answer = rw (yes, file-length); written = w .exact ∙ rw (yes, length-bytes (numbers y)) }
@@ -70,7 +70,7 @@ module _ {part first : List ℕ} {m : ℕ} {shapes : List Shape} {k n : ℕ} (sr
 
   -- counted sizes are those of the equations
   pub sizes : (initial : ℕ) {d p room : ℕ} → d ≡ length (shapeBlocks n 0 (take k shapes)) → d ≤ k → p ≡ length (allOperands (shapeCells n ts 0 (take k shapes)))
-      → 36 + 8 * d + 12 * (k * n) + 4 * p ≤ room → Sized (shapeSystem n initial ts (take k shapes)) (k * n) d p room
+      → blocksAt + 8 * d + 12 * (k * n) + 4 * p ≤ room → RoomFor (shapeSystem n initial ts (take k shapes)) (k * n) d p room
   unfolding shapeSystem
   sizes initial b l o r = record {
     blocks = b;
@@ -82,10 +82,10 @@ module _ {part first : List ℕ} {m : ℕ} {shapes : List Shape} {k n : ℕ} (sr
 
   -- in a buffer that has just room
   pub sizes-just : (initial : ℕ) {d p : ℕ} → d ≡ length (shapeBlocks n 0 (take k shapes)) → d ≤ k → p ≡ length (allOperands (shapeCells n ts 0 (take k shapes)))
-      → Sized (shapeSystem n initial ts (take k shapes)) (k * n) d p (36 + 8 * d + 12 * (k * n) + 4 * p)
+      → RoomFor (shapeSystem n initial ts (take k shapes)) (k * n) d p (blocksAt + 8 * d + 12 * (k * n) + 4 * p)
   sizes-just initial b l o = sizes initial b l o (omega arith)
 
-  module _ (initial : ℕ) {d p room : ℕ} (sized : Sized (shapeSystem n initial ts (take k shapes)) (k * n) d p room) where
+  module _ (initial : ℕ) {d p room : ℕ} (sized : RoomFor (shapeSystem n initial ts (take k shapes)) (k * n) d p room) where
     pub blocks-are : d ≡ length (shapeBlocks n 0 (take k shapes))
     unfolding shapeSystem
     blocks-are = sized .blocks
@@ -96,14 +96,14 @@ module _ {part first : List ℕ} {m : ℕ} {shapes : List Shape} {k n : ℕ} (sr
 
     -- the parts of the file, written into the parts of a buffer
     pub filled-parts : {s t a b e : List ℕ} → Wrote (header n d (k * n) p initial) s t
-        → {q : ℕ} → WroteAll (blockNumbers (shapeBlocks n 0 (take k shapes))) (take (length t - 36) (drop 36 t)) a q
-        → {u : List ℕ} → u ≡ take 36 t ++ (a ++ drop (length t - 36) (drop 36 t))
-        → {used : ℕ} → WroteCells 0 (shapeCells n ts 0 (take k shapes)) (take (length u - (36 + 8 * d)) (drop (36 + 8 * d) u)) b used
-        → {v : List ℕ} → v ≡ take (36 + 8 * d) u ++ (b ++ drop (length u - (36 + 8 * d)) (drop (36 + 8 * d) u))
-        → {count : ℕ} → WroteAll (allOperands (shapeCells n ts 0 (take k shapes))) (take (length v - (36 + 8 * d + 12 * (k * n))) (drop (36 + 8 * d + 12 * (k * n)) v)) e count
+        → {q : ℕ} → WroteAll (blockNumbers (shapeBlocks n 0 (take k shapes))) (take (length t - blocksAt) (drop blocksAt t)) a q
+        → {u : List ℕ} → u ≡ take blocksAt t ++ (a ++ drop (length t - blocksAt) (drop blocksAt t))
+        → {used : ℕ} → WroteCells 0 (shapeCells n ts 0 (take k shapes)) (take (length u - (blocksAt + 8 * d)) (drop (blocksAt + 8 * d) u)) b used
+        → {v : List ℕ} → v ≡ take (blocksAt + 8 * d) u ++ (b ++ drop (length u - (blocksAt + 8 * d)) (drop (blocksAt + 8 * d) u))
+        → {count : ℕ} → WroteAll (allOperands (shapeCells n ts 0 (take k shapes))) (take (length v - (blocksAt + 8 * d + 12 * (k * n))) (drop (blocksAt + 8 * d + 12 * (k * n)) v)) e count
         → Wrote (numbers (shapeSystem n initial ts (take k shapes))) s
-        (take (36 + 8 * d + 12 * (k * n)) v ++ (e ++ drop (length v - (36 + 8 * d + 12 * (k * n))) (drop (36 + 8 * d + 12 * (k * n)) v)))
+        (take (blocksAt + 8 * d + 12 * (k * n)) v ++ (e ++ drop (length v - (blocksAt + 8 * d + 12 * (k * n))) (drop (blocksAt + 8 * d + 12 * (k * n)) v)))
     unfolding shapeSystem
     filled-parts {t = t} h w {u} x y {v} z o =
-        filled (shapeSystem n initial ts (take k shapes)) sized h (subst (WroteAt 36 _ t) (sym x) (wrote-lent 36 (w .wrote)))
-        (subst (WroteAt (36 + 8 * d) _ u) (sym z) (wrote-lent (36 + 8 * d) (y .wrote))) (wrote-lent (36 + 8 * d + 12 * (k * n)) (o .wrote))
+        filled (shapeSystem n initial ts (take k shapes)) sized h (subst (WroteAt blocksAt _ t) (sym x) (wrote-lent blocksAt (w .wrote)))
+        (subst (WroteAt (blocksAt + 8 * d) _ u) (sym z) (wrote-lent (blocksAt + 8 * d) (y .wrote))) (wrote-lent (blocksAt + 8 * d + 12 * (k * n)) (o .wrote))

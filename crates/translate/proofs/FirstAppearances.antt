@@ -13,8 +13,7 @@ use Rattle.sets.specs.Lists.{numbersFrom}
 use Rattle.sets.specs.Words.{bit}
 use Rattle.sets.proofs.Lists.{length-table, table-at}
 use Rattle.solver.proofs.Shown.{bit-back}
-use Rattle.cases.specs.Limits.{transitionLimit}
-use Rattle.cases.specs.File.{transitionIn}
+use Rattle.cases.specs.File.{transitionIn, transitionLimit}
 use Rattle.cases.specs.Case.{keep, distinct, copiesBefore, transitionAt}
 use Rattle.cases.specs.internal.Checks.{transitionsIn}
 use Rattle.cases.proofs.Copies.{copies-any}

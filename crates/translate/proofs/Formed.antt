@@ -9,13 +9,11 @@ use borrow.Author.Tests.{lt-ltb, le-leb, eq-eqb}
 use lib.Dec.{T, eqb, ltb, leb, ltb→lt, leb→le, le→leb, eqb-refl}
 use lib.ListN.{length, getD, drop, length-append}
 use Rattle.sets.specs.Lists.{numbersFrom, every}
-use Rattle.sets.specs.Size.{stateLimit}
+use Rattle.sets.specs.Words.{stateLimit}
 use Rattle.sets.proofs.Lists.{and-both, all-at, all-mono}
 use Rattle.solver.specs.declared.Entry.{Entry}
-use Rattle.solver.specs.Limits.{blockLimit, cellLimit, operandLimit}
 use Rattle.solver.specs.Cells.{Cell, And, Or, Variable, operandsOf}
-use Rattle.solver.specs.File.{u32, stateCount, blockCount, cellCount, operandCount, initialState, blocksAt, cellsAt, operandsAt}
-use Rattle.solver.specs.File.{Block, blockAt, blocks, operands, entryAt, entries, cells}
+use Rattle.solver.specs.File.{u32, sizesOf, blocksAt, cellsAt, operandsAt, blockLimit, cellLimit, operandLimit, Block, blockAt, operands, entryAt, entries, cells}
 use Rattle.solver.specs.Conditions.{layoutOk, blockOk, arity, operandsBefore, operandOk, cellOk, tablesOk, WellFormed}
 use Rattle.translate.specs.Bytes.{System, allOperands, numbers, bytes}
 use Rattle.solver.proofs.Tables.{entries-from, before-next}
@@ -36,27 +34,27 @@ module _ (y : System) (ready : Ready y) where
   layout-ok : layoutOk e ≡ true
   unfolding layoutOk every
   layout-ok =
-      let n-is : stateCount e ≡ y .states = back.states-back y ready in
-      let d-is : blockCount e ≡ length (y .blocks) = back.block-count-back y ready in
-      let c-is : cellCount e ≡ length (y .cells) = back.cell-count-back y ready in
-      let p-is : operandCount e ≡ length (allOperands (y .cells)) = back.operand-count-back y ready in
-      let long : length e ≡ operandsAt e + 4 * operandCount e = omega (arith, back.length-file y) in
+      let n-is : sizesOf e .states ≡ y .states = back.states-back y ready in
+      let d-is : sizesOf e .blocks ≡ length (y .blocks) = back.block-count-back y ready in
+      let c-is : sizesOf e .cells ≡ length (y .cells) = back.cell-count-back y ready in
+      let p-is : sizesOf e .operands ≡ length (allOperands (y .cells)) = back.operand-count-back y ready in
+      let long : length e ≡ operandsAt (sizesOf e) + 4 * sizesOf e .operands = omega (arith, back.length-file y) in
       rw (
-        le-leb 36 (length e) (omega arith),
+        le-leb blocksAt (length e) (omega arith),
         eq-eqb (u32 e 0) 1 (back.version-back y ready),
-        le-leb 1 (stateCount e) (omega (arith, ready .states-low)),
-        le-leb (stateCount e) stateLimit (omega (arith, ready .states-high)),
-        le-leb 1 (blockCount e) (omega (arith, ready .blocks-low)),
-        le-leb (blockCount e) blockLimit (omega (arith, ready .blocks-high)),
-        le-leb 1 (cellCount e) (omega (arith, ready .cells-low)),
-        le-leb (cellCount e) cellLimit (omega (arith, ready .cells-high)),
-        le-leb 0 (operandCount e) (omega arith),
-        le-leb (operandCount e) operandLimit (omega (arith, ready .operands-high)),
-        lt-ltb (initialState e) (stateCount e) (omega (arith, back.initial-back y ready, ready .initial-low)),
+        le-leb 1 (sizesOf e .states) (omega (arith, ready .states-low)),
+        le-leb (sizesOf e .states) stateLimit (omega (arith, ready .states-high)),
+        le-leb 1 (sizesOf e .blocks) (omega (arith, ready .blocks-low)),
+        le-leb (sizesOf e .blocks) blockLimit (omega (arith, ready .blocks-high)),
+        le-leb 1 (sizesOf e .cells) (omega (arith, ready .cells-low)),
+        le-leb (sizesOf e .cells) cellLimit (omega (arith, ready .cells-high)),
+        le-leb 0 (sizesOf e .operands) (omega arith),
+        le-leb (sizesOf e .operands) operandLimit (omega (arith, ready .operands-high)),
+        lt-ltb (sizesOf e .initial) (sizesOf e .states) (omega (arith, back.initial-back y ready, ready .initial-low)),
         eq-eqb (u32 e 24) blocksAt (back.blocks-start y ready),
-        eq-eqb (u32 e 28) (cellsAt e) (omega (arith, back.cells-start y ready)),
-        eq-eqb (u32 e 32) (operandsAt e) (omega (arith, back.operands-start y ready)),
-        eq-eqb (length e) (operandsAt e + 4 * operandCount e) long,
+        eq-eqb (u32 e 28) (cellsAt (sizesOf e)) (omega (arith, back.cells-start y ready)),
+        eq-eqb (u32 e 32) (operandsAt (sizesOf e)) (omega (arith, back.operands-start y ready)),
+        eq-eqb (length e) (operandsAt (sizesOf e) + 4 * sizesOf e .operands) long,
       )
       refl
 
@@ -68,22 +66,22 @@ module _ (y : System) (ready : Ready y) where
       let room : getD (y .blocks) k b .first + y .states ≤ length (y .cells) =
       leb→le _ _ (all-at (roomy (y .states) (length (y .cells))) (y .blocks) k b h (ready .roomy-blocks)) in
       let sign : u32 e (blocksAt + 8 * k) ≤ 1 = omega (arith, back.sign-back y ready k b h, bit-low (getD (y .blocks) k b .sign)) in
-      let first : u32 e (blocksAt + 8 * k + 4) + stateCount e ≤ cellCount e =
+      let first : u32 e (blocksAt + 8 * k + 4) + sizesOf e .states ≤ sizesOf e .cells =
       omega (arith, back.first-back y ready k b h, back.states-back y ready, back.cell-count-back y ready) in
-      and-both (leb (u32 e (blocksAt + 8 * k)) 1) (leb (u32 e (blocksAt + 8 * k + 4) + stateCount e) (cellCount e)) (le→leb _ _ sign) (le→leb _ _ first)
+      and-both (leb (u32 e (blocksAt + 8 * k)) 1) (leb (u32 e (blocksAt + 8 * k + 4) + sizesOf e .states) (sizesOf e .cells)) (le→leb _ _ sign) (le→leb _ _ first)
 
-  blocks-ok : T (every (blockOk e) (numbersFrom 0 (blockCount e)))
+  blocks-ok : T (every (blockOk e) (numbersFrom 0 (sizesOf e .blocks)))
   blocks-ok =
-      all-mono (λ k. ltb k (blockCount e)) (blockOk e) (λ k t. block-ok k (below k (ltb→lt k (blockCount e) t)))
-      (numbersFrom 0 (blockCount e)) (range-below 0 (blockCount e) (blockCount e) (omega arith))
+      all-mono (λ k. ltb k (sizesOf e .blocks)) (blockOk e) (λ k t. block-ok k (below k (ltb→lt k (sizesOf e .blocks) t)))
+      (numbersFrom 0 (sizesOf e .blocks)) (range-below 0 (sizesOf e .blocks) (sizesOf e .blocks) (omega arith))
     where
-      below : (k : ℕ) → k < blockCount e → k < length (y .blocks)
+      below : (k : ℕ) → k < sizesOf e .blocks → k < length (y .blocks)
       below k h = omega (arith, back.block-count-back y ready)
 
   -- ---- the cells
 
   -- cell i has the numbers x, those of the cells after it are xs, and the lists before it have `used` operands
-  module _ (i used : ℕ) (x : Entry) (xs : List Entry) (own : i < cellCount e) (before : operandsBefore e i ≡ used) (here : drop i (entries e) ≡ x ∷ xs) where
+  module _ (i used : ℕ) (x : Entry) (xs : List Entry) (own : i < sizesOf e .cells) (before : operandsBefore e i ≡ used) (here : drop i (entries e) ≡ x ∷ xs) where
     is : x ≡ entryAt e i
     is = let s = entries-from e i own in cc
 
@@ -95,7 +93,7 @@ module _ (y : System) (ready : Ready y) where
 
   -- The cells cs from i on keep their rules, and the lists of all cells fill the table.
   abbrev Good : ℕ → ℕ → List Cell → Type 0
-  Good i used cs = T (every (cellOk e) (numbersFrom i (length cs))) × (operandsBefore e (cellCount e) ≡ used + length (allOperands cs))
+  Good i used cs = T (every (cellOk e) (numbersFrom i (length cs))) × (operandsBefore e (sizesOf e .cells) ≡ used + length (allOperands cs))
 
   -- one cell more
   cell-more : (i used past : ℕ) (x : Cell) (cs : List Cell) → past ≡ used + length (operandsOf x) → T (cellOk e i) → Good (i + 1) past cs → Good i used (x ∷ cs)
@@ -106,7 +104,7 @@ module _ (y : System) (ready : Ready y) where
   )
 
   -- a list that starts where the lists before it end
-  list-good : (i used kind : ℕ) (os : List ℕ) (c : Cell) (cs : List Cell) → kind ≤ 1 → operandsOf c ≡ os → i < cellCount e → operandsBefore e i ≡ used
+  list-good : (i used kind : ℕ) (os : List ℕ) (c : Cell) (cs : List Cell) → kind ≤ 1 → operandsOf c ≡ os → i < sizesOf e .cells → operandsBefore e i ≡ used
       → drop i (entries e) ≡ record { kind = kind; one = used; two = length os } ∷ entriesOf (used + length os) cs
       → drop used (operands e) ≡ os ++ allOperands cs → T (every (operandOk e i) os)
       → (operandsBefore e (i + 1) ≡ used + length os → drop (i + 1) (entries e) ≡ entriesOf (used + length os) cs
@@ -120,10 +118,10 @@ module _ (y : System) (ready : Ready y) where
       (others (next i used x xs own b h ∙ ap (λ (k : ℕ). used + k) (arity-list x low)) (after i used x xs own b h) (list-rest (operands e) used os (allOperands cs) o))
 
   cells-good : (i used : ℕ) (cs : List Cell) → operandsBefore e i ≡ used → drop i (entries e) ≡ entriesOf used cs → drop used (operands e) ≡ allOperands cs
-      → i + length cs ≡ cellCount e → T (rulesOk (stateCount e) (blockCount e) (cellCount e) i cs) → Good i used cs
+      → i + length cs ≡ sizesOf e .cells → T (rulesOk (sizesOf e .states) (sizesOf e .blocks) (sizesOf e .cells) i cs) → Good i used cs
   unfolding every numbersFrom entriesOf ruleOk arity allOperands operandsOf
   cells-good i used [] b h o l t =
-      let all : cellCount e ≡ i = omega arith in
+      let all : sizesOf e .cells ≡ i = omega arith in
       let same : used ≡ used + 0 = omega arith in
       (tt, ap (operandsBefore e) all ∙ b ∙ same)
   cells-good i used (And os ∷ cs) b h o l t =
@@ -135,7 +133,7 @@ module _ (y : System) (ready : Ready y) where
   cells-good i used (Variable k s ∷ cs) b h o l t =
       let x : Entry = record { kind = 2; one = k; two = s } in
       let xs = entriesOf used cs in
-      let own : i < cellCount e = omega arith in
+      let own : i < sizesOf e .cells = omega arith in
       let none : used ≡ used + 0 = omega arith in
       cell-more i used used (Variable k s) cs none
       (rw (cell-variable e i (is i used x xs own b h) refl) (rule-first _ _ _ i (Variable k s) cs t))
@@ -152,8 +150,8 @@ module _ (y : System) (ready : Ready y) where
   ready-formed = record {
     layout = layout-ok;
     tables =
-        let full : operandsBefore e (cellCount e) ≡ operandCount e = omega (arith, all-good .1, back.operand-count-back y ready) in
-        holds _ (and-both (every (blockOk e) (numbersFrom 0 (blockCount e)) && every (cellOk e) (numbersFrom 0 (cellCount e))) _
-        (and-both (every (blockOk e) (numbersFrom 0 (blockCount e))) _ blocks-ok (rw (back.cell-count-back y ready) (all-good .0)))
+        let full : operandsBefore e (sizesOf e .cells) ≡ sizesOf e .operands = omega (arith, all-good .1, back.operand-count-back y ready) in
+        holds _ (and-both (every (blockOk e) (numbersFrom 0 (sizesOf e .blocks)) && every (cellOk e) (numbersFrom 0 (sizesOf e .cells))) _
+        (and-both (every (blockOk e) (numbersFrom 0 (sizesOf e .blocks))) _ blocks-ok (rw (back.cell-count-back y ready) (all-good .0)))
         (rw (eq-eqb _ _ full) tt));
   }

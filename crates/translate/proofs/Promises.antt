@@ -1,6 +1,6 @@
 -- The promises of the translator, of whatever keeps its contract, Translated of specs/Translating.antt: b is the case file, any list of bytes,
--- w what is answered, before and after the bytes of the buffer.
-use mathlib.Core.Path.{_≡_, sym, ap, _∙_}
+-- number and long are the refusal number and the length answered, before and after the bytes of the buffer.
+use mathlib.Core.Path.{_≡_, refl, sym, ap, _∙_}
 use mathlib.Core.Logic.{_↔_, _⊎_, inl, inr, by-cases}
 use mathlib.Core.Bool.{true}
 use mathlib.Core.List.{List, [], _∷_, _++_, map-append, List·Memᴰ}
@@ -10,25 +10,21 @@ use lib.ListN.{length, getD, drop}
 use Rattle.sets.specs.Lists.{every}
 use Rattle.sets.specs.Refusals.{numbersOf, NoneHolds, FirstHolds}
 use Rattle.sets.proofs.Refusals.{refusing, member, first-holds, first-answered, none-first}
-use Rattle.solver.specs.Limits.{cellLimit, operandLimit}
-use Rattle.solver.specs.File.{Block, stateCount, blockCount, cellCount, operandCount, initialState, blocks, cells, operands}
+use Rattle.solver.specs.File.{Block, sizesOf, blocks, cells, operands, cellLimit, operandLimit, blocksAt}
 use Rattle.solver.specs.Conditions.{WellFormed}
 use Rattle.cases.specs.Action.{Action}
-use Rattle.cases.specs.Formula.{Formula}
+use Rattle.cases.specs.Formula.{Formula, Stands}
 use Rattle.cases.specs.declared.Transition.{Transition}
-use Rattle.cases.specs.Case.{caseOf, copies, keep, distinct}
+use Rattle.cases.specs.Case.{caseOf, copies, keep, distinct, fresh}
 use Rattle.cases.specs.Meaning.{from}
 use Rattle.cases.specs.Conditions.{layoutConditions, modelConditions, formulaConditions, caseConditions, caseRefusal, Accepted}
 use Rattle.cases.proofs.TableTrees.{formula-table}
 use Rattle.translate.specs.declared.Written.{Written}
 use Rattle.translate.specs.declared.Written.the-variants.{File, Refused}
 use Rattle.translate.specs.Whole.{binderNodes, formulaOf, blockOf, stepsOf}
-use Rattle.translate.specs.Nodes.{Stands}
-use Rattle.translate.specs.Copies.{fresh}
 use Rattle.translate.specs.Tables.{RHS, Equation}
 use Rattle.translate.specs.Cells.{targets, cellsFrom}
-use Rattle.translate.specs.Plain.{Plain, plain, Unfolding}
-use Rattle.translate.specs.Equations.{equationsOf, Agree}
+use Rattle.translate.specs.Unfolding.{Plain, plain, Unfolding, equationsOf, Agree}
 use Rattle.translate.specs.Bytes.{systemOf, allOperands}
 use Rattle.translate.specs.Translating.{file, translateConditions, translateRefusal, writtenNumber, writtenLength, fileAfter, Translated}
 use Rattle.translate.proofs.Unfold.{sides, cells-RHS, unfolding-one, cells-ordered, cells-inside, unfolded-RHS}
@@ -43,57 +39,55 @@ use Rattle.translate.proofs.AcceptedCases.{fit}
 
 -- ---- the answer
 
--- an answer with no number is a file
-written : (w : Written) {k : ℕ} → writtenNumber w ≡ 0 → writtenLength w ≡ k → w ≡ File k
+-- An answer with no number is a file, of the length answered.
+pub is-file : (w : Written) → writtenNumber w ≡ 0 → w ≡ File (writtenLength w)
 unfolding writtenNumber writtenLength
-written (File j) z e = ap File e
-written (Refused cause) z e = absurd (some-number cause z)
+is-file (File k) z = refl
+is-file (Refused cause) z = absurd (some-number cause z)
 
 -- Of what translate answers and leaves:
-module _ {b before after : List ℕ} {w : Written} (t : Translated b before w after) where
-  -- The refusal number is the first condition's that holds, 0 if none does.
-  pub answers : writtenNumber w ≡ translateRefusal b (length before)
-  answers = t .number
-
-  -- After a refusal nothing changed.
-  pub refused-unchanged : ¬ (writtenNumber w ≡ 0) → after ≡ before
+module _ {b before after : List ℕ} {number long : ℕ} (t : Translated b before number long after) where
+  -- After a refusal nothing changed, and no length is answered.
+  pub refused-unchanged : ¬ (number ≡ 0) → (after ≡ before) × (long ≡ 0)
   unfolding fileAfter
-  refused-unchanged h = t .bytes ∙ refusing (translateRefusal b (length before)) _ before (λ z. h (answers ∙ z))
+  refused-unchanged h =
+      let some : ¬ (translateRefusal b (length before) ≡ 0) = λ z. h (t .answers ∙ z) in
+      (t .bytes ∙ refusing _ _ before some, t .long-is ∙ refusing _ _ 0 some)
 
   -- Otherwise the file stands at the start, all beyond it is unchanged, and its length is answered.
-  pub writes : writtenNumber w ≡ 0 → (after ≡ file b ++ drop (length (file b)) before) × (w ≡ File (length (file b)))
+  pub writes : number ≡ 0 → (after ≡ file b ++ drop (length (file b)) before) × (long ≡ length (file b))
   unfolding fileAfter
-  writes z = let none : translateRefusal b (length before) ≡ 0 = sym answers ∙ z in (t .bytes ∙ rw none, written w z (t .size ∙ rw none))
+  writes z = let none : translateRefusal b (length before) ≡ 0 = sym (t .answers) ∙ z in (t .bytes ∙ rw none, t .long-is ∙ rw none)
 
   -- A file is written exactly if the case is accepted and there is room for its file.
-  pub written-when : writtenNumber w ≡ 0 ↔ Accepted b × (length (file b) ≤ length before)
-  written-when = rw answers (unrefused b (length before))
+  pub written-when : number ≡ 0 ↔ Accepted b × (length (file b) ≤ length before)
+  written-when = rw (t .answers) (unrefused b (length before))
 
   -- The number is 13 exactly if the case is accepted and there is no room.
-  pub too-short-when : writtenNumber w ≡ 13 ↔ Accepted b × (length before < length (file b))
-  too-short-when = rw answers (lacks-room b (length before))
+  pub too-short-when : number ≡ 13 ↔ Accepted b × (length before < length (file b))
+  too-short-when = rw (t .answers) (lacks-room b (length before))
 
   -- A case that is not accepted is refused with its own number, whatever the room.
-  pub refused-when : ¬ Accepted b → writtenNumber w ≡ caseRefusal b
-  refused-when d = answers ∙ own-number b (length before) d
+  pub refused-when : ¬ Accepted b → number ≡ caseRefusal b
+  refused-when d = t .answers ∙ own-number b (length before) d
 
   -- The number is that of a condition, or there is none.
-  pub one-number : (writtenNumber w ≡ 0) ⊎ List·Memᴰ (writtenNumber w) (numbersOf (translateConditions b (length before)))
+  pub one-number : (number ≡ 0) ⊎ List·Memᴰ number (numbersOf (translateConditions b (length before)))
   unfolding translateRefusal
-  one-number = by-cases (ℕ-discrete (writtenNumber w) 0) inl (λ d. inr (rw answers (member (translateConditions b (length before)) (rw answers at d))))
+  one-number = by-cases (ℕ-discrete number 0) inl (λ d. inr (rw (t .answers) (member (translateConditions b (length before)) (rw (t .answers) at d))))
 
   -- That condition holds, and none before it.
-  pub first-condition : (k : ℕ) → ¬ (k ≡ 0) → writtenNumber w ≡ k ↔ FirstHolds (translateConditions b (length before)) k
+  pub first-condition : (k : ℕ) → ¬ (k ≡ 0) → number ≡ k ↔ FirstHolds (translateConditions b (length before)) k
   unfolding translateRefusal
   first-condition k d = (
-    λ h. let z = sym answers ∙ h in rw z at (first-holds (translateConditions b (length before)) (λ y. d (sym z ∙ y))),
-    λ f. answers ∙ first-answered (translateConditions b (length before)) k f,
+    λ h. let z = sym (t .answers) ∙ h in rw z at (first-holds (translateConditions b (length before)) (λ y. d (sym z ∙ y))),
+    λ f. t .answers ∙ first-answered (translateConditions b (length before)) k f,
   )
 
   -- Where a file is written none holds.
-  pub no-condition : writtenNumber w ≡ 0 ↔ NoneHolds (translateConditions b (length before))
+  pub no-condition : number ≡ 0 ↔ NoneHolds (translateConditions b (length before))
   unfolding translateRefusal translateConditions caseConditions layoutConditions modelConditions formulaConditions every
-  no-condition = rw answers (none-first (translateConditions b (length before)) tt)
+  no-condition = rw (t .answers) (none-first (translateConditions b (length before)) tt)
 
 -- ---- transitions
 
@@ -119,9 +113,9 @@ module _ (b : List ℕ) (accepted : Accepted b) where
   well-formed = of.formed (caseOf b) (fit b accepted)
 
   -- Read back it has the same states, initial state, blocks, cells and operands, and as many of them.
-  pub read-back : (stateCount (file b) ≡ caseOf b .states) × (initialState (file b) ≡ caseOf b .initial)
-      × (blockCount (file b) ≡ length (systemOf (caseOf b) .blocks)) × (cellCount (file b) ≡ length (systemOf (caseOf b) .cells))
-      × (operandCount (file b) ≡ length (allOperands (systemOf (caseOf b) .cells)))
+  pub read-back : (sizesOf (file b) .states ≡ caseOf b .states) × (sizesOf (file b) .initial ≡ caseOf b .initial)
+      × (sizesOf (file b) .blocks ≡ length (systemOf (caseOf b) .blocks)) × (sizesOf (file b) .cells ≡ length (systemOf (caseOf b) .cells))
+      × (sizesOf (file b) .operands ≡ length (allOperands (systemOf (caseOf b) .cells)))
       × (blocks (file b) ≡ systemOf (caseOf b) .blocks) × (cells (file b) ≡ systemOf (caseOf b) .cells)
       × (operands (file b) ≡ allOperands (systemOf (caseOf b) .cells))
   read-back =
@@ -139,7 +133,7 @@ module _ (b : List ℕ) (accepted : Accepted b) where
 
   -- Its length is 36 + 8d + 12c + 4p, with c and p within the limits.
   pub file-length : length (file b)
-      ≡ 36 + 8 * length (systemOf (caseOf b) .blocks) + 12 * length (systemOf (caseOf b) .cells) + 4 * length (allOperands (systemOf (caseOf b) .cells))
+      ≡ blocksAt + 8 * length (systemOf (caseOf b) .blocks) + 12 * length (systemOf (caseOf b) .cells) + 4 * length (allOperands (systemOf (caseOf b) .cells))
   file-length = of.length-file (caseOf b) (fit b accepted)
 
   pub within-limits : (length (systemOf (caseOf b) .cells) ≤ cellLimit) × (length (allOperands (systemOf (caseOf b) .cells)) ≤ operandLimit)

@@ -9,14 +9,11 @@ use lib.Dec.{T, ltb, ltb→lt, leb→le}
 use lib.ListN.{length, getD, take, drop, length-append, List·getD-append}
 use lib.Seq.{ext-getD, getD-append-add, take-append-seam, drop-append-seam, drop-drop}
 use Rattle.sets.specs.Lists.{numbersFrom, every}
-use Rattle.sets.specs.Size.{stateLimit}
-use Rattle.sets.specs.Words.{bit}
+use Rattle.sets.specs.Words.{bit, stateLimit}
 use Rattle.sets.proofs.Lists.{and-left, and-right, length-map-range, getD-map-range}
 use Rattle.solver.specs.declared.Entry.{Entry}
-use Rattle.solver.specs.Limits.{blockLimit, cellLimit, operandLimit}
 use Rattle.solver.specs.Cells.{Cell, And, Or, Variable, operandsOf}
-use Rattle.solver.specs.File.{u32, stateCount, blockCount, cellCount, operandCount, initialState, blocksAt, cellsAt, operandsAt}
-use Rattle.solver.specs.File.{Block, blockAt, blocks, operands, entryAt, entries, listOf, entryCell, cells}
+use Rattle.solver.specs.File.{u32, sizesOf, blocksAt, cellsAt, operandsAt, blockLimit, cellLimit, operandLimit, Block, blockAt, blocks, operands, entryAt, entries, listOf, entryCell, cells}
 use Rattle.solver.proofs.Shown.{bit-low, bit-back}
 use Rattle.translate.specs.Bytes.{System, allOperands, blockNumbers, cellNumbers, numbers, bytes}
 use Rattle.translate.proofs.NumberBytes.{Fits, none, more, fits-append, length-bytes, length-blockNumbers, length-cellNumbers, number-at}
@@ -225,23 +222,23 @@ module _ (y : System) where
     unfolding numbers
     version-back = word 0 0 refl (omega arith)
 
-    pub states-back : stateCount e ≡ y .states
+    pub states-back : sizesOf e .states ≡ y .states
     unfolding numbers
     states-back = word 4 1 refl (omega arith)
 
-    pub block-count-back : blockCount e ≡ d
+    pub block-count-back : sizesOf e .blocks ≡ d
     unfolding numbers
     block-count-back = word 8 2 refl (omega arith)
 
-    pub cell-count-back : cellCount e ≡ c
+    pub cell-count-back : sizesOf e .cells ≡ c
     unfolding numbers
     cell-count-back = word 12 3 refl (omega arith)
 
-    pub operand-count-back : operandCount e ≡ p
+    pub operand-count-back : sizesOf e .operands ≡ p
     unfolding numbers
     operand-count-back = word 16 4 refl (omega arith)
 
-    pub initial-back : initialState e ≡ y .initial
+    pub initial-back : sizesOf e .initial ≡ y .initial
     unfolding numbers
     initial-back = word 20 5 refl (omega arith)
 
@@ -294,12 +291,12 @@ module _ (y : System) where
     block-word : (at j : ℕ) → at ≡ 36 + 4 * j → j < 2 * d → u32 e at ≡ getD ofBlocks j 0
     block-word at j h g = word at (9 + j) (omega arith) (omega arith) ∙ number-of-block j g
 
-    cell-word : (at j : ℕ) → at ≡ cellsAt e + 4 * j → j < 3 * c → u32 e at ≡ getD ofCells j 0
+    cell-word : (at j : ℕ) → at ≡ cellsAt (sizesOf e) + 4 * j → j < 3 * c → u32 e at ≡ getD ofCells j 0
     cell-word at j h g = word at (9 + (2 * d + j)) (omega (arith, block-count-back)) (omega arith) ∙ number-of-cell j g
 
-    operand-word : (j : ℕ) → j < p → u32 e (operandsAt e + 4 * j) ≡ getD ofLists j 0
+    operand-word : (j : ℕ) → j < p → u32 e (operandsAt (sizesOf e) + 4 * j) ≡ getD ofLists j 0
     operand-word j g =
-        word (operandsAt e + 4 * j) (9 + (2 * d + (3 * c + j))) (omega (arith, block-count-back, cell-count-back)) (omega arith) ∙ number-of-operand j
+        word (operandsAt (sizesOf e) + 4 * j) (9 + (2 * d + (3 * c + j))) (omega (arith, block-count-back, cell-count-back)) (omega arith) ∙ number-of-operand j
 
     -- a block's two numbers
     pub sign-back : (k : ℕ) (b : Block) → k < d → u32 e (blocksAt + 8 * k) ≡ bit (getD (y .blocks) k b .sign)
@@ -319,8 +316,8 @@ module _ (y : System) where
     pub operands-back : operands e ≡ allOperands (y .cells)
     unfolding operands
     operands-back =
-        ap (λ (k : ℕ). map (λ j. u32 e (operandsAt e + 4 * j)) (numbersFrom 0 k)) operand-count-back
-        ∙ table-is 0 (λ j. u32 e (operandsAt e + 4 * j)) (allOperands (y .cells)) operand-word
+        ap (λ (k : ℕ). map (λ j. u32 e (operandsAt (sizesOf e) + 4 * j)) (numbersFrom 0 k)) operand-count-back
+        ∙ table-is 0 (λ j. u32 e (operandsAt (sizesOf e) + 4 * j)) (allOperands (y .cells)) operand-word
 
     pub entries-back : entries e ≡ entriesOf 0 (y .cells)
     unfolding entries
@@ -332,9 +329,9 @@ module _ (y : System) where
         at : (i : ℕ) → i < c → entryAt e i ≡ getD (entriesOf 0 (y .cells)) i (entryAt e 0)
         at i h =
             rw (
-              cell-word (cellsAt e + 12 * i) (3 * i) (omega arith) (omega arith),
-              cell-word (cellsAt e + 12 * i + 4) (3 * i + 1) (omega arith) (omega arith),
-              cell-word (cellsAt e + 12 * i + 8) (3 * i + 2) (omega arith) (omega arith),
+              cell-word (cellsAt (sizesOf e) + 12 * i) (3 * i) (omega arith) (omega arith),
+              cell-word (cellsAt (sizesOf e) + 12 * i + 4) (3 * i + 1) (omega arith) (omega arith),
+              cell-word (cellsAt (sizesOf e) + 12 * i + 8) (3 * i + 2) (omega arith) (omega arith),
             )
             (entry-back 0 (y .cells) i (entryAt e 0) h)
 

@@ -10,11 +10,10 @@ use lib.ListN.{length, take, drop, set, replicate, length-append, length-replica
 use lib.Seq.{take-suc-set}
 use Rattle.sets.specs.Lists.{numbersFrom}
 use Rattle.sets.proofs.Lists.{length-table}
-use Rattle.cases.specs.Limits.{nodeLimit}
 use Rattle.cases.specs.Action.{Action}
 use Rattle.cases.specs.declared.Node.{Node}
 use Rattle.cases.specs.Prefix.{arityIn, formulaArities, endOf}
-use Rattle.cases.specs.File.{nodeIn}
+use Rattle.cases.specs.File.{nodeIn, nodeLimit}
 use Rattle.cases.specs.internal.Masks.{maskOf}
 use Rattle.cases.specs.Conditions.{nodeAt, isBinder, binderCount}
 use Rattle.cases.specs.internal.Checks.{nodesIn}
@@ -24,7 +23,7 @@ use Rattle.cases.proofs.Spans.{span-length}
 use Rattle.cases.proofs.PrefixRules.{node-in}
 use Rattle.translate.specs.declared.Shape.{Shape}
 use Rattle.translate.specs.internal.Shapes.{shapeIn, tableShapes}
-use Rattle.translate.specs.internal.Tabled.{Blocks, Tables}
+use Rattle.translate.specs.internal.Tabled.{CountableBlocks, Tables}
 use Rattle.translate.proofs.ShapeLaws.{map-range-more}
 
 -- the first j nodes of a part's f nodes
@@ -44,7 +43,7 @@ module _ (part : List ℕ) (f i : ℕ) (h : i < f) (x : Node) (e : x ≡ nodeIn 
   node-read = node-in part f i (record { kind = 0; arg = 0 }) h ∙ sym e
 
   -- a variable's argument, and that of a box or diamond
-  pub variable-arg : Blocks part f → x .kind ≡ 6 → x .arg ≤ f
+  pub variable-arg : CountableBlocks part f → x .kind ≡ 6 → x .arg ≤ f
   variable-arg t = rw node-read at (t .variable i h)
 
   pub modal-arg : (actions : List ℕ) (a : ℕ) → Tables actions a part f → (b : Bool) → b ≡ (eqb (x .kind) 4 || eqb (x .kind) 5) → b ≡ true → x .arg < a

@@ -16,14 +16,13 @@ use Rattle.sets.specs.Words.{fromBits, words, marked, bit}
 use Rattle.sets.proofs.Lists.{and-left, and-right, length-table, table-at}
 use Rattle.sets.proofs.Words.{marked-words}
 use Rattle.solver.specs.Cells.{Cell, operandsOf}
-use Rattle.cases.specs.Limits.{labelLimit}
 use Rattle.cases.specs.Action.{Action, accepts}
 use Rattle.cases.specs.Formula.{Formula, False, True, And, Or, Box, Diamond, Variable, Fix}
 use Rattle.cases.specs.declared.Transition.{Transition}
 use Rattle.cases.specs.internal.Masks.{maskOf}
 use Rattle.cases.specs.Case.{keep}
 use Rattle.cases.specs.Meaning.{from}
-use Rattle.cases.specs.File.{transitionIn}
+use Rattle.cases.specs.File.{transitionIn, labelLimit}
 use Rattle.translate.specs.Bytes.{allOperands, cellNumbers}
 use Rattle.translate.specs.Cells.{targets, cellOf}
 use Rattle.translate.specs.declared.Shape.{Shape}

@@ -9,13 +9,10 @@ use borrow.Author.Tests.{lt-ltb, le-ltb, ltb-true, ltb-false}
 use Rattle.sets.specs.Lists.{every}
 use Rattle.sets.proofs.Refusals.{Without, one-of-first, reached, none-reached, refusing}
 use Rattle.cases.specs.Conditions.{layoutConditions, modelConditions, formulaConditions, caseConditions, caseRefusal, Accepted}
-use Rattle.cases.specs.Opening.{caseNumber}
-use Rattle.cases.specs.declared.Cause.{Cause as Cause′}
 use Rattle.cases.proofs.Openings.{some-number as case-number}
-use Rattle.translate.specs.Translating.{file, translateConditions, translateRefusal, translateNumber, writtenNumber, writtenLength, fileAfter, Translated}
+use Rattle.translate.specs.Translating.{file, translateConditions, translateRefusal, translateNumber, fileAfter, Translated}
 use Rattle.translate.specs.declared.Cause.{Cause}
 use Rattle.translate.specs.declared.Cause.the-variants.{Open, Memory}
-use Rattle.translate.specs.declared.Written.the-variants.{File, Refused}
 
 module _ (b : List ℕ) where
   -- No condition of a case has the number 0, and none the number 13.
@@ -58,27 +55,25 @@ some-number (Open cause) e = case-number cause e
 some-number Memory e = omega arith
 
 module _ (b before : List ℕ) where
-  refuses : (cause : Cause) → translateRefusal b (length before) ≡ translateNumber cause → Translated b before (Refused cause) before
-  unfolding writtenNumber writtenLength fileAfter
-  refuses cause e =
-      let some : ¬ (translateRefusal b (length before) ≡ 0) = λ z. some-number cause (sym e ∙ z) in
-      record { number = sym e; size = sym (refusing _ (length (file b)) 0 some); bytes = sym (refusing _ _ before some) }
+  refuses : {k : ℕ} → translateRefusal b (length before) ≡ k → ¬ (k ≡ 0) → Translated b before k 0 before
+  unfolding fileAfter
+  refuses e d =
+      let some : ¬ (translateRefusal b (length before) ≡ 0) = λ z. d (sym e ∙ z) in
+      record { answers = sym e; long-is = sym (refusing _ (length (file b)) 0 some); bytes = sym (refusing _ _ before some) }
 
   -- the case is refused
-  pub case-refused : {cause : Cause′} → caseNumber cause ≡ caseRefusal b → Translated b before (Refused (Open cause)) before
-  unfolding translateNumber
-  case-refused {cause} e = refuses (Open cause) (own-number b (length before) (λ z. case-number cause (e ∙ z)) ∙ sym e)
+  pub case-refused : {k : ℕ} → (k ≡ caseRefusal b) × ¬ (caseRefusal b ≡ 0) → Translated b before k 0 before
+  case-refused (e, d) = refuses (own-number b (length before) d ∙ sym e) (λ z. d (sym e ∙ z))
 
   module _ (accepted : Accepted b) where
     -- the buffer is too short
-    pub too-short : (k : ℕ) → k ≡ length (file b) → length before < k → Translated b before (Refused Memory) before
-    unfolding translateNumber
-    too-short k e h = refuses Memory (lacks-room b (length before) .1 (accepted, rw (sym e) h))
+    pub too-short : (k : ℕ) → k ≡ length (file b) → length before < k → Translated b before 13 0 before
+    too-short k e h = refuses (lacks-room b (length before) .1 (accepted, rw (sym e) h)) (λ z. omega arith)
 
     -- the file is written
     pub file-written : (k : ℕ) → k ≡ length (file b) → k ≤ length before → {after : List ℕ} → after ≡ file b ++ drop k before
-        → Translated b before (File k) after
-    unfolding writtenNumber writtenLength fileAfter
+        → Translated b before 0 k after
+    unfolding fileAfter
     file-written k e h {after} w =
         let none : translateRefusal b (length before) ≡ 0 = unrefused b (length before) .1 (accepted, rw (sym e) h) in
-        record { number = sym none; size = e ∙ sym (rw none); bytes = w ∙ ap (λ (j : ℕ). file b ++ drop j before) e ∙ sym (rw none) }
+        record { answers = sym none; long-is = e ∙ sym (rw none); bytes = w ∙ ap (λ (j : ℕ). file b ++ drop j before) e ∙ sym (rw none) }

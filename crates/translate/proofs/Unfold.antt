@@ -14,13 +14,12 @@ use Rattle.sets.proofs.Lists.{length-map-range, getD-map-range, and-left, and-r
 use Rattle.solver.specs.Cells.{Cell, operandsOf}
 use Rattle.solver.specs.internal.Forms.{Ordered}
 use Rattle.cases.specs.Action.{Action, accepts}
-use Rattle.cases.specs.Formula.{Formula, False, True, And, Or, Box, Diamond, Variable, Fix, nodes}
+use Rattle.cases.specs.Formula.{Formula, False, True, And, Or, Box, Diamond, Variable, Fix, nodes, subformulas, Stands}
 use Rattle.cases.specs.declared.Transition.{Transition}
 use Rattle.cases.specs.Case.{keep}
 use Rattle.cases.specs.Meaning.{from}
-use Rattle.translate.specs.Nodes.{subformulas, Stands}
 use Rattle.translate.specs.Tables.{Expression, Sat⇒, Sat∧, each, RHS}
-use Rattle.translate.specs.Plain.{Plain, All, Any, more, leftOut, plain, plains, chosen, unfolded, Unfolding}
+use Rattle.translate.specs.Unfolding.{Plain, All, Any, more, leftOut, plain, plains, chosen, unfolded, Unfolding}
 use Rattle.translate.specs.Cells.{targets, cellOf, cellsFrom}
 
 -- There is a subformula for each node.

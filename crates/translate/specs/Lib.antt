@@ -1,11 +1,8 @@
 -- What the contracts of this crate say: the LTS2PBES tables, the cells that stand for them, and the equation file.
 pub mod Whole
-pub mod Nodes
-pub mod Copies
 pub mod Tables
 pub mod Cells
-pub mod Plain
-pub mod Equations
+pub mod Unfolding
 pub mod Bytes
 pub mod Translating
 pub mod internal

@@ -44,8 +44,8 @@ writtenLength (Refused cause) = 0
 unfoldable pub fileAfter : List ℕ → List ℕ → List ℕ
 fileAfter b before = byRefusal (translateRefusal b (length before)) (file b ++ drop (length (file b)) before) before
 
--- The answer, and the bytes of the buffer.
-pub record Translated (b before : List ℕ) (w : Written) (after : List ℕ) : Type 0 where
-  pub number : writtenNumber w ≡ translateRefusal b (length before)
-  pub size : writtenLength w ≡ byRefusal (translateRefusal b (length before)) (length (file b)) 0
+-- What translate promises of the number and the length that its answer stands for, and of the bytes of the buffer before and after.
+pub record Translated (b before : List ℕ) (number long : ℕ) (after : List ℕ) : Type 0 where
+  pub answers : number ≡ translateRefusal b (length before)
+  pub long-is : long ≡ byRefusal (translateRefusal b (length before)) (length (file b)) 0
   pub bytes : after ≡ fileAfter b before

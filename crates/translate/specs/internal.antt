@@ -1,4 +1,4 @@
--- What serves the contracts of functions only.
+-- What serves the contracts of inner functions, and laws beneath the promises.
 pub mod Writing
 pub mod Shapes
 pub mod Tabled

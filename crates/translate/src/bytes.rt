@@ -1,7 +1,9 @@
 // Writing numbers of 32 bits, low byte first.
+use solver::HEADER;
 ghost use mathlib.Core.List.{[], _∷_};
 ghost use Prim.Native.Nat.{_+_, _*_, _^_, _<_, _≤_};
 ghost use lib.ListN.{length};
+ghost use Rattle.solver.specs.File.{blocksAt};
 ghost use Rattle.translate.specs.internal.Parts.{Wrote, WroteAt, WroteMore};
 
 // One number.
@@ -61,11 +63,11 @@ pub fn put_three_at(part: &mut [u8], at: usize, x: usize, y: usize, z: usize)
 
 // The header of an equation file: version, states, blocks, cells, operands, initial state, and where the tables start.
 pub fn put_header(part: &mut [u8], n: usize, d: usize, c: usize, p: usize, initial: usize)
-    requires { ⌜ (36 ≤ length (now part)) × (36 + 8 * d + 12 * c < 2 ^ 32) ⌝ }
-    ensures { λ _. ⌜ Wrote (1 ∷ n ∷ d ∷ c ∷ p ∷ initial ∷ 36 ∷ (36 + 8 * d) ∷ (36 + 8 * d + 12 * c) ∷ []) (now (part .entry)) (now (part .exit)) ⌝ }
+    requires { ⌜ (blocksAt ≤ length (now part)) × (blocksAt + 8 * d + 12 * c < 2 ^ 32) ⌝ }
+    ensures { λ _. ⌜ Wrote (1 ∷ n ∷ d ∷ c ∷ p ∷ initial ∷ blocksAt ∷ (blocksAt + 8 * d) ∷ (blocksAt + 8 * d + 12 * c) ∷ []) (now (part .entry)) (now (part .exit)) ⌝ }
 {
-    let cells = 36 + 8 * d;
+    let cells = HEADER + 8 * d;
     put_three(part, 1, n, d);
     put_three_at(part, 12, c, p, initial);
-    put_three_at(part, 24, 36, cells, cells + 12 * c);
+    put_three_at(part, 24, HEADER, cells, cells + 12 * c);
 }

@@ -17,6 +17,7 @@ use shapes::SHAPES;
 use shapes::added_before;
 use shapes::first_appearances;
 use shapes::shapes_of;
+use solver::HEADER;
 use totals::operand_total;
 ghost use mathlib.Core.Path.{_≡_};
 ghost use Prim.Native.Nat.{_+_, _*_};
@@ -25,8 +26,8 @@ ghost use Rattle.cases.specs.File.{headerOf};
 ghost use Rattle.cases.specs.Conditions.{Accepted};
 ghost use Rattle.translate.specs.Bytes.{numbers};
 ghost use Rattle.translate.specs.internal.Parts.{Wrote, distinctIn};
-ghost use Rattle.translate.specs.internal.Sources.{Sources, Sized, shapeSystem, Emitted};
-ghost use Rattle.translate.specs.Translating.{translateNumber, Translated};
+ghost use Rattle.translate.specs.internal.Sources.{Sources, RoomFor, shapeSystem, Emitted};
+ghost use Rattle.translate.specs.Translating.{translateNumber, writtenNumber, writtenLength, Translated};
 
 // Why no file is written: found on opening the case, or the buffer is too short.
 pub enum Cause {
@@ -62,13 +63,13 @@ fn fill(
     d: usize,
     p: usize,
 )
-    requires { ⌜ Sources (now part) (now first) m shapes k n ⌝ ∗ ⌜ Sized (shapeSystem n initial (distinctIn (now part) (now first) m) (take k shapes)) (k * n) d p (length (now out)) ⌝ }
+    requires { ⌜ Sources (now part) (now first) m shapes k n ⌝ ∗ ⌜ RoomFor (shapeSystem n initial (distinctIn (now part) (now first) m) (take k shapes)) (k * n) d p (length (now out)) ⌝ }
     ensures { λ _. ⌜ Wrote (numbers (shapeSystem n initial (distinctIn (now (part .entry)) (now (first .entry)) m) (take k shapes)))
         (now (out .entry)) (now (out .exit)) ⌝ }
 {
     let c = k * n;
     put_header(out, n, d, c, p, initial);
-    let blocks = 36;
+    let blocks = HEADER;
     write_blocks(&mut out[blocks..], n, shapes, k);
     let cells = blocks + 8 * d;
     write_all_cells(&mut out[cells..], part, first, m, n, shapes, k);
@@ -93,7 +94,7 @@ fn emit(
 {
     let d = block_count(shapes, k);
     let p = operand_total(part, first, m, n, shapes, k);
-    let size = 36 + 8 * d + 12 * (k * n) + 4 * p;
+    let size = HEADER + 8 * d + 12 * (k * n) + 4 * p;
     if out.len() < size {
         return Written::Refused(Cause::Memory);
     }
@@ -104,7 +105,7 @@ fn emit(
 // The equation file of an accepted case. First appearances are found once, and the labels that a node accepts once.
 fn write_case(case: &[u8], h: Header, out: &mut [u8]) -> Written
     requires { ⌜ Accepted (now case) ⌝ ∗ ⌜ h ≡ headerOf (now case) ⌝ }
-    ensures { λ w. ⌜ Translated (now (case .entry)) (now (out .entry)) w (now (out .exit)) ⌝ }
+    ensures { λ w. ⌜ Translated (now (case .entry)) (now (out .entry)) (writtenNumber w) (writtenLength w) (now (out .exit)) ⌝ }
 {
     let records = h.transitions_at;
     let actions = h.actions_at;
@@ -126,7 +127,7 @@ fn write_case(case: &[u8], h: Header, out: &mut [u8]) -> Written
 
 // Writes the equation file of a case to the start of a buffer.
 pub fn translate(case: &[u8], out: &mut [u8]) -> Written
-    ensures { λ w. ⌜ Translated (now (case .entry)) (now (out .entry)) w (now (out .exit)) ⌝ }
+    ensures { λ w. ⌜ Translated (now (case .entry)) (now (out .entry)) (writtenNumber w) (writtenLength w) (now (out .exit)) ⌝ }
 {
     match cases::open(case) {
         Opened::Accepted(h) => write_case(case, h, out),

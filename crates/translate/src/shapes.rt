@@ -7,14 +7,14 @@ ghost use Prim.Native.Nat.{ℕ, _+_, _*_, _<_, _≤_};
 ghost use lib.Dec.{eqb};
 ghost use lib.ListN.{length};
 ghost use Rattle.sets.specs.Words.{bit};
-ghost use Rattle.cases.specs.Limits.{transitionLimit, nodeLimit};
+ghost use Rattle.cases.specs.File.{transitionLimit, nodeLimit};
 ghost use Rattle.cases.specs.Action.{Action};
 ghost use Rattle.cases.specs.Prefix.{actionAt};
 ghost use Rattle.cases.specs.Case.{copiesBefore};
 ghost use Rattle.cases.specs.Conditions.{nodeAt, isBinder};
-ghost use Rattle.cases.specs.internal.Checks.{transitionsIn, nodesIn, Holds};
+ghost use Rattle.cases.specs.internal.Checks.{transitionsIn, nodesIn, NodesFit};
 ghost use Rattle.translate.specs.internal.Shapes.{shapeIn};
-ghost use Rattle.translate.specs.internal.Tabled.{FirstFlags, Blocks, Tables, HoldsShapes};
+ghost use Rattle.translate.specs.internal.Tabled.{FirstFlags, CountableBlocks, Tables, HoldsShapes};
 
 // The limit on nodes, and one more for a nu that is put before the root.
 pub const SHAPES: usize = cases::NODES + 1;
@@ -58,7 +58,7 @@ pub fn is_modal(kind: usize) -> bool
 
 // The node of the second operand of node i; 0 where there is none.
 fn second_of(part: &[u8], f: usize, added: usize, i: usize) -> usize
-    requires { ⌜ Holds nodeLimit (now part) f ⌝ ∗ ⌜ (added ≤ 1) × (i < f) ⌝ }
+    requires { ⌜ NodesFit nodeLimit (now part) f ⌝ ∗ ⌜ (added ≤ 1) × (i < f) ⌝ }
     ensures { λ r. ⌜ ((action : ℕ → Action) → r ≡ shapeIn action (nodesIn (now (part .entry)) f) added i .second) ⌝ }
 {
     let x = cases::node_at(part, i);
@@ -70,7 +70,7 @@ fn second_of(part: &[u8], f: usize, added: usize, i: usize) -> usize
 
 // The block of node i; 0 where there is none.
 fn block_of(part: &[u8], f: usize, added: usize, i: usize) -> usize
-    requires { ⌜ Blocks (now part) f ⌝ ∗ ⌜ (added ≤ 1) × (i < f) ⌝ }
+    requires { ⌜ CountableBlocks (now part) f ⌝ ∗ ⌜ (added ≤ 1) × (i < f) ⌝ }
     ensures { λ r. ⌜ ((action : ℕ → Action) → r ≡ shapeIn action (nodesIn (now (part .entry)) f) added i .block) ⌝ }
 {
     let x = cases::node_at(part, i);

@@ -6,13 +6,12 @@ use Prim.Native.Nat.{ℕ, _+_, _-_, _*_, _/_, _%_}
 use lib.Dec.{eqb}
 use lib.ListN.{length, set, take, replicate}
 use Rattle.sets.specs.Lists.{numbersFrom, every}
-use Rattle.sets.specs.Size.{stateLimit}
-use Rattle.solver.specs.Limits.{blockLimit}
+use Rattle.sets.specs.Words.{stateLimit}
+use Rattle.solver.specs.File.{blockLimit}
 use Rattle.sets.specs.Refusals.{firstOf}
-use Rattle.cases.specs.Limits.{labelLimit, transitionLimit, actionLimit, nodeLimit}
 use Rattle.cases.specs.Action.{accepts}
 use Rattle.cases.specs.Prefix.{wholeFormulas, exactly, span, trees, actionAt}
-use Rattle.cases.specs.File.{u16, headerSize, Transition, transitionTable, actionTable, formulaTable}
+use Rattle.cases.specs.File.{u16, headerSize, Transition, transitionTable, actionTable, formulaTable, labelLimit, transitionLimit, actionLimit, nodeLimit}
 use Rattle.cases.specs.Case.{sameTransition, copies, copiesBefore, keep, distinct}
 use Rattle.cases.specs.Conditions.{tooSmall, otherVersion, badCount, badOffset, badLength, badModel, badActions, badFormula, boundOk, badVariable, binderCount, blockTotal, tooDeep}
 use Rattle.cases.specs.Conditions.{layoutConditions, modelConditions, formulaConditions, caseConditions, caseRefusal}
@@ -196,9 +195,9 @@ unfolding caseRefusal caseConditions firstOf layoutConditions modelConditions fo
 answer x = caseRefusal (x .0)
 
 -- each example comes out as given
-pub worked : map answer examples ≡ map (λ (x : Example). x .1) examples
+pub come-out : map answer examples ≡ map (λ (x : Example). x .1) examples
 unfolding answer examples
-worked = refl
+come-out = refl
 
 -- The labels below 3 that an action formula accepts: those of `label 0 implies (not label 1 and label 2)`, and of its node 2, the and.
 pub accepted : List (List Bool)

@@ -2,14 +2,23 @@
 use mathlib.Core.Path.{_≡_}
 use mathlib.Core.Bool.{Bool, true, false}
 use mathlib.Core.List.{List, map}
-use Prim.Native.Nat.{ℕ, _*_, _≤_}
-use lib.ListN.{length}
+use Prim.Native.Nat.{ℕ, _+_, _*_, _≤_}
+use lib.ListN.{length, drop}
 use Rattle.sets.specs.Lists.{numbersFrom}
-use Rattle.sets.specs.Size.{stateLimit}
-use Rattle.cases.specs.Limits.{labelLimit, transitionLimit, actionLimit, nodeLimit}
+use Rattle.sets.specs.Words.{stateLimit}
 use Rattle.cases.specs.Prefix.{Node}
-use Rattle.cases.specs.File.{Header, headerSize, headerOf, transitionsStart, actionsStart, formulaStart, fileEnd, Transition, transitionIn, nodeIn}
+use Rattle.cases.specs.File.{Header, headerSize, headerOf, transitionsStart, actionsStart, formulaStart, fileEnd, Transition, transitionIn, nodeIn, labelLimit, transitionLimit, actionLimit, nodeLimit}
 use Rattle.cases.specs.Conditions.{actionOk, nodeOk}
+
+-- the parts of a file that start at its tables
+abbrev pub transitionPart : List ℕ → List ℕ
+transitionPart b = drop (headerOf b .«transitions_at») b
+
+abbrev pub actionPart : List ℕ → List ℕ
+actionPart b = drop (headerOf b .«actions_at») b
+
+abbrev pub formulaPart : List ℕ → List ℕ
+formulaPart b = drop (headerOf b .«formula_at») b
 
 -- the first transitions, or nodes, of a part
 unfoldable pub transitionsIn : List ℕ → ℕ → List Transition
@@ -24,12 +33,12 @@ fits true = nodeOk
 fits false = actionOk
 
 -- a part holds k nodes, and they are not more than `limit`
-pub record Holds (limit : ℕ) (part : List ℕ) (k : ℕ) : Type 0 where
+pub record NodesFit (limit : ℕ) (part : List ℕ) (k : ℕ) : Type 0 where
   pub few : k ≤ limit
   pub inside : 4 * k ≤ length part
 
 -- each count is in its range
-pub record Counts (h : Header) : Type 0 where
+pub record CountsFit (h : Header) : Type 0 where
   pub some-state : 1 ≤ h .states
   pub few-states : h .states ≤ stateLimit
   pub few-transitions : h .transitions ≤ transitionLimit
@@ -43,8 +52,12 @@ pub record Counts (h : Header) : Type 0 where
 pub record Laid (b : List ℕ) (h : Header) : Type 0 where
   pub read : h ≡ headerOf b
   pub header : headerSize ≤ length b
-  pub counts : Counts h
+  pub counts : CountsFit h
   pub transitions : h .«transitions_at» ≡ transitionsStart
   pub actions : h .«actions_at» ≡ actionsStart h
   pub formula : h .«formula_at» ≡ formulaStart h
   pub ends : length b ≡ fileEnd h
+
+-- the length of the largest case, the code's LARGEST
+abbrev pub largestCase : ℕ
+largestCase = headerSize + 6 * transitionLimit + 4 * actionLimit + 4 * nodeLimit

@@ -7,7 +7,7 @@ use lib.Dec.{eqb}
 use lib.ListN.{length, getD}
 use Rattle.sets.specs.Lists.{numbersFrom}
 use Rattle.sets.specs.Words.{fromBits}
-use Rattle.cases.specs.Limits.{labelLimit}
+use Rattle.cases.specs.File.{labelLimit}
 use Rattle.cases.specs.Action.{Action, accepts}
 use Rattle.cases.specs.Prefix.{Node, arityIn, actionArities, wholeFormulas}
 use Rattle.cases.specs.Conditions.{nodeAt}

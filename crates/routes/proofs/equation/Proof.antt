@@ -4,7 +4,7 @@ use mathlib.Core.List.{[]}
 use native.Mathlib.Omega.{arith}
 use lib.Seq.{length-take-le}
 use Rattle.routes.specs.Route.{lent}
-use Rattle.routes.proofs.EquationAnswers.{refusal-number, translate-refused, written-fits, route-solved}
+use Rattle.routes.proofs.EquationAnswers.{refusal-number, file-number, file-long, translate-refused, written-fits, route-solved}
 use borrow.Author.Needs.{needs}
 use Rattle.routes.proofs.equation.Statement.{statement}
 use Rattle.routes.proofs.equation.Tie as tie
@@ -29,11 +29,11 @@ returns c =
     translate-refused (lent _ _ _) (c .before .before .before .before .before .translate .ensures) _ (refusal-number (c .before .enum-told .given .1)) (c .unwritten .ensures)
 
 slice-reshare-prefix-solve : tie.Need-slice-reshare-prefix-solve
-slice-reshare-prefix-solve c = omega (arith, written-fits (lent _ [] []) (c .before .before .before .before .before .translate .ensures) 0 (c .before .written .given .1))
+slice-reshare-prefix-solve c = omega (arith, written-fits (lent _ [] []) (c .before .before .before .before .before .translate .ensures) 0 (file-number (c .before .written .given .1)) (file-long (c .before .written .given .1)))
 
 slice-aggregate-solve : tie.Need-slice-aggregate-solve
 slice-aggregate-solve c =
-    sym (length-take-le _ _ (omega (arith, written-fits (lent _ [] []) (c .before .before .before .before .before .before .translate .ensures) 0 (c .before .before .written .given .1))))
+    sym (length-take-le _ _ (omega (arith, written-fits (lent _ [] []) (c .before .before .before .before .before .before .translate .ensures) 0 (file-number (c .before .before .written .given .1)) (file-long (c .before .before .written .given .1)))))
 
 solve-requires : tie.Need-solve-requires
 solve-requires c κs = search needs
@@ -52,7 +52,7 @@ same-length-4 c = search needs
 
 returns-2 : tie.Need-returns-2
 returns-2 c =
-    route-solved (lent _ _ _) (c .before .before .before .before .before .before .before .before .before .before .before .before .before .before .translate .ensures) _ (c .before .before .before .before .before .before .before .before .before .before .written .given .1) (c .before .before .before .before .before .solve .ensures) (c .solving-answer .ensures)
+    route-solved (lent _ _ _) (c .before .before .before .before .before .before .before .before .before .before .before .before .before .before .translate .ensures) _ (file-number (c .before .before .before .before .before .before .before .before .before .before .written .given .1)) (file-long (c .before .before .before .before .before .before .before .before .before .before .written .given .1)) (c .before .before .before .before .before .solve .ensures) (c .solving-answer .ensures)
 
 pub equation-spec : {M : Type 1} → statement M
 equation-spec =

@@ -3,7 +3,7 @@ use mathlib.Core.Path.{sym, ap, _∙_}
 use Rattle.sets.specs.Refusals.{refused}
 use Rattle.translate.specs.Translating.{writtenNumber}
 use Rattle.translate.specs.declared.Written.{Written}
-use Rattle.routes.specs.Route.{outcome}
+use Rattle.routes.specs.Route.{routeAnswer}
 use borrow.Author.Needs.{needs}
 use Rattle.routes.proofs.unwritten.Statement.{statement}
 use Rattle.routes.proofs.unwritten.Tie as tie
@@ -22,7 +22,7 @@ unfolding writtenNumber
 returns c = absurd (c .before .before .pre (ap writtenNumber (c .enum-told .given .1)))
 
 returns-2 : tie.Need-returns-2
-unfolding outcome writtenNumber
+unfolding routeAnswer writtenNumber
 returns-2 c =
     ap refused (c .translating-cause .ensures) ∙ sym (ap (λ (w : Written). refused (writtenNumber w)) (c .before .before .written .given .1))
 

@@ -3,8 +3,7 @@ use mathlib.Core.Path.{_≡_, refl}
 use mathlib.Core.List.{List, [], _∷_, map}
 use Rattle.sets.specs.Refusals.{refused}
 use Rattle.translate.specs.examples.Translations.{halves, caseFile, p1, p4, copied, middle, still}
-use Rattle.routes.specs.Program.{programLimit}
-use Rattle.routes.specs.Route.{direct, equation}
+use Rattle.routes.specs.Route.{direct, equation, programLimit}
 use Rattle.routes.specs.examples.Paper.{Example, reported, answer}
 
 pub further : List Example

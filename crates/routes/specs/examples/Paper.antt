@@ -3,14 +3,13 @@ use mathlib.Core.Path.{_≡_, refl}
 use mathlib.Core.List.{List, [], _∷_, map}
 use Prim.Native.Nat.{ℕ}
 use Rattle.sets.specs.Lists.{numbersFrom, every, forSome}
-use Rattle.sets.specs.States.{same, size}
-use Rattle.sets.specs.Loop.{iterate}
-use Rattle.solver.specs.Cells.{evaluate, workOut, value, operandsOf}
-use Rattle.sets.specs.Valuation.{bind}
+use Rattle.sets.specs.States.{size, update}
+use Rattle.sets.specs.computed.Iteration.{iterate, same}
+use Rattle.solver.specs.Cells.{value, operandsOf}
+use Rattle.solver.specs.computed.Solved.{evaluate, workOut, solved, run}
 use Rattle.solver.specs.File.{u32, blocks, operands, entries, cells, entryCell}
-use Rattle.solver.specs.Rounds.{solved}
 use Rattle.sets.specs.Refusals.{Outcome, refused, firstOf, outcomeBy}
-use Rattle.solver.specs.Outcome.{tooShort, run}
+use Rattle.solver.specs.Outcome.{solveTooShort}
 use Rattle.cases.specs.Action.{accepts}
 use Rattle.cases.specs.Formula.{nodes}
 use Rattle.cases.specs.Prefix.{trees, actionAt, formulaAt, wholeFormulas, exactly, span}
@@ -22,9 +21,8 @@ use Rattle.translate.specs.Cells.{targets, cellOf, cellsFrom, blocksFrom}
 use Rattle.translate.specs.Bytes.{systemOf, allOperands, blockNumbers, cellNumbers, numbers, bytes, fileOf}
 use Rattle.translate.specs.Translating.{file}
 use Rattle.translate.specs.examples.Translations.{halves, caseFile, still, p1, p1Equations, p2, p3, p4, p5, p6, p7, p8}
-use Rattle.routes.specs.Direct.{worked}
-use Rattle.routes.specs.Program.{programLimit, programMemory}
-use Rattle.routes.specs.Route.{Route, direct, equation, runOf, tooShort as Route·tooShort, exceeds as Route·exceeds, runConditions, routeConditions, routeReport, routeOutcome, outcomeOf}
+use Rattle.routes.specs.computed.Worked.{worked}
+use Rattle.routes.specs.Route.{Route, direct, equation, runOf, tooShort as Route·tooShort, exceeds as Route·exceeds, runConditions, routeConditions, routeOutcome, outcomeOf, programLimit, programMemory}
 
 -- a case, a limit, and what the equation route and direct answer
 abbrev pub Example : Type 0
@@ -51,12 +49,12 @@ paper =
 
 -- what a route answers, with all that this computes with
 unfoldable pub answer : Route → Example → Outcome
-unfolding routeOutcome outcomeBy routeConditions runConditions Route·tooShort Route·exceeds routeReport runOf worked iterate bind
+unfolding routeOutcome outcomeBy routeConditions runConditions Route·tooShort Route·exceeds runOf worked iterate update
     same size numbersFrom every forSome accepts nodes u16 transitionTable actionTable formulaTable trees actionAt formulaAt caseOf
     sameTransition copies copiesBefore keep distinct caseConditions firstOf layoutConditions modelConditions formulaConditions
     tooSmall otherVersion badCount badOffset badLength badModel badActions badFormula boundOk badVariable binderCount blockTotal
     tooDeep wholeFormulas exactly span fileOf numbers systemOf bytes cellNumbers blockNumbers allOperands operandsOf cellsFrom
-    blocksFrom cellOf targets whole raise bindsFirst binderNodes indexIn blockIn tooShort run solved evaluate workOut value u32
+    blocksFrom cellOf targets whole raise bindsFirst binderNodes indexIn blockIn solveTooShort run solved evaluate workOut value u32
     blocks operands entries entryCell cells
 answer R x = outcomeOf R (x .0) programMemory (x .1)
 

@@ -4,13 +4,13 @@ use mathlib.Core.Bool.{true, false}
 use mathlib.Core.List.{List}
 use Prim.Native.Nat.{ℕ, _<_, _≤_}
 use lib.ListN.{length}
-use Rattle.sets.specs.Size.{wordCount}
 use Rattle.sets.specs.States.{States}
-use Rattle.sets.specs.Words.{words}
-use Rattle.sets.specs.Loop.{Worked}
+use Rattle.sets.specs.Words.{words, wordCount}
+use Rattle.sets.specs.computed.Iteration.{Worked}
 use Rattle.cases.specs.Case.{Case}
 use Rattle.cases.specs.declared.Header.{Header}
-use Rattle.routes.specs.Route.{outcome, routeReport}
+use Rattle.routes.specs.Route.{routeAnswer}
+use Rattle.sets.specs.Refusals.{reportOf}
 use Rattle.routes.specs.declared.Answer.the-variants.{Solved}
 use Rattle.routes.specs.declared.Report.{Report}
 use Rattle.routes.specs.declared.Value.{Value}
@@ -18,7 +18,7 @@ use Rattle.routes.specs.declared.Value.{Value}
 -- the report of a set that is held in words, of a case with the header's states and initial state
 pub record Reported (h : Header) (set : List ℕ) (rounds : ℕ) (report : Report) : Type 0 where
   pub are : (c : Case) → c .initial ≡ h .initial → (v : States) → length v ≡ h .states → set ≡ words wordCount v
-      → outcome (Solved report) ≡ routeReport c v rounds
+      → routeAnswer (Solved report) ≡ reportOf (c .initial) v rounds
 
 -- the root's set and rounds, if they are within the limit
 pub record Rooted (w : Worked) (limit : ℕ) (o : Value) : Type 0 where

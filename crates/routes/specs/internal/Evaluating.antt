@@ -4,13 +4,11 @@ use mathlib.Core.Bool.{Bool, true, false, cond}
 use mathlib.Core.List.{List, [], map}
 use Prim.Native.Nat.{ℕ, _+_, _*_, _<_, _≤_}
 use lib.ListN.{length, getD, take}
-use Rattle.sets.specs.Size.{wordCount, stateLimit}
-use Rattle.sets.specs.States.{States}
-use Rattle.sets.specs.Words.{words}
+use Rattle.sets.specs.States.{States, Valuation}
+use Rattle.sets.specs.Words.{words, wordCount, stateLimit}
 use Rattle.sets.specs.Lists.{every}
-use Rattle.solver.specs.Limits.{blockLimit}
-use Rattle.sets.specs.Valuation.{Valuation}
-use Rattle.cases.specs.Limits.{labelLimit, actionLimit, nodeLimit}
+use Rattle.solver.specs.File.{blockLimit}
+use Rattle.cases.specs.File.{labelLimit, actionLimit, nodeLimit}
 use Rattle.cases.specs.Action.{Action}
 use Rattle.cases.specs.declared.Header.{Header}
 use Rattle.cases.specs.declared.Node.{Node}
@@ -20,13 +18,13 @@ use Rattle.cases.specs.Case.{Case}
 use Rattle.cases.specs.Conditions.{transitionOk, nodeAt, isBinder, binderCount, badFormula, badVariable}
 use Rattle.cases.specs.internal.Masks.{maskOf, WholeActions}
 use Rattle.cases.specs.Meaning.{boxIn, diamondIn}
-use Rattle.cases.specs.internal.Checks.{transitionsIn, nodesIn, Holds}
+use Rattle.cases.specs.internal.Checks.{transitionsIn, nodesIn, NodesFit}
 use Rattle.routes.specs.Direct.{Direct}
 use Rattle.routes.specs.declared.Value.{Value}
 
 -- the values that are returned
-abbrev pub value : List ℕ → ℕ → ℕ → Bool → Value
-value set next rounds spent = record { set = set; next = next; rounds = rounds; spent = spent }
+abbrev pub returned : List ℕ → ℕ → ℕ → Bool → Value
+returned set next rounds spent = record { set = set; next = next; rounds = rounds; spent = spent }
 
 -- the property of a state that a box or a diamond asks for
 abbrev pub modalIn : Bool → ℕ → List Transition → Action → States → ℕ → Bool
@@ -41,14 +39,14 @@ pub record Records (part : List ℕ) (m n l : ℕ) : Type 0 where
 
 -- a formula table of f nodes of which conditions 8 and 9 do not hold, with at most six binders
 pub record FormulaPart (part : List ℕ) (f actions : ℕ) : Type 0 where
-  pub holds : Holds nodeLimit part f
+  pub holds : NodesFit nodeLimit part f
   pub formed : badFormula actions (nodesIn part f) ≡ false
   pub bound : badVariable (nodesIn part f) ≡ false
   pub shallow : binderCount (nodesIn part f) ≤ blockLimit
 
 -- an action table of a nodes that makes whole formulas
 pub record ActionPart (part : List ℕ) (a : ℕ) : Type 0 where
-  pub holds : Holds actionLimit part a
+  pub holds : NodesFit actionLimit part a
   pub whole : WholeActions (nodesIn part a)
 
 -- the case of a header's counts and the parts of a file that start at its tables
@@ -77,7 +75,7 @@ pub record Masks (action : ℕ → Action) (table : List Node) (labels : List �
   pub mask : (i : ℕ) → i < length table → isModal (nodeAt table i) → getD labels i 0 ≡ maskOf (action (nodeAt table i .arg))
 
 -- number i is the block of binder i: the binders before it are counted
-pub record Blocks (table : List Node) (blocks : List ℕ) : Type 0 where
+pub record BinderBlocks (table : List Node) (blocks : List ℕ) : Type 0 where
   pub block : (i : ℕ) → i < length table → isBinder (nodeAt table i) ≡ true → getD blocks i 0 ≡ binderCount (take i table)
 
 -- all of it, with room in both arrays
@@ -86,7 +84,7 @@ pub record Parts (h : Header) (records formula labels blocks : List ℕ) : Type 
   pub nodes : FormulaPart formula (h .nodes) (h .actions)
   pub labels-room : h .nodes ≤ length labels
   pub blocks-room : h .nodes ≤ length blocks
-  pub numbered : Blocks (nodesIn formula (h .nodes)) blocks
+  pub numbered : BinderBlocks (nodesIn formula (h .nodes)) blocks
 
 -- row k is the words of the set of the binder with block k
 pub record Shown (n : ℕ) (table : List Node) (rows : List (List ℕ)) (ρ : Valuation) : Type 0 where

@@ -6,7 +6,7 @@ use Prim.Native.Nat.{_-_}
 use native.Mathlib.Omega.{arith}
 use lib.Bits.{bitAnd, bitOr}
 use lib.ListN.{getD}
-use Rattle.sets.specs.Size.{wordCount}
+use Rattle.sets.specs.Words.{wordCount}
 use Rattle.sets.specs.Lists.{numbersFrom}
 use Rattle.sets.specs.States.{has}
 use Rattle.sets.proofs.Words.{Filled, filled-none, filled-more, words-filled}

@@ -6,9 +6,8 @@ use Prim.Native.Nat.{_-_}
 use native.Mathlib.Omega.{arith}
 use lib.Bits.{bitXor}
 use lib.ListN.{getD}
-use Rattle.sets.specs.Size.{wordCount}
 use Rattle.sets.specs.States.{start}
-use Rattle.sets.specs.Words.{fromBits}
+use Rattle.sets.specs.Words.{fromBits, wordCount}
 use Rattle.sets.proofs.Words.{Filled, part, filled-none, filled-more, words-filled}
 use Rattle.sets.proofs.Masks.{word-complement}
 use Rattle.sets.proofs.complement.Statement.{statement}

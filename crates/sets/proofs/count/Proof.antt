@@ -4,7 +4,8 @@ use mathlib.Core.Logic.{⊎-elim}
 use Prim.Native.Nat.{_+_, _-_, _≤_}
 use native.Mathlib.Omega.{arith}
 use Rattle.sets.specs.States.{size}
-use Rattle.sets.specs.Words.{states, bit}
+use Rattle.sets.specs.Words.{bit}
+use Rattle.sets.specs.internal.Functions.{states}
 use Rattle.sets.proofs.Words.{left, left-all, left-none, left-next}
 use Rattle.sets.proofs.count.Statement.{statement}
 use Rattle.sets.proofs.count.Tie as tie

@@ -1,5 +1,5 @@
 -- `sets::empty` meets its contract: zeros are the words of no state.
-use Rattle.sets.specs.Size.{wordCount}
+use Rattle.sets.specs.Words.{wordCount}
 use Rattle.sets.proofs.Words.{words-none}
 use Rattle.sets.proofs.empty.Statement.{statement}
 use Rattle.sets.proofs.empty.Tie as tie

@@ -6,7 +6,7 @@ use native.Mathlib.Omega.{arith}
 use borrow.Author.Count.{below-more}
 use lib.ListN.{getD}
 use lib.Seq.{ext-getD}
-use Rattle.sets.specs.Size.{wordCount}
+use Rattle.sets.specs.Words.{wordCount}
 use Rattle.sets.proofs.Words.{decides-yes, decides-no}
 use Rattle.sets.proofs.equal_words.Statement.{statement}
 use Rattle.sets.proofs.equal_words.Tie as tie

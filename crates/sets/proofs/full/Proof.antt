@@ -3,9 +3,8 @@ use mathlib.Core.Path.{refl}
 use mathlib.Core.Bool.{true}
 use Prim.Native.Nat.{_-_}
 use native.Mathlib.Omega.{arith}
-use Rattle.sets.specs.Size.{wordCount}
 use Rattle.sets.specs.States.{start}
-use Rattle.sets.specs.Words.{fromBits}
+use Rattle.sets.specs.Words.{fromBits, wordCount}
 use Rattle.sets.proofs.Words.{Filled, part, filled-none, filled-more, words-filled}
 use Rattle.sets.proofs.full.Statement.{statement}
 use Rattle.sets.proofs.full.Tie as tie

@@ -4,7 +4,7 @@ use Prim.Native.Nat.{_-_}
 use native.Mathlib.Omega.{arith}
 use lib.ListN.{getD, take}
 use lib.Seq.{getD-take, length-take-le}
-use Rattle.sets.specs.Size.{wordCount}
+use Rattle.sets.specs.Words.{wordCount}
 use Rattle.sets.proofs.Words.{Filled, filled-none, filled-more, filled-all}
 use Rattle.sets.proofs.load.Statement.{statement}
 use Rattle.sets.proofs.load.Tie as tie

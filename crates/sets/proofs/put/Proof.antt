@@ -1,7 +1,7 @@
 -- `sets::put` meets its contract: one bit of one word.
 use native.Mathlib.Omega.{arith}
 use borrow.Author.Needs.{needs}
-use Rattle.sets.specs.Size.{wordCount}
+use Rattle.sets.specs.Words.{wordCount}
 use Rattle.sets.proofs.Words.{words-put}
 use Rattle.sets.proofs.put.Statement.{statement}
 use Rattle.sets.proofs.put.Tie as tie

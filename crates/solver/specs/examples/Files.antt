@@ -4,19 +4,15 @@ use mathlib.Core.List.{List, [], _∷_, _++_, map, flatMap}
 use Prim.Native.Nat.{ℕ, _+_, _-_, _*_, _/_, _%_, _^_}
 use lib.ListN.{set, take, replicate}
 use Rattle.sets.specs.Lists.{numbersFrom, every, forSome, sum}
-use Rattle.sets.specs.Size.{wordCount, stateLimit}
-use Rattle.sets.specs.States.{same, size}
-use Rattle.sets.specs.Loop.{iterate}
-use Rattle.sets.specs.Words.{words, fromBits}
-use Rattle.solver.specs.Limits.{blockLimit, cellLimit, operandLimit}
-use Rattle.solver.specs.Cells.{evaluate, workOut, value}
-use Rattle.sets.specs.Valuation.{bind}
-use Rattle.solver.specs.File.{u32, blocksAt, blocks, operands, entries, entryCell, cells}
+use Rattle.sets.specs.States.{size, update}
+use Rattle.sets.specs.computed.Iteration.{iterate, same}
+use Rattle.sets.specs.Words.{words, fromBits, wordCount, stateLimit}
+use Rattle.solver.specs.Cells.{value}
+use Rattle.solver.specs.computed.Solved.{evaluate, workOut, solved, run}
+use Rattle.solver.specs.File.{u32, blocksAt, blocks, operands, entries, entryCell, cells, blockLimit, cellLimit, operandLimit}
 use Rattle.solver.specs.Conditions.{layoutOk, tablesOk, blockOk, cellOk, arity, operandsBefore}
-use Rattle.solver.specs.Rounds.{solved}
 use Rattle.sets.specs.Refusals.{Outcome, refused, firstOf, outcomeBy}
-use Rattle.solver.specs.Outcome.{badLayout, badTable, tooShort, exceeds, run, report}
-use Rattle.solver.specs.Outcome.{solveConditions, solveRefusal, solveOutcome, solveMarks, solveWork}
+use Rattle.solver.specs.Outcome.{badLayout, badTable, solveTooShort, solveExceeds, report, solveConditions, solveRefusal, solveOutcome, solveMarks, solveWork}
 
 -- numbers of 32 bits as bytes, low byte first
 bytes : List ℕ → List ℕ
@@ -189,14 +185,14 @@ examples =
 
 -- what solve answers of an example, with all that this computes with
 pub answer : Example → Outcome
-unfolding solveOutcome solveConditions solveRefusal firstOf outcomeBy badLayout badTable tooShort exceeds run report solved iterate evaluate workOut value bind
+unfolding solveOutcome solveConditions solveRefusal firstOf outcomeBy badLayout badTable solveTooShort solveExceeds run report solved iterate evaluate workOut value update
     u32 blocks operands entries entryCell cells layoutOk tablesOk blockOk cellOk arity operandsBefore sum numbersFrom every forSome same size
 answer x = solveOutcome (x .0) (x .1) (x .2) (x .3)
 
 -- each example comes out as given
-pub worked : map answer examples ≡ map (λ (x : Example). x .4) examples
+pub come-out : map answer examples ≡ map (λ (x : Example). x .4) examples
 unfolding answer examples
-worked = refl
+come-out = refl
 
 -- k lent bytes or words that hold 9
 abbrev nines : ℕ → List ℕ

@@ -5,7 +5,7 @@ use mathlib.Core.List.{List, [], _∷_, _++_, map, flatMap}
 use Prim.Native.Nat.{ℕ, zero, suc, _+_, _*_, _/_, _%_}
 use lib.ListN.{replicate, take}
 use Rattle.sets.specs.Lists.{numbersFrom, every, forSome}
-use Rattle.solver.specs.Limits.{blockLimit}
+use Rattle.solver.specs.File.{blockLimit, blocksAt}
 use Rattle.solver.specs.Cells.{operandsOf}
 use Rattle.sets.specs.Refusals.{firstOf}
 use Rattle.cases.specs.Action.{accepts}
@@ -17,9 +17,8 @@ use Rattle.cases.specs.Conditions.{tooSmall, otherVersion, badCount, badOffset,
 use Rattle.translate.specs.Translating.{translateConditions, translateRefusal}
 use Rattle.translate.specs.Whole.{raise, bindsFirst, whole, binderNodes, indexIn, blockIn}
 use Rattle.translate.specs.Tables.{Expression, ⋀, Sat⇒, X, nil, cons, each, RHS, E}
-use Rattle.translate.specs.Plain.{Plain, All, Var, none, more, leftOut, plain, plains}
+use Rattle.translate.specs.Unfolding.{Plain, All, Var, nothing, more, leftOut, plain, plains, equationsOf}
 use Rattle.translate.specs.Cells.{targets, cellOf, cellsFrom, blocksFrom}
-use Rattle.translate.specs.Equations.{equationsOf}
 use Rattle.translate.specs.Bytes.{systemOf, allOperands, blockNumbers, cellNumbers, numbers, bytes, fileOf}
 
 -- numbers of 16 bits as bytes, low byte first
@@ -35,7 +34,7 @@ caseFile n t l initial a f tables = halves (1 ∷ n ∷ t ∷ l ∷ initial ∷ 
 -- an equation file with the offsets that its counts of blocks, cells and operands ask for
 equationFile : (n d c p initial : ℕ) → List ℕ → List ℕ
 unfolding bytes
-equationFile n d c p initial tables = bytes (1 ∷ n ∷ d ∷ c ∷ p ∷ initial ∷ 36 ∷ (36 + 8 * d) ∷ (36 + 8 * d + 12 * c) ∷ tables)
+equationFile n d c p initial tables = bytes (1 ∷ n ∷ d ∷ c ∷ p ∷ initial ∷ blocksAt ∷ (blocksAt + 8 * d) ∷ (blocksAt + 8 * d + 12 * c) ∷ tables)
 
 -- P1, byte by byte: header, three transitions of which the second is a copy, true, mu X box X
 unfoldable pub p1 : List ℕ
@@ -225,9 +224,9 @@ unfolding fileOf numbers systemOf bytes cellNumbers blockNumbers allOperands ope
 equations b = fileOf (caseOf b)
 
 -- each example comes out as given
-pub worked : map (λ (x : Example). equations (x .0)) examples ≡ map (λ (x : Example). x .1) examples
+pub come-out : map (λ (x : Example). equations (x .0)) examples ≡ map (λ (x : Example). x .1) examples
 unfolding equations examples
-worked = refl
+come-out = refl
 
 -- what the bytes of a case are refused with, where the buffer has so many bytes, with all that this computes with
 pub refusals : List ℕ → List ℕ → List ℕ
@@ -259,13 +258,13 @@ pub tables : map written (p1 ∷ middle ∷ []) ≡
       false,
       0,
       (⋀ (cons (Sat⇒ true (X 0 1)) nil) ∷ ⋀ (cons (Sat⇒ true (X 0 2)) nil) ∷ ⋀ nil ∷ []),
-      (All (more (Var 0 1) none) ∷ All (more (Var 0 2) none) ∷ All none ∷ []),
+      (All (more (Var 0 1) nothing) ∷ All (more (Var 0 2) nothing) ∷ All nothing ∷ []),
     ) ∷ [])
     ∷ ((
       false,
       0,
       (⋀ (cons (Sat⇒ true (X 0 1)) (cons (Sat⇒ false (X 0 0)) (cons (Sat⇒ true (X 0 0)) nil))) ∷ ⋀ (cons (Sat⇒ false (X 0 0)) nil) ∷ []),
-      (All (more (Var 0 1) (more (Var 0 0) none)) ∷ All none ∷ []),
+      (All (more (Var 0 1) (more (Var 0 0) nothing)) ∷ All nothing ∷ []),
     ) ∷ [])
     ∷ []
 unfolding written p1 middle

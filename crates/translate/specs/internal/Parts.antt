@@ -6,10 +6,9 @@ use Prim.Native.Nat.{ℕ, _+_, _*_, _≤_}
 use lib.Dec.{eqb}
 use lib.ListN.{length, getD, take, drop}
 use Rattle.sets.specs.Lists.{numbersFrom}
-use Rattle.sets.specs.Size.{stateLimit}
+use Rattle.sets.specs.Words.{stateLimit}
 use Rattle.solver.specs.Cells.{Cell}
-use Rattle.cases.specs.Limits.{nodeLimit}
-use Rattle.cases.specs.File.{transitionIn}
+use Rattle.cases.specs.File.{transitionIn, nodeLimit}
 use Rattle.cases.specs.declared.Transition.{Transition}
 use Rattle.cases.specs.Case.{keep}
 use Rattle.translate.specs.declared.Shape.{Shape}

@@ -5,9 +5,9 @@ use mathlib.Core.List.{List, _++_}
 use Prim.Native.Nat.{ℕ, _+_, _*_, _≤_, _<_}
 use lib.Dec.{ltb}
 use lib.ListN.{length, getD, take, drop}
-use Rattle.sets.specs.Size.{stateLimit}
-use Rattle.solver.specs.Limits.{operandLimit}
-use Rattle.cases.specs.Limits.{transitionLimit, nodeLimit}
+use Rattle.sets.specs.Words.{stateLimit}
+use Rattle.solver.specs.File.{blocksAt, operandLimit}
+use Rattle.cases.specs.File.{transitionLimit, nodeLimit}
 use Rattle.cases.specs.declared.Transition.{Transition}
 use Rattle.translate.specs.Bytes.{System, allOperands, bytes, numbers}
 use Rattle.translate.specs.internal.Shapes.{shapeCells, shapeBlocks}
@@ -36,12 +36,12 @@ pub record Sources (part first : List ℕ) (m : ℕ) (shapes : List Shape) (k n 
   pub few-operands : length (allOperands (shapeCells n (distinctIn part first m) 0 (take k shapes))) ≤ operandLimit
 
 -- so many cells, blocks and operands, and a buffer of `room` bytes has room for their file
-pub record Sized (y : System) (c d p room : ℕ) : Type 0 where
+pub record RoomFor (y : System) (c d p room : ℕ) : Type 0 where
   pub blocks : d ≡ length (y .blocks)
   pub cells : c ≡ length (y .cells)
   pub operands : p ≡ length (allOperands (y .cells))
   pub few-blocks : d ≤ nodeLimit + 1
-  pub roomy : 36 + 8 * d + 12 * c + 4 * p ≤ room
+  pub roomy : blocksAt + 8 * d + 12 * c + 4 * p ≤ room
 
 -- The file of some equations is written to the start of a buffer, and all beyond it unchanged; where there is no room for it nothing changed.
 pub record Emitted (y : System) (before : List ℕ) (w : Written) (after : List ℕ) : Type 0 where

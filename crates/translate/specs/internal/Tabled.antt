@@ -6,12 +6,12 @@ use Prim.Native.Nat.{ℕ, _+_, _≤_, _<_}
 use lib.Dec.{eqb}
 use lib.ListN.{length, getD, take}
 use Rattle.sets.specs.Words.{bit}
-use Rattle.cases.specs.Limits.{transitionLimit, actionLimit, nodeLimit}
+use Rattle.cases.specs.File.{transitionLimit, actionLimit, nodeLimit}
 use Rattle.cases.specs.Prefix.{actionAt}
 use Rattle.cases.specs.Case.{copiesBefore}
 use Rattle.cases.specs.Conditions.{nodeAt}
 use Rattle.cases.specs.internal.Masks.{WholeActions}
-use Rattle.cases.specs.internal.Checks.{transitionsIn, nodesIn, Holds}
+use Rattle.cases.specs.internal.Checks.{transitionsIn, nodesIn, NodesFit}
 use Rattle.translate.specs.declared.Shape.{Shape}
 use Rattle.translate.specs.internal.Shapes.{tableShapes}
 
@@ -21,15 +21,15 @@ pub record FirstFlags (part : List ℕ) (m : ℕ) (flags : List ℕ) : Type 0 wh
   pub at : (j : ℕ) → j < m → getD flags j 0 ≡ bit (eqb (copiesBefore (transitionsIn part m) j) 0)
 
 -- a formula table of f nodes whose blocks can be counted: the argument of a variable is at most f
-pub record Blocks (part : List ℕ) (f : ℕ) : Type 0 where
-  pub node-part : Holds nodeLimit part f
+pub record CountableBlocks (part : List ℕ) (f : ℕ) : Type 0 where
+  pub node-part : NodesFit nodeLimit part f
   pub variable : (i : ℕ) → i < f → nodeAt (nodesIn part f) i .kind ≡ 6 → nodeAt (nodesIn part f) i .arg ≤ f
 
 -- such a table, and an action table of a nodes that has the argument of each box and diamond
 pub record Tables (actions : List ℕ) (a : ℕ) (part : List ℕ) (f : ℕ) : Type 0 where
-  pub action-part : Holds actionLimit actions a
+  pub action-part : NodesFit actionLimit actions a
   pub whole-actions : WholeActions (nodesIn actions a)
-  pub blocks : Blocks part f
+  pub blocks : CountableBlocks part f
   pub modal : (i : ℕ) → i < f → (eqb (nodeAt (nodesIn part f) i .kind) 4 || eqb (nodeAt (nodesIn part f) i .kind) 5) ≡ true
       → nodeAt (nodesIn part f) i .arg < a
 

@@ -3,8 +3,7 @@ use mathlib.Core.Path.{_≡_, refl, sym, _∙_}
 use Prim.Native.Nat.{_+_, _-_, _<_, _≤_}
 use native.Mathlib.Omega.{arith}
 use Rattle.sets.proofs.Lists.{length-table}
-use Rattle.cases.specs.Limits.{labelLimit, actionLimit}
-use Rattle.cases.specs.File.{nodeIn}
+use Rattle.cases.specs.File.{nodeIn, labelLimit, actionLimit}
 use Rattle.cases.proofs.Masks.{Masked, nodesIn, masked-none, node-known, turn-fits, turn-masked, masked-first}
 use Rattle.cases.proofs.actions.accepted_labels.Statement.{statement}
 use Rattle.cases.proofs.actions.accepted_labels.Tie as tie

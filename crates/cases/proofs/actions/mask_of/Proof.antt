@@ -3,7 +3,7 @@ use mathlib.Core.Path.{_≡_, _∙_}
 use Prim.Native.Nat.{_<_}
 use native.Mathlib.Omega.{arith}
 use Rattle.sets.proofs.Words.{shifted-one}
-use Rattle.cases.specs.Limits.{labelLimit}
+use Rattle.cases.specs.File.{labelLimit}
 use Rattle.cases.specs.internal.Masks.{actionOf}
 use Rattle.cases.proofs.Masks.{mask-false, mask-true, mask-label, mask-not, mask-and, mask-or, mask-implies}
 use Rattle.cases.proofs.actions.mask_of.Statement.{statement}

@@ -1,8 +1,7 @@
 use Prim.Native.Nat.{ℕ, _+_, _-_, _*_, _<_}
 use native.Mathlib.Omega.{arith}
 use Rattle.routes.proofs.NodeLaws.{kind-at, kind-known, binder-of, block-read, block-fits}
-use Rattle.routes.proofs.EvaluateLaws.{constant-done, variable-done, pair-first, pair-second, pair-after, pair-spent, pair-spent-2, pair-done}
-use Rattle.routes.proofs.EvaluateLaws.{modal-first, modal-spent, modal-done}
+use Rattle.routes.proofs.EvaluateLaws.{constant-done, variable-done, pair-first, pair-second, pair-after, pair-spent, pair-spent-2, pair-done, modal-first, modal-spent, modal-done}
 use Rattle.routes.proofs.BinderLaws.{Going, own-binder, binder-body, begins, body-spent, round-spent, stopped, replaced}
 use borrow.Fn.Kinds.{In}
 use borrow.Fn.PlainCycle.{Measures, is, falls, and}

@@ -3,9 +3,8 @@ use mathlib.Core.Path.{_≡_, ap, _∙_}
 use Prim.Native.Nat.{_-_, _≤_}
 use native.Mathlib.Omega.{arith}
 use lib.ListN.{length}
-use Rattle.sets.specs.Size.{wordCount}
 use Rattle.sets.specs.States.{States}
-use Rattle.sets.specs.Words.{words}
+use Rattle.sets.specs.Words.{words, wordCount}
 use Rattle.cases.specs.Action.{Action}
 use Rattle.cases.specs.internal.Masks.{maskOf}
 use Rattle.cases.specs.internal.Checks.{transitionsIn}

@@ -1,4 +1,4 @@
-use Rattle.routes.specs.Route.{outcome, shown}
+use Rattle.routes.specs.Route.{routeAnswer, shown}
 use borrow.Author.Needs.{needs}
 use Rattle.routes.proofs.outcome.numbers_of.Statement.{statement}
 use Rattle.routes.proofs.outcome.numbers_of.Tie as tie
@@ -16,11 +16,11 @@ number-of-requires : tie.Need-number-of-requires
 number-of-requires c κs = search needs
 
 returns : tie.Need-returns
-unfolding outcome shown
+unfolding routeAnswer shown
 returns c = cc
 
 returns-2 : tie.Need-returns-2
-unfolding outcome shown
+unfolding routeAnswer shown
 returns-2 c = cc
 
 pub numbers-of-spec : {M : Type 1} → statement M

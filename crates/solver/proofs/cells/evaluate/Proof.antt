@@ -1,14 +1,14 @@
 use Prim.Native.Nat.{ℕ, _+_, _-_, _≤_}
 use mathlib.Core.Path.{_≡_, sym, _∙_}
 use native.Mathlib.Omega.{arith}
-use Rattle.solver.specs.internal.Working.{Evaluated}
+use Rattle.solver.specs.internal.Working.{CellsValued}
 use Rattle.solver.proofs.Tables.{counted}
 use Rattle.solver.proofs.Shown.{evaluated-none, evaluated-more}
 use Rattle.solver.proofs.cells.evaluate.Statement.{statement}
 use Rattle.solver.proofs.cells.evaluate.Tie as tie
 
 abbrev Inv-loop : tie.InvT-loop
-Inv-loop file sizes from work₀ sets i₀ work i = (from ≤ i) × (i ≤ sizes .cells) × Evaluated file sets i work
+Inv-loop file sizes from work₀ sets i₀ work i = (from ≤ i) × (i ≤ sizes .cells) × CellsValued file sets i work
 
 abbrev μ-loop : tie.MeasureT-loop
 μ-loop file sizes from work₀ sets i₀ work i = i

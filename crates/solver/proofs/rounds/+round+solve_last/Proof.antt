@@ -4,8 +4,7 @@ use Prim.Native.Nat.{ℕ, _+_, _-_, _*_, _<_, _≤_}
 use mathlib.Core.Path.{_≡_, refl, sym, _∙_}
 use native.Mathlib.Omega.{arith}
 use lib.ListN.{length}
-use Rattle.solver.specs.Limits.{blockLimit}
-use Rattle.solver.specs.File.{cellCount}
+use Rattle.solver.specs.File.{sizesOf, blockLimit}
 use Rattle.solver.specs.internal.Working.{Ready, Started}
 use Rattle.solver.proofs.Tables.{counted}
 use Rattle.solver.proofs.Reading.{few-blocks, own-block, row-fits}
@@ -148,7 +147,7 @@ round-returns-4 t c =
 
 abbrev solve-last-Inv-loop : solve-last-lts.InvT-loop
 solve-last-Inv-loop file sizes sets left limit work₀ rounds₀ status₀ s₀ work rounds status s =
-    (0 < left) × (left ≤ sizes .blocks) × (length sets ≡ blockLimit) × (length work₀ ≡ cellCount file)
+    (0 < left) × (left ≤ sizes .blocks) × (length sets ≡ blockLimit) × (length work₀ ≡ sizesOf file .cells)
     × Started file (sizes .blocks - left) sets
     × Ready file sizes work
     × Going file sets (sizes .blocks - left) rounds₀ limit s rounds

@@ -3,9 +3,8 @@ use mathlib.Core.Bool.{Bool}
 use Prim.Native.Nat.{ℕ}
 use native.Mathlib.Omega.{arith}
 use lib.Dec.{eqb}
-use Rattle.sets.specs.Size.{wordCount}
 use Rattle.sets.specs.States.{start}
-use Rattle.sets.specs.Words.{words}
+use Rattle.sets.specs.Words.{words, wordCount}
 use Rattle.solver.proofs.Tables.{counted}
 use Rattle.solver.proofs.Reading.{opens-read, few-blocks, block-inside}
 use Rattle.solver.proofs.rounds.start_of.Statement.{statement}

@@ -3,9 +3,8 @@ use mathlib.Core.Path.{_≡_, _∙_}
 use Prim.Native.Nat.{_-_, _≤_}
 use native.Mathlib.Omega.{arith}
 use lib.ListN.{length, length-set}
-use Rattle.solver.specs.Limits.{blockLimit}
-use Rattle.solver.specs.File.{stateCount, blockCount}
-use Rattle.solver.specs.internal.Working.{Holds, starting}
+use Rattle.solver.specs.File.{sizesOf, blockLimit}
+use Rattle.solver.specs.internal.Working.{HoldsRows, starting}
 use Rattle.solver.proofs.Tables.{counted}
 use Rattle.solver.proofs.Reading.{few-blocks, row-fits}
 use Rattle.solver.proofs.Runs.{none-started, more-started}
@@ -13,7 +12,7 @@ use Rattle.solver.proofs.rounds.starts.Statement.{statement}
 use Rattle.solver.proofs.rounds.starts.Tie as tie
 
 abbrev Inv-loop : tie.InvT-loop
-Inv-loop file sizes sets₀ k₀ k-end sets k = (k ≤ sizes .blocks) × (k-end ≡ sizes .blocks) × (length sets ≡ blockLimit) × Holds (stateCount file) sets (starting file k)
+Inv-loop file sizes sets₀ k₀ k-end sets k = (k ≤ sizes .blocks) × (k-end ≡ sizes .blocks) × (length sets ≡ blockLimit) × HoldsRows (sizesOf file .states) sets (starting file k)
 
 abbrev μ-loop : tie.MeasureT-loop
 μ-loop file sizes sets₀ k₀ k-end sets k = k-end - k
@@ -43,7 +42,7 @@ loop-again c =
 
 returns : tie.Need-returns Inv-loop μ-loop
 returns c =
-    let e : c .before .loop .k ≡ blockCount (c .before .before .before .args .file .now) = omega (arith, counted (c .before .before .before .pre .counts) .blocks) in
+    let e : c .before .loop .k ≡ sizesOf (c .before .before .before .args .file .now) .blocks = omega (arith, counted (c .before .before .before .pre .counts) .blocks) in
     rw e at (c .before .loop .inv .3)
 
 pub starts-spec : {M : Type 1} → statement M

@@ -6,8 +6,8 @@ use native.Mathlib.Nat.{mul-le-mul}
 use native.Mathlib.Omega.{arith}
 use borrow.Author.Needs.{needs}
 use lib.ListN.{length}
-use Rattle.sets.specs.Size.{stateLimit}
-use Rattle.cases.specs.Limits.{nodeLimit}
+use Rattle.sets.specs.Words.{stateLimit}
+use Rattle.cases.specs.File.{nodeLimit}
 use Rattle.translate.specs.Bytes.{blockNumbers}
 use Rattle.translate.specs.internal.Shapes.{shapeBlocks}
 use Rattle.translate.proofs.BlockParts.{length-of-binder, wrote-block, wrote-no-block}

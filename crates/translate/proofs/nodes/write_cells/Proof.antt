@@ -7,7 +7,7 @@ use native.Mathlib.Omega.{arith}
 use lib.ListN.{length}
 use Rattle.sets.specs.Lists.{numbersFrom}
 use Rattle.translate.specs.internal.Writing.{shapeCell}
-use Rattle.cases.specs.Limits.{transitionLimit}
+use Rattle.cases.specs.File.{transitionLimit}
 use Rattle.translate.specs.internal.Parts.{WroteCells, distinctIn}
 use Rattle.translate.proofs.ShapeLaws.{wrote-no-cells, wrote-cell}
 use Rattle.translate.proofs.nodes.write_cells.Statement.{statement}

@@ -4,7 +4,7 @@ use mathlib.Core.List.{List}
 use Prim.Native.Nat.{ℕ, _+_, _*_, _-_, _≤_}
 use native.Mathlib.Omega.{arith}
 use Rattle.cases.specs.declared.Transition.{Transition}
-use Rattle.cases.specs.Limits.{transitionLimit}
+use Rattle.cases.specs.File.{transitionLimit}
 use Rattle.translate.specs.internal.Parts.{distinctIn}
 use Rattle.translate.proofs.TotalLaws.{stateTotal, states-none, states-more}
 use Rattle.translate.proofs.totals.node_total.Statement.{statement}

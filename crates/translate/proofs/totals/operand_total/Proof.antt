@@ -3,9 +3,9 @@ use mathlib.Core.Path.{_≡_}
 use mathlib.Core.List.{List}
 use Prim.Native.Nat.{ℕ, _+_, _*_, _-_, _≤_}
 use native.Mathlib.Omega.{arith}
-use Rattle.sets.specs.Size.{stateLimit}
+use Rattle.sets.specs.Words.{stateLimit}
 use Rattle.cases.specs.declared.Transition.{Transition}
-use Rattle.cases.specs.Limits.{transitionLimit}
+use Rattle.cases.specs.File.{transitionLimit}
 use Rattle.translate.specs.internal.Parts.{distinctIn}
 use Rattle.translate.proofs.TotalLaws.{nodeTotal, nodes-none, nodes-more}
 use Rattle.translate.proofs.totals.operand_total.Statement.{statement}

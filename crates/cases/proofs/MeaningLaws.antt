@@ -11,7 +11,7 @@ use lib.Dec.{T, eqb, eqb→eq, eqb-refl, T-not, not-T}
 use lib.ListN.{length, getD, take, replicate, length-replicate}
 use Rattle.sets.specs.Lists.{numbersFrom, every, forSome}
 use Rattle.sets.specs.States.{States, has, Subset, start, Extremal, Valuation, update, Sized}
-use Rattle.sets.specs.computed.Iteration.{Worked, iterate, same}
+use Rattle.sets.specs.computed.Iteration.{Worked, repeated, same}
 use Rattle.sets.proofs.Lists.{length-map-range, getD-map-range, and-left, and-right, and-both, or-left, or-right, Implies, kept-implies}
 use Rattle.sets.proofs.Order.{before-eq, subset-antisym, extremal-map, extremal-one}
 use Rattle.sets.proofs.FixedPoint.{extremal, fixed-mono}
@@ -192,15 +192,15 @@ module _ (n : ℕ) (ts : List Transition) where
   bodyOf i a ρ v = (meaning n ts a (update ρ i v), 0)
 
 -- a loop of steps that keep the number of states keeps it
-iterate-sized : (n : ℕ) (f : States → Worked) → ((v : States) → length v ≡ n → length (f v .0) ≡ n)
-    → (m : ℕ) (v : States) → length v ≡ n → length (iterate m f v .0) ≡ n
-unfolding iterate
-iterate-sized n f h zero v o = o
-iterate-sized n f h (suc m) v o = go (same (f v .0) v) refl (iterate-sized n f h m (f v .0) (h v o))
+repeated-sized : (n : ℕ) (f : States → Worked) → ((v : States) → length v ≡ n → length (f v .0) ≡ n)
+    → (m : ℕ) (v : States) → length v ≡ n → length (repeated m f v .0) ≡ n
+unfolding repeated
+repeated-sized n f h zero v o = o
+repeated-sized n f h (suc m) v o = go (same (f v .0) v) refl (repeated-sized n f h m (f v .0) (h v o))
   where
-    go : (b : Bool) → same (f v .0) v ≡ b → length (iterate m f (f v .0) .0) ≡ n → length (iterate (suc m) f v .0) ≡ n
-    go true e l = rw (e, iterate) o
-    go false e l = rw (e, iterate) l
+    go : (b : Bool) → same (f v .0) v ≡ b → length (repeated m f (f v .0) .0) ≡ n → length (repeated (suc m) f v .0) ≡ n
+    go true e l = rw (e, repeated) o
+    go false e l = rw (e, repeated) l
 
 -- The meaning has n states.
 pub meaning-sized : (n : ℕ) (ts : List Transition) (a : Formula) (ρ : Valuation) → Sized n ρ → length (meaning n ts a ρ) ≡ n
@@ -213,7 +213,7 @@ meaning-sized n ts (Box α a) ρ r = length-map-range _ 0 n
 meaning-sized n ts (Diamond α a) ρ r = length-map-range _ 0 n
 meaning-sized n ts (Variable i) ρ r = r i
 meaning-sized n ts (Fix sign i a) ρ r =
-    iterate-sized n (bodyOf n ts i a ρ) (λ v o. meaning-sized n ts a (update ρ i v) (update-sized ρ i v r o)) (suc n) (start n sign) (length-replicate n sign)
+    repeated-sized n (bodyOf n ts i a ρ) (λ v o. meaning-sized n ts a (update ρ i v) (update-sized ρ i v r o)) (suc n) (start n sign) (length-replicate n sign)
 
 -- ---- the meaning grows
 
@@ -335,10 +335,10 @@ module _ (n : ℕ) (ts : List Transition) where
   -- a binder's set, where the body's meaning is known for every set: the iteration stops at the least or greatest fixed point
   only-fix : (sign : Bool) (i : ℕ) (a : Formula) (ρ : Valuation) → Sized n ρ
       → ((u : States) → length u ≡ n → Only (Means n ts a (update ρ i u)) (meaning n ts a (update ρ i u)))
-      → Only (Extremal n sign (λ u. Means n ts a (update ρ i u) u)) (iterate (suc n) (bodyOf n ts i a ρ) (start n sign) .0)
+      → Only (Extremal n sign (λ u. Means n ts a (update ρ i u) u)) (repeated (suc n) (bodyOf n ts i a ρ) (start n sign) .0)
   only-fix sign i a ρ r body = record { holds = least; one = λ v m. extremal-one m least }
     where
-      least : Extremal n sign (λ u. Means n ts a (update ρ i u) u) (iterate (suc n) (bodyOf n ts i a ρ) (start n sign) .0)
+      least : Extremal n sign (λ u. Means n ts a (update ρ i u) u) (repeated (suc n) (bodyOf n ts i a ρ) (start n sign) .0)
       least = extremal-map
           (λ u o e. subst (Means n ts a (update ρ i u)) e (body u o .holds))
           (λ u o m. sym (body u o .one u m))

@@ -31,7 +31,7 @@ use Rattle.translate.proofs.Counts.{length-blocks}
 use Rattle.translate.proofs.Unfold.{and-operands, or-operands, box-operand, diamond-operand, fix-operand, cells-ordered}
 use Rattle.routes.proofs.Shallow.{shallow, node-set}
 use Rattle.routes.proofs.SolvedBlocks.{first-set, Later, later}
-use Rattle.routes.proofs.IterateLaws.{iterate-same}
+use Rattle.routes.proofs.IterateLaws.{repeated-same}
 
 -- the blocks of binders are k, k + 1, ..
 abbrev pub Numbered : (ℕ → ℕ) → ℕ → List ℕ → Type 0
@@ -129,7 +129,7 @@ module _ (n : ℕ) (states : 0 < n) (ts : List Transition) (low : T (every (λ t
   one sign v x p i k bs w ρ o =
       ap (solved n cs (b ∷ ds) k ρ .0) own
       ∙ first-set n cs b ds k ρ
-      ∙ iterate-same (λ u. length u ≡ n) (turn n cs b ds k ρ) (bodyOf n ts v x (ofBlocks ρ))
+      ∙ repeated-same (λ u. length u ≡ n) (turn n cs b ds k ρ) (bodyOf n ts v x (ofBlocks ρ))
       (λ u l. meaning-sized n ts x (update (ofBlocks ρ) v u) (update-sized (ofBlocks ρ) v u (λ j. o (block j)) l))
       turned (suc n) (start n sign) (length-replicate n sign)
     where

@@ -22,7 +22,7 @@ use Rattle.cases.specs.computed.Meanings.{meaning}
 use Rattle.cases.proofs.MeaningLaws.{bodyOf, meaning-sized, meaning-mono}
 use Rattle.routes.specs.Direct.{FromTwo, FromOne, Direct}
 use Rattle.routes.specs.computed.Worked.{worked}
-use Rattle.routes.proofs.IterateLaws.{iterate-same}
+use Rattle.routes.proofs.IterateLaws.{repeated-same}
 
 -- ---- outcomes from those of the operands
 
@@ -97,7 +97,7 @@ module _ (n : ℕ) (ts : List Transition) where
   worked-meaning (Diamond α a) ρ = ap (λ (x : States). setOf n (diamondIn n ts α x)) (worked-meaning a ρ)
   worked-meaning (Variable i) ρ = refl
   worked-meaning (Fix sign i a) ρ =
-      iterate-same (λ v. Unit {0}) (λ v. worked n ts a (update ρ i v)) (bodyOf n ts i a ρ) (λ v u. u) (λ v u. worked-meaning a (update ρ i v)) (suc n) (start n sign) tt
+      repeated-same (λ v. Unit {0}) (λ v. worked n ts a (update ρ i v)) (bodyOf n ts i a ρ) (λ v u. u) (λ v u. worked-meaning a (update ρ i v)) (suc n) (start n sign) tt
 
   -- So it has n states,
   pub worked-sized : (a : Formula) (ρ : Valuation) → Sized n ρ → length (worked n ts a ρ .0) ≡ n

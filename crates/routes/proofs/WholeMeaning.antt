@@ -7,7 +7,7 @@ use native.Mathlib.Numerals.{add-one}
 use borrow.Author.Tests.{eq-eqb}
 use lib.Dec.{T, eqb, eqb·suc-suc}
 use Rattle.sets.specs.States.{States, has, start, Extremal, Valuation, update, Sized}
-use Rattle.sets.specs.computed.Iteration.{Worked, iterate}
+use Rattle.sets.specs.computed.Iteration.{Worked, repeated}
 use Rattle.sets.proofs.Lists.{and-right}
 use Rattle.sets.proofs.Valuation.{update-sized}
 use Rattle.cases.specs.Formula.{Formula, False, True, And, Or, Box, Diamond, Variable, Fix}
@@ -69,7 +69,7 @@ module _ (n : ℕ) (ts : List Transition) where
   meaning-raise (Diamond α a) ρ = ap (λ (x : States). setOf n (diamondIn n ts α x)) (meaning-raise a ρ)
   meaning-raise (Variable i) ρ = refl
   meaning-raise (Fix sign i a) ρ =
-      ap (λ (f : States → Worked). iterate (suc n) f (start n sign) .0) (λ t v. (body v (meaning-raise a (update ρ (i + 1) v)) t, 0))
+      ap (λ (f : States → Worked). repeated (suc n) f (start n sign) .0) (λ t v. (body v (meaning-raise a (update ρ (i + 1) v)) t, 0))
     where
       body : (v : States) → meaning n ts (raise a) (update ρ (i + 1) v) ≡ meaning n ts a (λ j. update ρ (i + 1) v (j + 1))
           → meaning n ts (raise a) (update ρ (i + 1) v) ≡ meaning n ts a (update (λ j. ρ (j + 1)) i v)

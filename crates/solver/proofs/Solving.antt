@@ -9,7 +9,7 @@ use lib.ListN.{length, length-replicate}
 use Rattle.sets.specs.Lists.{every}
 use Rattle.sets.specs.States.{States, Subset, start, Extremal, Valuation, update, Sized}
 use Rattle.sets.specs.Loop.{Loop}
-use Rattle.sets.specs.computed.Iteration.{Worked, iterate}
+use Rattle.sets.specs.computed.Iteration.{Worked, repeated}
 use Rattle.sets.proofs.Lists.{and-left, and-right}
 use Rattle.sets.proofs.Order.{extremal-map, extremal-one}
 use Rattle.sets.specs.internal.Functions.{stepOf}
@@ -46,7 +46,7 @@ module _ (n : ℕ) (cs : List Cell) where
 
   -- the loop of block k, and its outcome
   abbrev pub looped : Block → List Block → ℕ → Valuation → Worked
-  looped b bs k ρ = iterate (suc n) (turn b bs k ρ) (start n (b .sign))
+  looped b bs k ρ = repeated (suc n) (turn b bs k ρ) (start n (b .sign))
 
   -- the first block takes the loop's set, and the later ones are solved with it
   pub solved-cons : (b : Block) (bs : List Block) (k : ℕ) (ρ : Valuation)

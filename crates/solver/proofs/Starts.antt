@@ -8,7 +8,7 @@ use native.Mathlib.Omega.{arith}
 use native.Mathlib.Decide.{ℕ-discrete}
 use lib.ListN.{length, getD, set, replicate, length-replicate}
 use Rattle.sets.specs.States.{States, start, Valuation, update, allEmpty, Sized}
-use Rattle.sets.specs.computed.Iteration.{Worked, iterate}
+use Rattle.sets.specs.computed.Iteration.{Worked, repeated}
 use Rattle.solver.specs.Cells.{Cell, And, Or, Variable, value, Values, part}
 use Rattle.solver.specs.computed.Solved.{workOut, evaluate, solved, run}
 use Rattle.solver.specs.File.{sizesOf, Block, blocks, operands, entryCell, cells}
@@ -76,7 +76,7 @@ module _ (n d : ℕ) (cs : List Cell) (named : Named d cs) where
       → ((v : States) → Alike bs (suc k) (update ρ k v) (update σ k v))
       → looped n cs b bs k ρ ≡ looped n cs b bs k σ
   unfolding turn
-  looped-start b bs k ρ σ alike = ap (λ (f : States → Worked). iterate (suc n) f (start n (b .sign))) (fun-ext λ v.
+  looped-start b bs k ρ σ alike = ap (λ (f : States → Worked). repeated (suc n) f (start n (b .sign))) (fun-ext λ v.
       ap₂ (λ (vs : List Bool) (r : ℕ). (part n (b .first) vs, r)) (evaluate-start d _ _ (alike v .0) cs named) (alike v .1))
 
   pub solved-start : (bs : List Block) (k : ℕ) → k + length bs ≡ d → (ρ σ : Valuation) → Agree k ρ σ → Alike bs k ρ σ

@@ -4,7 +4,7 @@ use mathlib.Core.List.{List}
 use Prim.Native.Nat.{ℕ, suc}
 use lib.ListN.{replicate}
 use Rattle.sets.specs.States.{States, start, Valuation, update}
-use Rattle.sets.specs.computed.Iteration.{iterate}
+use Rattle.sets.specs.computed.Iteration.{repeated}
 use Rattle.cases.specs.Formula.{Formula, False, True, And, Or, Box, Diamond, Variable, Fix}
 use Rattle.cases.specs.File.{Transition}
 use Rattle.cases.specs.Meaning.{setOf, intersection, union, boxIn, diamondIn}
@@ -19,4 +19,4 @@ module _ (n : ℕ) (ts : List Transition) where
   meaning (Box α a) ρ = setOf n (boxIn n ts α (meaning a ρ))
   meaning (Diamond α a) ρ = setOf n (diamondIn n ts α (meaning a ρ))
   meaning (Variable i) ρ = ρ i
-  meaning (Fix sign i a) ρ = iterate (suc n) (λ v. (meaning a (update ρ i v), 0)) (start n sign) .0
+  meaning (Fix sign i a) ρ = repeated (suc n) (λ v. (meaning a (update ρ i v), 0)) (start n sign) .0

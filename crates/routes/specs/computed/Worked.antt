@@ -5,7 +5,7 @@ use mathlib.Core.List.{List}
 use Prim.Native.Nat.{ℕ, suc, _+_}
 use lib.ListN.{replicate}
 use Rattle.sets.specs.States.{start, Valuation, update}
-use Rattle.sets.specs.computed.Iteration.{Worked, iterate}
+use Rattle.sets.specs.computed.Iteration.{Worked, repeated}
 use Rattle.cases.specs.Formula.{Formula, False, True, And, Or, Box, Diamond, Variable, Fix}
 use Rattle.cases.specs.declared.Transition.{Transition}
 use Rattle.cases.specs.Meaning.{setOf, boxIn, diamondIn, intersection, union}
@@ -20,4 +20,4 @@ module _ (n : ℕ) (ts : List Transition) where
   worked (Box α a) ρ = let x : Worked = worked a ρ in (setOf n (boxIn n ts α (x .0)), x .1)
   worked (Diamond α a) ρ = let x : Worked = worked a ρ in (setOf n (diamondIn n ts α (x .0)), x .1)
   worked (Variable i) ρ = (ρ i, 0)
-  worked (Fix sign i a) ρ = iterate (suc n) (λ v. worked a (update ρ i v)) (start n sign)
+  worked (Fix sign i a) ρ = repeated (suc n) (λ v. worked a (update ρ i v)) (start n sign)

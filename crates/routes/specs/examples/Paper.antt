@@ -4,7 +4,7 @@ use mathlib.Core.List.{List, [], _∷_, map}
 use Prim.Native.Nat.{ℕ}
 use Rattle.sets.specs.Lists.{numbersFrom, every, forSome}
 use Rattle.sets.specs.States.{size, update}
-use Rattle.sets.specs.computed.Iteration.{iterate, same}
+use Rattle.sets.specs.computed.Iteration.{repeated, same}
 use Rattle.solver.specs.Cells.{value, operandsOf}
 use Rattle.solver.specs.computed.Solved.{evaluate, workOut, solved, run}
 use Rattle.solver.specs.File.{u32, blocks, operands, entries, cells, entryCell}
@@ -49,7 +49,7 @@ paper =
 
 -- what a route answers, with all that this computes with
 unfoldable pub answer : Route → Example → Outcome
-unfolding routeOutcome outcomeBy routeConditions runConditions Route·tooShort Route·exceeds runOf worked iterate update
+unfolding routeOutcome outcomeBy routeConditions runConditions Route·tooShort Route·exceeds runOf worked repeated update
     same size numbersFrom every forSome accepts nodes u16 transitionTable actionTable formulaTable trees actionAt formulaAt caseOf
     sameTransition copies copiesBefore keep distinct caseConditions firstOf layoutConditions modelConditions formulaConditions
     tooSmall otherVersion badCount badOffset badLength badModel badActions badFormula boundOk badVariable binderCount blockTotal

@@ -17,8 +17,8 @@ abbrev pub Worked : Type 0
 Worked = States × ℕ
 
 -- The loop over a function, for at most `fuel` turns: the set where it stops, and the rounds.
-unfoldable pub iterate : ℕ → (States → Worked) → States → Worked
-iterate zero f v = (v, 0)
-iterate (suc fuel) f v =
+unfoldable pub repeated : ℕ → (States → Worked) → States → Worked
+repeated zero f v = (v, 0)
+repeated (suc fuel) f v =
     let w : Worked = f v in
-    elim (same (w .0) v) [ true ↦ (v, w .1 + 1) | false ↦ let u : Worked = iterate fuel f (w .0) in (u .0, w .1 + 1 + u .1) ]
+    elim (same (w .0) v) [ true ↦ (v, w .1 + 1) | false ↦ let u : Worked = repeated fuel f (w .0) in (u .0, w .1 + 1 + u .1) ]

@@ -5,7 +5,7 @@ use mathlib.Core.List.{List, [], _∷_}
 use Prim.Native.Nat.{ℕ, zero, suc}
 use lib.ListN.{length, getD, set, replicate}
 use Rattle.sets.specs.States.{start, Valuation, update, allEmpty}
-use Rattle.sets.specs.computed.Iteration.{Worked, iterate}
+use Rattle.sets.specs.computed.Iteration.{Worked, repeated}
 use Rattle.solver.specs.Cells.{Cell, And, value, part}
 use Rattle.solver.specs.File.{Block, sizesOf, blocks, cells}
 
@@ -27,7 +27,7 @@ module _ (n : ℕ) (cs : List Cell) where
   unfoldable pub solved : List Block → ℕ → Valuation → Reached
   solved [] k ρ = (ρ, 0)
   solved (b ∷ bs) k ρ =
-      let w : Worked = iterate (suc n) (λ v. let r : Reached = solved bs (suc k) (update ρ k v) in (part n (b .first) (evaluate cs (r .0)), r .1)) (start n (b .sign)) in
+      let w : Worked = repeated (suc n) (λ v. let r : Reached = solved bs (suc k) (update ρ k v) in (part n (b .first) (evaluate cs (r .0)), r .1)) (start n (b .sign)) in
       let r : Reached = solved bs (suc k) (update ρ k (w .0)) in
       (r .0, w .1)
 

@@ -5,7 +5,7 @@ use Prim.Native.Nat.{ℕ, _+_, _-_, _*_, _/_, _%_, _^_}
 use lib.ListN.{set, take, replicate}
 use Rattle.sets.specs.Lists.{numbersFrom, every, forSome, sum}
 use Rattle.sets.specs.States.{size, update}
-use Rattle.sets.specs.computed.Iteration.{iterate, same}
+use Rattle.sets.specs.computed.Iteration.{repeated, same}
 use Rattle.sets.specs.Words.{words, fromBits, wordCount, stateLimit}
 use Rattle.solver.specs.Cells.{value}
 use Rattle.solver.specs.computed.Solved.{evaluate, workOut, solved, run}
@@ -185,7 +185,7 @@ examples =
 
 -- what solve answers of an example, with all that this computes with
 pub answer : Example → Outcome
-unfolding solveOutcome solveConditions solveRefusal firstOf outcomeBy badLayout badTable solveTooShort solveExceeds run report solved iterate evaluate workOut value update
+unfolding solveOutcome solveConditions solveRefusal firstOf outcomeBy badLayout badTable solveTooShort solveExceeds run report solved repeated evaluate workOut value update
     u32 blocks operands entries entryCell cells layoutOk tablesOk blockOk cellOk arity operandsBefore sum numbersFrom every forSome same size
 answer x = solveOutcome (x .0) (x .1) (x .2) (x .3)
 

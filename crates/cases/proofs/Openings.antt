@@ -7,7 +7,7 @@ use native.Mathlib.Omega.{arith}
 use lib.ListN.{drop}
 use Rattle.sets.specs.Lists.{every}
 use Rattle.sets.specs.Refusals.{numbersOf, firstOf, NoneHolds, FirstHolds}
-use Rattle.sets.proofs.Refusals.{none-of-first, one-of-first, member, first-holds, first-answered, none-first}
+use Rattle.sets.proofs.Refusals.{none-of-first, one-of-first, answered-member, answered-first, answered-none}
 use Rattle.cases.specs.declared.Cause.{Cause}
 use Rattle.cases.specs.declared.Cause.the-variants.{Small, Version, Count, Offset, Length, Model, Actions, Formula, Variable, Depth}
 use Rattle.cases.specs.declared.Opened.{Opened}
@@ -85,16 +85,13 @@ module _ (b : List ℕ) {answer : Opened} (o : Opens (caseRefusal b) (headerOf b
   -- A refusal has the number of one of the case's conditions.
   pub one-number : ¬ (openedNumber answer ≡ 0) → List·Memᴰ (openedNumber answer) (numbersOf (caseConditions b))
   unfolding caseRefusal
-  one-number d = rw (o .number) (member (caseConditions b) (λ z. d (o .number ∙ z)))
+  one-number = answered-member (caseConditions b) (o .number)
 
   -- It is that of the first condition that holds; a header says that none does.
   pub first-condition : (k : ℕ) → ¬ (k ≡ 0) → openedNumber answer ≡ k ↔ FirstHolds (caseConditions b) k
   unfolding caseRefusal
-  first-condition k d = (
-    λ h. let z = sym (o .number) ∙ h in rw z at (first-holds (caseConditions b) (λ y. d (sym z ∙ y))),
-    λ f. o .number ∙ first-answered (caseConditions b) k f,
-  )
+  first-condition = answered-first (caseConditions b) (o .number)
 
   pub no-condition : openedNumber answer ≡ 0 ↔ NoneHolds (caseConditions b)
   unfolding caseRefusal caseConditions layoutConditions modelConditions formulaConditions every
-  no-condition = rw (o .number) (none-first (caseConditions b) tt)
+  no-condition = answered-none (caseConditions b) (o .number) tt

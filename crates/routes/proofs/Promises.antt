@@ -14,7 +14,7 @@ use Rattle.sets.specs.Lists.{every}
 use Rattle.sets.specs.States.{States, Valuation, Sized}
 use Rattle.sets.specs.Words.{bit, Marks, wordCount}
 use Rattle.sets.specs.Refusals.{numbersOf, NoneHolds, FirstHolds, refused, byRefusal, Outcome, GivesMarks, Spent, reportOf}
-use Rattle.sets.proofs.Refusals.{apart, member, first-holds, first-answered, none-first, refusing}
+use Rattle.sets.proofs.Refusals.{apart, refusing, answered-member, answered-first, answered-none}
 use Rattle.sets.proofs.Words.{take-words, shows}
 use Rattle.solver.specs.Cells.{Values}
 use Rattle.solver.specs.File.{sizesOf, cells}
@@ -108,18 +108,15 @@ module _ {R : Route} {b : List ℕ} {l : Lent} {limit : ℕ} {o : Outcome} {mark
       ⊎ ((k : ℕ) × List·Memᴰ k (numbersOf (routeConditions R b l limit)) × (o ≡ refused k))
   one-answer = by-cases (ℕ-discrete (o .refusal) 0)
       inl
-      (λ d. inr (_, member (routeConditions R b l limit) (λ z. d (number-ran (ran .by) ∙ z)), refused-with (ran .by) d))
+      (λ d. inr (_, answered-member _ (number-ran (ran .by)) d, refused-with (ran .by) d ∙ ap refused (sym (number-ran (ran .by)))))
 
   -- The number is that of the first condition that holds, of 1 to 10, then 13, then 14; a report says that none does.
   pub first-condition : (k : ℕ) → ¬ (k ≡ 0) → o .refusal ≡ k ↔ FirstHolds (routeConditions R b l limit) k
-  first-condition k d = (
-    λ h. let z = sym (number-ran (ran .by)) ∙ h in rw z at (first-holds (routeConditions R b l limit) (λ y. d (sym z ∙ y))),
-    λ f. number-ran (ran .by) ∙ first-answered (routeConditions R b l limit) k f,
-  )
+  first-condition = answered-first (routeConditions R b l limit) (number-ran (ran .by))
 
   pub no-condition : GivesMarks o ↔ NoneHolds (routeConditions R b l limit)
   unfolding routeConditions runConditions caseConditions layoutConditions modelConditions formulaConditions every
-  no-condition = rw (number-ran (ran .by)) (none-first (routeConditions R b l limit) tt)
+  no-condition = answered-none (routeConditions R b l limit) (number-ran (ran .by)) tt
 
   pub never-11-12 : ¬ (o .refusal ≡ 11) × ¬ (o .refusal ≡ 12)
   unfolding routeConditions runConditions caseConditions layoutConditions modelConditions formulaConditions every

@@ -109,6 +109,17 @@ none-first [] t = (λ e. tt, λ n. refl)
 none-first ((n, true) ∷ cs) t = (λ e. absurd (without-first 0 n true cs t e), λ x. absurd x)
 none-first ((n, false) ∷ cs) t = none-first cs (without-rest 0 n false cs t)
 
+-- Of a number that is answered by conditions: it is 0 or that of one of them, the first that holds, and 0 says that none does.
+module _ (cs : Conditions) {n : ℕ} (e : n ≡ firstOf cs) where
+  pub answered-member : ¬ (n ≡ 0) → List·Memᴰ n (numbersOf cs)
+  answered-member d = rw e (member cs (λ z. d (e ∙ z)))
+
+  pub answered-first : (k : ℕ) → ¬ (k ≡ 0) → n ≡ k ↔ FirstHolds cs k
+  answered-first k d = (λ h. let z = sym e ∙ h in rw z at (first-holds cs (λ y. d (sym z ∙ y))), λ f. e ∙ first-answered cs k f)
+
+  pub answered-none : Without 0 cs → n ≡ 0 ↔ NoneHolds cs
+  answered-none t = rw e (none-first cs t)
+
 -- k is answered if its condition holds and none before it, where no other has its number
 module _ (cs : Conditions) (k : ℕ) (c : Bool) (ds : Conditions) (some : ¬ (0 ≡ k)) where
   pub reached : Without 0 cs → Without k cs → Without k ds → firstOf (cs ++ ((k, c) ∷ ds)) ≡ k ↔ (firstOf cs ≡ 0) × (c ≡ true)

@@ -15,7 +15,7 @@ use Rattle.sets.specs.Words.{bit, Marks, wordCount}
 use Rattle.sets.specs.States.{Valuation, Sized}
 use Rattle.sets.specs.Refusals.{numbersOf, NoneHolds, FirstHolds, refused, Outcome, GivesMarks, Spent, reportOf}
 use Rattle.sets.proofs.Words.{take-words, shows}
-use Rattle.sets.proofs.Refusals.{member, first-holds, first-answered, none-first}
+use Rattle.sets.proofs.Refusals.{answered-member, answered-first, answered-none}
 use Rattle.solver.specs.File.{sizesOf, blocks, cells}
 use Rattle.solver.specs.Conditions.{WellFormed}
 use Rattle.solver.specs.Cells.{Values}
@@ -82,20 +82,17 @@ module _ {e work marks : List ℕ} {limit : ℕ} {o : Outcome} {work′ marks′
   unfolding solveRefusal
   one-answer = by-cases (ℕ-discrete (o .refusal) 0)
       inl
-      (λ d. inr (_, rw (answered-number a) (member _ (λ z. d (answered-number a ∙ z))), answered-refusal a d))
+      (λ d. inr (_, answered-member _ (answered-number a) d, answered-refusal a d))
 
   -- The number of the first condition that holds is answered, and no other;
   pub first-condition : (k : ℕ) → ¬ (k ≡ 0) → o .refusal ≡ k ↔ FirstHolds (solveConditions e (length work) (length marks) limit) k
   unfolding solveRefusal
-  first-condition k d = (
-    λ h. let z = sym (answered-number a) ∙ h in rw z at (first-holds _ (λ y. d (sym z ∙ y))),
-    λ f. answered-number a ∙ first-answered _ k f,
-  )
+  first-condition = answered-first _ (answered-number a)
 
   -- a report says that none holds.
   pub no-condition : GivesMarks o ↔ NoneHolds (solveConditions e (length work) (length marks) limit)
   unfolding solveRefusal solveConditions every
-  no-condition = rw (answered-number a) (none-first (solveConditions e (length work) (length marks) limit) tt)
+  no-condition = answered-none (solveConditions e (length work) (length marks) limit) (answered-number a) tt
 
   -- A refusal leaves the marks as they were, and any but 14 the working bytes; 14 leaves each of the c working bytes 0 or 1, and the bytes behind.
   pub refused-unchanged : ¬ GivesMarks o → (marks′ ≡ marks) × (¬ Spent o → work′ ≡ work) × (Spent o → Scratch (sizesOf e .cells) work work′)

@@ -9,7 +9,7 @@ use native.Mathlib.Decide.{ℕ-discrete}
 use lib.ListN.{length, getD, drop}
 use Rattle.sets.specs.Lists.{every}
 use Rattle.sets.specs.Refusals.{numbersOf, NoneHolds, FirstHolds}
-use Rattle.sets.proofs.Refusals.{refusing, member, first-holds, first-answered, none-first}
+use Rattle.sets.proofs.Refusals.{refusing, answered-member, answered-first, answered-none}
 use Rattle.solver.specs.File.{Block, sizesOf, blocks, cells, operands, cellLimit, operandLimit, blocksAt}
 use Rattle.solver.specs.Conditions.{WellFormed}
 use Rattle.cases.specs.Action.{Action}
@@ -74,20 +74,17 @@ module _ {b before after : List ℕ} {number long : ℕ} (t : Translated b befor
   -- The number is that of a condition, or there is none.
   pub one-number : (number ≡ 0) ⊎ List·Memᴰ number (numbersOf (translateConditions b (length before)))
   unfolding translateRefusal
-  one-number = by-cases (ℕ-discrete number 0) inl (λ d. inr (rw (t .answers) (member (translateConditions b (length before)) (rw (t .answers) at d))))
+  one-number = by-cases (ℕ-discrete number 0) inl (λ d. inr (answered-member _ (t .answers) d))
 
   -- That condition holds, and none before it.
   pub first-condition : (k : ℕ) → ¬ (k ≡ 0) → number ≡ k ↔ FirstHolds (translateConditions b (length before)) k
   unfolding translateRefusal
-  first-condition k d = (
-    λ h. let z = sym (t .answers) ∙ h in rw z at (first-holds (translateConditions b (length before)) (λ y. d (sym z ∙ y))),
-    λ f. t .answers ∙ first-answered (translateConditions b (length before)) k f,
-  )
+  first-condition = answered-first _ (t .answers)
 
   -- Where a file is written none holds.
   pub no-condition : number ≡ 0 ↔ NoneHolds (translateConditions b (length before))
   unfolding translateRefusal translateConditions caseConditions layoutConditions modelConditions formulaConditions every
-  no-condition = rw (t .answers) (none-first (translateConditions b (length before)) tt)
+  no-condition = answered-none (translateConditions b (length before)) (t .answers) tt
 
 -- ---- transitions
 

@@ -31,7 +31,7 @@ use Rattle.translate.proofs.Counts.{length-blocks}
 use Rattle.translate.proofs.Unfold.{and-operands, or-operands, box-operand, diamond-operand, fix-operand, cells-ordered}
 use Rattle.routes.proofs.Shallow.{shallow, node-set}
 use Rattle.routes.proofs.SolvedBlocks.{first-set, Later, later}
-use Rattle.routes.proofs.IterateLaws.{repeated-same}
+use Rattle.routes.proofs.RepeatedLaws.{repeated-same}
 
 -- the blocks of binders are k, k + 1, ..
 abbrev pub Numbered : (ℕ → ℕ) → ℕ → List ℕ → Type 0

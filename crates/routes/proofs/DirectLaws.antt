@@ -22,7 +22,7 @@ use Rattle.cases.specs.computed.Meanings.{meaning}
 use Rattle.cases.proofs.MeaningLaws.{bodyOf, meaning-sized, meaning-mono}
 use Rattle.routes.specs.Direct.{FromTwo, FromOne, Direct}
 use Rattle.routes.specs.computed.Worked.{worked}
-use Rattle.routes.proofs.IterateLaws.{repeated-same}
+use Rattle.routes.proofs.RepeatedLaws.{repeated-same}
 
 -- ---- outcomes from those of the operands
 

@@ -10,7 +10,7 @@ pub mod SolvedBlocks
 pub mod Shallow
 pub mod BlockCounts
 pub mod DirectLaws
-pub mod IterateLaws
+pub mod RepeatedLaws
 pub mod TableLaws
 pub mod RootLaws
 pub mod DirectAnswers

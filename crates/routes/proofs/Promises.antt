@@ -103,11 +103,11 @@ module _ {R : Route} {b : List ℕ} {l : Lent} {limit : ℕ} {o : Outcome} {mark
 
   -- ---- Demand 1, of any bytes
 
-  -- One answer: a report, or one number of the conditions, with zeros for verdict, count and rounds.
-  pub one-answer : GivesMarks o
+  -- One answer: the report of a set and of rounds, or one number of the conditions, with zeros for verdict, count and rounds.
+  pub one-answer : ((v : States) × (r : ℕ) × (o ≡ reportOf (caseOf b .initial) v r))
       ⊎ ((k : ℕ) × List·Memᴰ k (numbersOf (routeConditions R b l limit)) × (o ≡ refused k))
   one-answer = by-cases (ℕ-discrete (o .refusal) 0)
-      inl
+      (λ g. inl (runOf R (caseOf b) .0, runOf R (caseOf b) .1, reported (ran .by) g))
       (λ d. inr (_, answered-member _ (number-ran (ran .by)) d, refused-with (ran .by) d ∙ ap refused (sym (number-ran (ran .by)))))
 
   -- The number is that of the first condition that holds, of 1 to 10, then 13, then 14; a report says that none does.

@@ -109,7 +109,7 @@ none-first [] t = (λ e. tt, λ n. refl)
 none-first ((n, true) ∷ cs) t = (λ e. absurd (without-first 0 n true cs t e), λ x. absurd x)
 none-first ((n, false) ∷ cs) t = none-first cs (without-rest 0 n false cs t)
 
--- Of a number that is answered by conditions: it is 0 or that of one of them, the first that holds, and 0 says that none does.
+-- Of a number that is answered by conditions: it is 0 or that of one of them, the first that holds; where none has the number 0, 0 says that none holds.
 module _ (cs : Conditions) {n : ℕ} (e : n ≡ firstOf cs) where
   pub answered-member : ¬ (n ≡ 0) → List·Memᴰ n (numbersOf cs)
   answered-member d = rw e (member cs (λ z. d (e ∙ z)))

@@ -7,7 +7,7 @@ use lib.ListN.{length, getD, take, drop}
 use lib.Dec.{eqb}
 use Rattle.sets.specs.States.{States, has}
 
--- The words that hold a set, and the states that they have room for. The code's WORDS and STATES.
+-- How many words hold a set, and how many states they have room for. The code's WORDS and STATES.
 abbrev pub wordCount : ℕ
 wordCount = 4
 

@@ -12,7 +12,7 @@ use lib.ListN.{length, take, drop, length-map}
 use lib.Seq.{take-append-seam}
 use Rattle.sets.specs.Lists.{every}
 use Rattle.sets.specs.Words.{bit, Marks, wordCount}
-use Rattle.sets.specs.States.{Valuation, Sized}
+use Rattle.sets.specs.States.{States, Valuation, Sized}
 use Rattle.sets.specs.Refusals.{numbersOf, NoneHolds, FirstHolds, refused, Outcome, GivesMarks, Spent, reportOf}
 use Rattle.sets.proofs.Words.{take-words, shows}
 use Rattle.sets.proofs.Refusals.{answered-member, answered-first, answered-none}
@@ -76,12 +76,12 @@ formed-accepted = formed
 
 -- Of whatever keeps the contract of solve:
 module _ {e work marks : List ℕ} {limit : ℕ} {o : Outcome} {work′ marks′ : List ℕ} (a : Answered e work marks limit o work′ marks′) where
-  -- One answer: a report, or the number of one of its conditions, with zeros for verdict, count and rounds.
-  pub one-answer : GivesMarks o
+  -- One answer: the report of a set and of rounds, or the number of one of its conditions, with zeros for verdict, count and rounds.
+  pub one-answer : ((v : States) × (r : ℕ) × (o ≡ reportOf (sizesOf e .initial) v r))
       ⊎ ((k : ℕ) × List·Memᴰ k (numbersOf (solveConditions e (length work) (length marks) limit)) × (o ≡ refused k))
-  unfolding solveRefusal
+  unfolding solveRefusal report
   one-answer = by-cases (ℕ-discrete (o .refusal) 0)
-      inl
+      (λ g. inl (run e .0 0, run e .1, answered-report a g))
       (λ d. inr (_, answered-member _ (answered-number a) d, answered-refusal a d))
 
   -- The number of the first condition that holds is answered, and no other;

@@ -1,8 +1,10 @@
 //! The calls of the proved library.
 
+use crate::plain::routes::Answer;
 use crate::plain::solver::Report;
 
-/// The refusal number (0 if none), the verdict as 1 or 0, the count of marked states, the rounds, and the length of the file.
+/// What translate and solve answer: the refusal number (0 if none), the verdict as 1 or 0, the count of marked states, the rounds, and the
+/// length of the file.
 #[repr(C)]
 #[derive(Clone, Copy, Debug, Default, PartialEq)]
 pub struct Numbers {
@@ -36,8 +38,34 @@ impl From<Result<usize, u8>> for Numbers {
     }
 }
 
+/// What a route answers: the refusal number, the verdict, the count and the rounds as above, the records of the table and the distinct ones.
+#[repr(C)]
+#[derive(Clone, Copy, Debug, PartialEq)]
+pub struct RouteNumbers {
+    pub refusal: u64,
+    pub verdict: u64,
+    pub count: u64,
+    pub rounds: u64,
+    pub records: u64,
+    pub distinct: u64,
+}
+
+impl From<Answer> for RouteNumbers {
+    fn from(answer: Answer) -> RouteNumbers {
+        let Numbers { refusal, verdict, count, rounds, .. } = answer.outcome.into();
+        RouteNumbers {
+            refusal,
+            verdict,
+            count,
+            rounds,
+            records: answer.records as u64,
+            distinct: answer.distinct as u64,
+        }
+    }
+}
+
 mod c {
-    use super::Numbers;
+    use super::{Numbers, RouteNumbers};
 
     extern "C" {
         pub fn bithrowy_translate(case: *const u8, n: usize, file: *mut u8, m: usize) -> Numbers;
@@ -50,7 +78,7 @@ mod c {
             k: usize,
             limit: u64,
         ) -> Numbers;
-        pub fn bithrowy_direct(case: *const u8, n: usize, marks: *mut u64, k: usize, limit: u64) -> Numbers;
+        pub fn bithrowy_direct(case: *const u8, n: usize, marks: *mut u64, k: usize, limit: u64) -> RouteNumbers;
         pub fn bithrowy_equation(
             case: *const u8,
             n: usize,
@@ -61,7 +89,7 @@ mod c {
             marks: *mut u64,
             j: usize,
             limit: u64,
-        ) -> Numbers;
+        ) -> RouteNumbers;
     }
 }
 
@@ -85,12 +113,12 @@ pub fn solve(file: &[u8], work: &mut [u8], marks: &mut [u64], limit: u64) -> Num
     }
 }
 
-pub fn direct(case: &[u8], marks: &mut [u64], limit: u64) -> Numbers {
+pub fn direct(case: &[u8], marks: &mut [u64], limit: u64) -> RouteNumbers {
     // SAFETY: as in `translate`.
     unsafe { c::bithrowy_direct(case.as_ptr(), case.len(), marks.as_mut_ptr(), marks.len(), limit) }
 }
 
-pub fn equation(case: &[u8], file: &mut [u8], work: &mut [u8], marks: &mut [u64], limit: u64) -> Numbers {
+pub fn equation(case: &[u8], file: &mut [u8], work: &mut [u8], marks: &mut [u64], limit: u64) -> RouteNumbers {
     // SAFETY: as in `translate`.
     unsafe {
         c::bithrowy_equation(

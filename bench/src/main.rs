@@ -6,7 +6,7 @@ mod library;
 mod plain;
 
 use inputs::Input;
-use library::Numbers;
+use library::{Numbers, RouteNumbers};
 use std::fs::{self, File};
 use std::hint::black_box;
 use std::path::{Path, PathBuf};
@@ -49,18 +49,25 @@ enum Side {
 
 const SIDES: [Side; 2] = [Side::Proved, Side::Plain];
 
+/// What a call answers: a route over a case six numbers, the others five.
+#[derive(Clone, Copy, Debug, PartialEq)]
+enum Answer {
+    Five(Numbers),
+    Six(RouteNumbers),
+}
+
 #[inline(never)]
-fn run(call: Call, side: Side, case: &[u8], equations: &[u8], lent: &mut Lent) -> Numbers {
+fn run(call: Call, side: Side, case: &[u8], equations: &[u8], lent: &mut Lent) -> Answer {
     let Lent { file, work, marks } = lent;
     match (call, side) {
-        (Call::Direct, Side::Proved) => library::direct(case, marks, LIMIT),
-        (Call::Direct, Side::Plain) => plain::routes::direct(case, marks, LIMIT).into(),
-        (Call::Solve, Side::Proved) => library::solve(equations, work, marks, LIMIT),
-        (Call::Solve, Side::Plain) => plain::solver::solve(equations, work, marks, LIMIT).into(),
-        (Call::Translate, Side::Proved) => library::translate(case, file),
-        (Call::Translate, Side::Plain) => plain::translate::translate(case, file).into(),
-        (Call::Equation, Side::Proved) => library::equation(case, file, work, marks, LIMIT),
-        (Call::Equation, Side::Plain) => plain::routes::equation(case, file, work, marks, LIMIT).into(),
+        (Call::Direct, Side::Proved) => Answer::Six(library::direct(case, marks, LIMIT)),
+        (Call::Direct, Side::Plain) => Answer::Six(plain::routes::direct(case, marks, LIMIT).into()),
+        (Call::Solve, Side::Proved) => Answer::Five(library::solve(equations, work, marks, LIMIT)),
+        (Call::Solve, Side::Plain) => Answer::Five(plain::solver::solve(equations, work, marks, LIMIT).into()),
+        (Call::Translate, Side::Proved) => Answer::Five(library::translate(case, file)),
+        (Call::Translate, Side::Plain) => Answer::Five(plain::translate::translate(case, file).into()),
+        (Call::Equation, Side::Proved) => Answer::Six(library::equation(case, file, work, marks, LIMIT)),
+        (Call::Equation, Side::Plain) => Answer::Six(plain::routes::equation(case, file, work, marks, LIMIT).into()),
     }
 }
 
@@ -113,9 +120,9 @@ fn time_call(call: Call, input: &Input, equations: &[u8]) -> Times {
     let fresh = Lent::of(equations.len());
     let mut wanted = fresh.clone();
     let began = Instant::now();
-    let numbers = run(call, Side::Plain, &input.case, equations, &mut wanted);
+    let right = run(call, Side::Plain, &input.case, equations, &mut wanted);
     let calls = (50_000 / began.elapsed().as_nanos().max(1)).clamp(1, 8) as usize;
-    let mut answers = vec![(Numbers::default(), fresh.clone()); calls];
+    let mut answers = vec![(Answer::Five(Numbers::default()), fresh.clone()); calls];
     sample(|side| {
         for (_, lent) in &mut answers {
             lent.clone_from(&fresh);
@@ -126,7 +133,7 @@ fn time_call(call: Call, input: &Input, equations: &[u8]) -> Times {
         }
         let time = began.elapsed() / calls as u32;
         for (answer, lent) in &answers {
-            assert!(*answer == numbers, "{}: {answer:?} instead of {numbers:?}", input.name);
+            assert!(*answer == right, "{}: {answer:?} instead of {right:?}", input.name);
             assert!(*lent == wanted, "{}: other lent memory", input.name);
         }
         time

@@ -1,6 +1,6 @@
 //! The four calls under test, as a caller sees them.
 
-/// The five numbers that a call answers; verdict, count and rounds are 0 after a refusal.
+/// The five numbers that translate and solve answer; verdict, count and rounds are 0 after a refusal.
 #[repr(C)]
 #[derive(Clone, Copy, Debug, Default, PartialEq, Eq)]
 pub struct Numbers {
@@ -29,6 +29,44 @@ impl Numbers {
     }
 }
 
+/// How many records the transition table of an accepted case has, and how many of them are distinct.
+#[derive(Clone, Copy, Debug, Default, PartialEq, Eq)]
+pub struct Recorded {
+    pub records: u64,
+    pub distinct: u64,
+}
+
+/// The six numbers that a route over a case answers; verdict, count and rounds are 0 after a refusal, and records and
+/// distinct if the case is not accepted.
+#[repr(C)]
+#[derive(Clone, Copy, Debug, Default, PartialEq, Eq)]
+pub struct RouteNumbers {
+    pub refusal: u64,
+    pub verdict: u64,
+    pub count: u64,
+    pub rounds: u64,
+    pub records: u64,
+    pub distinct: u64,
+}
+
+impl RouteNumbers {
+    /// The answer on a case that is not accepted.
+    pub fn refused(refusal: u64) -> RouteNumbers {
+        RouteNumbers { refusal, ..RouteNumbers::default() }
+    }
+
+    /// A report or a refusal, with what is recorded.
+    pub fn with(answer: Numbers, recorded: Recorded) -> RouteNumbers {
+        let Numbers { refusal, verdict, count, rounds, .. } = answer;
+        let Recorded { records, distinct } = recorded;
+        RouteNumbers { refusal, verdict, count, rounds, records, distinct }
+    }
+
+    pub fn recorded(self) -> Recorded {
+        Recorded { records: self.records, distinct: self.distinct }
+    }
+}
+
 /// How many mark words a call needs.
 pub const MARK_WORDS: usize = 4;
 
@@ -44,6 +82,6 @@ pub fn mark_words(set: &[bool]) -> [u64; MARK_WORDS] {
 pub trait Calls {
     fn translate(&self, case: &[u8], file: &mut [u8]) -> Numbers;
     fn solve(&self, file: &[u8], work: &mut [u8], marks: &mut [u64], limit: u64) -> Numbers;
-    fn direct(&self, case: &[u8], marks: &mut [u64], limit: u64) -> Numbers;
-    fn equation(&self, case: &[u8], file: &mut [u8], work: &mut [u8], marks: &mut [u64], limit: u64) -> Numbers;
+    fn direct(&self, case: &[u8], marks: &mut [u64], limit: u64) -> RouteNumbers;
+    fn equation(&self, case: &[u8], file: &mut [u8], work: &mut [u8], marks: &mut [u64], limit: u64) -> RouteNumbers;
 }

@@ -1,12 +1,13 @@
 //! Compares calls with the reference: the numbers answered, the whole of each lent place, and the guards around it.
 
-use crate::calls::{mark_words, Calls, Numbers, MARK_WORDS};
+use crate::calls::{mark_words, Calls, Numbers, Recorded, RouteNumbers, MARK_WORDS};
 use crate::lent::{Lent, Work};
 use crate::meaning;
 use crate::random::Random;
 use crate::reader::{read_case, read_equations};
 use crate::rounds::{self, Solved};
 use crate::tables;
+use std::fmt::Debug;
 
 /// What went wrong, in words.
 pub type Check = Result<(), String>;
@@ -38,6 +39,8 @@ pub struct Tally {
     pub equations: Solving,
     /// Accepted cases in direct.
     pub direct: Solving,
+    /// Accepted cases with recorded copies.
+    pub copied: u64,
 }
 
 impl Tally {
@@ -53,6 +56,7 @@ impl Tally {
         self.calls += other.calls;
         self.equations.add(other.equations.searched, other.equations.capped);
         self.direct.add(other.direct.searched, other.direct.capped);
+        self.copied += other.copied;
     }
 }
 
@@ -82,7 +86,24 @@ enum FileTruth {
 /// What the reference says of a case.
 enum CaseTruth {
     Refused(u64),
-    Accepted { initial: usize, cap: u64, direct: Option<(Vec<bool>, u64)>, file: Vec<u8>, solve: FileTruth },
+    Accepted {
+        initial: usize,
+        recorded: Recorded,
+        cap: u64,
+        direct: Option<(Vec<bool>, u64)>,
+        file: Vec<u8>,
+        solve: FileTruth,
+    },
+}
+
+impl CaseTruth {
+    /// The numbers of records that each answer of a route comes with.
+    fn recorded(&self) -> Recorded {
+        match self {
+            CaseTruth::Refused(_) => Recorded::default(),
+            CaseTruth::Accepted { recorded, .. } => *recorded,
+        }
+    }
 }
 
 /// What solve must answer and leave.
@@ -135,7 +156,7 @@ fn sizes(needed: usize) -> Vec<usize> {
     all
 }
 
-fn same(answer: Numbers, expected: Numbers) -> Check {
+fn same<T: PartialEq + Debug>(answer: T, expected: T) -> Check {
     if answer != expected {
         return Err(format!("answered {answer:?}, expected {expected:?}"));
     }
@@ -168,8 +189,9 @@ impl Comparison<'_> {
                 }
                 Ok(())
             }
-            CaseTruth::Accepted { cap, direct, file, solve, .. } => {
+            CaseTruth::Accepted { recorded, cap, direct, file, solve, .. } => {
                 self.tally.refused[0] += 1;
+                self.tally.copied += (recorded.distinct < recorded.records) as u64;
                 for size in sizes(file.len()) {
                     self.translate(bytes, &truth, size)?;
                 }
@@ -252,6 +274,7 @@ impl Comparison<'_> {
             return Err("reference: the equation file is not read as it was written".to_string());
         }
         let solve = self.file_truth(&file)?;
+        let recorded = tables::recorded(&case.transitions);
 
         let work = case.formula.len() * (case.states + case.transitions.len());
         let cap = (self.budget / work as u64).max(30);
@@ -267,7 +290,7 @@ impl Comparison<'_> {
         if !alike(direct.as_ref().map(|(set, _)| set)) || !alike(search.as_ref()) || !alike(solved) {
             return Err("reference: game, search and rounds give different states".to_string());
         }
-        Ok(CaseTruth::Accepted { initial: case.initial, cap, direct, file, solve })
+        Ok(CaseTruth::Accepted { initial: case.initial, recorded, cap, direct, file, solve })
     }
 
     /// What the reference says of an equation file. The rounds' sets, the parity game and the search must agree.
@@ -326,7 +349,7 @@ impl Comparison<'_> {
         let input = bytes.to_vec();
         let mut marks = Lent::words(size, &mut self.random);
         let answer = self.calls.direct(&input, marks.lend(), limit);
-        same(answer, expected)
+        same(answer, RouteNumbers::with(expected, truth.recorded()))
             .and_then(|()| marks.holds(&written, "mark words"))
             .and_then(|()| unchanged(&input, bytes))
             .map_err(|text| format!("direct, marks {size}, limit {limit}: {text}"))
@@ -366,7 +389,7 @@ impl Comparison<'_> {
         let mut work = Lent::bytes(work_size, &mut self.random);
         let mut marks = Lent::words(marks_size, &mut self.random);
         let answer = self.calls.equation(&input, file.lend(), work.lend(), marks.lend(), limit);
-        same(answer, expected.numbers)
+        same(answer, RouteNumbers::with(expected.numbers, truth.recorded()))
             .and_then(|()| file.holds(written, "file bytes"))
             .and_then(|()| work.holds_work(&expected.work))
             .and_then(|()| marks.holds(&expected.marks, "mark words"))

@@ -1,7 +1,7 @@
 //! Faults in what a call leaves: it answers rightly, and a lent place is spoilt before the caller looks at it. The
 //! comparison must notice each of them.
 
-use crate::calls::{Calls, Numbers};
+use crate::calls::{Calls, Numbers, RouteNumbers};
 use std::cell::Cell;
 use std::ops::Not;
 
@@ -88,12 +88,12 @@ pub struct Faulty<'a> {
 }
 
 impl Faulty<'_> {
-    /// Spoils a place of an answered call if the fault is there.
-    fn spoil<T>(&self, answer: Numbers, at: (Call, Place), lent: &[T], place: &mut [T])
+    /// Spoils a place of a call that answered this refusal number if the fault is there.
+    fn spoil<T>(&self, refusal: u64, at: (Call, Place), lent: &[T], place: &mut [T])
     where
         T: Copy + PartialEq + Not<Output = T>,
     {
-        if at == self.at && self.fault.follows(answer.refusal) {
+        if at == self.at && self.fault.follows(refusal) {
             let right = place.to_vec();
             self.fault.spoil(lent, place);
             self.spoilt.set(self.spoilt.get() + (place != right) as u64);
@@ -105,31 +105,31 @@ impl Calls for Faulty<'_> {
     fn translate(&self, case: &[u8], file: &mut [u8]) -> Numbers {
         let lent = file.to_vec();
         let answer = self.calls.translate(case, file);
-        self.spoil(answer, (Call::Translate, Place::File), &lent, file);
+        self.spoil(answer.refusal, (Call::Translate, Place::File), &lent, file);
         answer
     }
 
     fn solve(&self, file: &[u8], work: &mut [u8], marks: &mut [u64], limit: u64) -> Numbers {
         let (lent_work, lent_marks) = (work.to_vec(), marks.to_vec());
         let answer = self.calls.solve(file, work, marks, limit);
-        self.spoil(answer, (Call::Solve, Place::Work), &lent_work, work);
-        self.spoil(answer, (Call::Solve, Place::Marks), &lent_marks, marks);
+        self.spoil(answer.refusal, (Call::Solve, Place::Work), &lent_work, work);
+        self.spoil(answer.refusal, (Call::Solve, Place::Marks), &lent_marks, marks);
         answer
     }
 
-    fn direct(&self, case: &[u8], marks: &mut [u64], limit: u64) -> Numbers {
+    fn direct(&self, case: &[u8], marks: &mut [u64], limit: u64) -> RouteNumbers {
         let lent = marks.to_vec();
         let answer = self.calls.direct(case, marks, limit);
-        self.spoil(answer, (Call::Direct, Place::Marks), &lent, marks);
+        self.spoil(answer.refusal, (Call::Direct, Place::Marks), &lent, marks);
         answer
     }
 
-    fn equation(&self, case: &[u8], file: &mut [u8], work: &mut [u8], marks: &mut [u64], limit: u64) -> Numbers {
+    fn equation(&self, case: &[u8], file: &mut [u8], work: &mut [u8], marks: &mut [u64], limit: u64) -> RouteNumbers {
         let (lent_file, lent_work, lent_marks) = (file.to_vec(), work.to_vec(), marks.to_vec());
         let answer = self.calls.equation(case, file, work, marks, limit);
-        self.spoil(answer, (Call::Equation, Place::File), &lent_file, file);
-        self.spoil(answer, (Call::Equation, Place::Work), &lent_work, work);
-        self.spoil(answer, (Call::Equation, Place::Marks), &lent_marks, marks);
+        self.spoil(answer.refusal, (Call::Equation, Place::File), &lent_file, file);
+        self.spoil(answer.refusal, (Call::Equation, Place::Work), &lent_work, work);
+        self.spoil(answer.refusal, (Call::Equation, Place::Marks), &lent_marks, marks);
         answer
     }
 }

@@ -122,14 +122,22 @@ fn transitions(random: &mut Random, states: usize, labels: usize, size: Size) ->
         }
     }
     if size == Size::Full {
-        while all.len() < TRANSITIONS {
-            let t =
-                Transition { source: random.below(states), label: random.below(labels), target: random.below(states) };
-            all.push(t);
-        }
+        fill(random, states, labels, &mut all);
     }
     all.truncate(TRANSITIONS);
     all
+}
+
+/// Fills a table to the limit. In half of the tables most records are copies.
+fn fill(random: &mut Random, states: usize, labels: usize, all: &mut Vec<Transition>) {
+    let copied = random.chance(1, 2);
+    while all.len() < TRANSITIONS {
+        let (source, label, target) = (random.below(states), random.below(labels), random.below(states));
+        all.push(Transition { source, label, target });
+        if copied {
+            all.extend((0..random.below(4)).map(|_| random.pick(all)).collect::<Vec<_>>());
+        }
+    }
 }
 
 /// A table of so many action nodes, as whole formulas.

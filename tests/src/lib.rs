@@ -3,6 +3,7 @@
 
 pub mod calls;
 pub mod compare;
+pub mod copies;
 pub mod damage;
 pub mod faults;
 pub mod formats;

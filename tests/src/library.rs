@@ -1,6 +1,6 @@
 //! The built library, through its C entry points.
 
-use bithrowy_tests::calls::{Calls, Numbers};
+use bithrowy_tests::calls::{Calls, Numbers, RouteNumbers};
 
 extern "C" {
     fn bithrowy_translate(case: *const u8, n: usize, file: *mut u8, m: usize) -> Numbers;
@@ -13,7 +13,7 @@ extern "C" {
         k: usize,
         limit: u64,
     ) -> Numbers;
-    fn bithrowy_direct(case: *const u8, n: usize, marks: *mut u64, k: usize, limit: u64) -> Numbers;
+    fn bithrowy_direct(case: *const u8, n: usize, marks: *mut u64, k: usize, limit: u64) -> RouteNumbers;
     fn bithrowy_equation(
         case: *const u8,
         n: usize,
@@ -24,7 +24,7 @@ extern "C" {
         marks: *mut u64,
         j: usize,
         limit: u64,
-    ) -> Numbers;
+    ) -> RouteNumbers;
 }
 
 pub struct Library;
@@ -40,11 +40,11 @@ impl Calls for Library {
         unsafe { bithrowy_solve(file.as_ptr(), file.len(), work.as_mut_ptr(), w, marks.as_mut_ptr(), m, limit) }
     }
 
-    fn direct(&self, case: &[u8], marks: &mut [u64], limit: u64) -> Numbers {
+    fn direct(&self, case: &[u8], marks: &mut [u64], limit: u64) -> RouteNumbers {
         unsafe { bithrowy_direct(case.as_ptr(), case.len(), marks.as_mut_ptr(), marks.len(), limit) }
     }
 
-    fn equation(&self, case: &[u8], file: &mut [u8], work: &mut [u8], marks: &mut [u64], limit: u64) -> Numbers {
+    fn equation(&self, case: &[u8], file: &mut [u8], work: &mut [u8], marks: &mut [u64], limit: u64) -> RouteNumbers {
         let (f, w, m) = (file.len(), work.len(), marks.len());
         let (file, work, marks) = (file.as_mut_ptr(), work.as_mut_ptr(), marks.as_mut_ptr());
         unsafe { bithrowy_equation(case.as_ptr(), case.len(), file, f, work, w, marks, m, limit) }

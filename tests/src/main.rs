@@ -11,7 +11,7 @@ use bithrowy_tests::generate::{self, Size};
 use bithrowy_tests::random::Random;
 use bithrowy_tests::reader::read_case;
 use bithrowy_tests::slips::Reference;
-use bithrowy_tests::{damage, lent, listing, paper, program, rules, shrink, stream, tables};
+use bithrowy_tests::{copies, damage, lent, listing, paper, program, rules, shrink, stream, tables};
 use library::Library;
 use std::path::Path;
 use std::process::exit;
@@ -30,6 +30,8 @@ const SEARCHED_ONE_IN: u64 = 8;
 /// And at most one in so many has more rounds than the cap, in each route. Measured: at most one in 270 (damaged equation
 /// files), and none of the largest cases.
 const CAPPED_ONE_IN: u64 = 100;
+/// Of the accepted cases at least one in so many has recorded copies. Measured: two in three.
+const COPIED_ONE_IN: u64 = 2;
 
 /// What kind of file a test is about.
 #[derive(Clone, Copy, PartialEq, Eq)]
@@ -140,6 +142,12 @@ impl Group {
         self.assert_few_capped();
     }
 
+    /// Many of the accepted cases have recorded copies.
+    fn assert_many_copied(&self) {
+        let (copied, accepted) = (self.tally.copied, self.tally.refused[0]);
+        assert!(copied * COPIED_ONE_IN >= accepted, "{}: only {copied} of {accepted} with copies", self.name);
+    }
+
     /// Prints the group's line. Each file was compared at least twice.
     fn end(self) {
         let tally = self.tally;
@@ -150,13 +158,16 @@ impl Group {
         let text = |(route, solving): (&str, Solving)| {
             format!("{route}: {} searched, {} above the cap", solving.searched, solving.capped)
         };
-        let solved: Vec<String> = self.kind.routes(&tally).into_iter().map(text).collect();
+        let mut accepted: Vec<String> = self.kind.routes(&tally).into_iter().map(text).collect();
+        if self.kind == Kind::Case {
+            accepted.push(format!("with copies: {}", tally.copied));
+        }
         println!(
             "{}: {} files, {} accepted ({}), refused {refused}; {} calls; {:.1} s",
             self.name,
             tally.files(),
             tally.refused[0],
-            solved.join(", "),
+            accepted.join(", "),
             tally.calls,
             self.start.elapsed().as_secs_f64()
         );
@@ -184,6 +195,7 @@ fn main() {
     each_rule(seed, Kind::Equations, "equation files, each rule of 11 and 12 and pairs");
     cases(seed);
     all_sizes(seed);
+    tables_of_copies(seed);
     damaged_cases(seed);
     every_number(seed, Kind::Case, "cases damaged at every number", 20);
     every_length(seed, Kind::Case, "cases cut at every length", 8);
@@ -228,6 +240,7 @@ fn cases(seed: u64) {
     }
     assert!(group.tally.refused[0] >= 20_000, "20,000 accepted cases");
     group.assert_many_searched();
+    group.assert_many_copied();
     group.end();
 }
 
@@ -240,6 +253,20 @@ fn all_sizes(seed: u64) {
     for seed in seed..seed + 150 {
         group.compare(seed, &generate::case_of(&mut Random::new(seed), Size::Tiny).bytes());
     }
+    group.end();
+}
+
+/// Tables whose distinct records are counted by hand.
+fn tables_of_copies(seed: u64) {
+    let mut group = Group::new("cases over tables of copies", Kind::Case);
+    for table in copies::tables() {
+        let case = table.case();
+        let recorded = tables::recorded(&case.transitions);
+        let by_hand = (table.triples.len() as u64, table.distinct as u64);
+        assert_eq!((recorded.records, recorded.distinct), by_hand, "reference: {}", table.name);
+        group.compare(seed, &case.bytes());
+    }
+    assert_eq!(group.tally.refused[0], group.tally.files(), "all are accepted");
     group.end();
 }
 
@@ -257,6 +284,7 @@ fn damaged_cases(seed: u64) {
     }
     assert!((1..=10).all(|number| group.tally.refused[number] > 0), "a case for each of 1 to 10");
     group.assert_many_searched();
+    group.assert_many_copied();
     group.end();
 }
 
@@ -386,7 +414,7 @@ fn fill_operands(equations: &mut Equations, random: &mut Random, count: usize) {
 fn runs_cases() {
     let start = Instant::now();
     let compare = |(i, bytes): (usize, &Vec<u8>)| {
-        let (got, expected) = (paper::both_routes(&Library, bytes), stream::reference_lines(bytes));
+        let (got, expected) = (paper::both_routes(&Library, bytes), stream::reference_answers(bytes));
         if got != expected {
             return Err(format!("case {}: got {got:?}, expected {expected:?}\n{}", i + 1, listing::case(bytes)));
         }

@@ -1,5 +1,5 @@
-//! Wrong calls planted in the comparison, which must notice each of them: the paper's slips, and faults in what the
-//! library leaves.
+//! Wrong calls planted in the comparison, which must notice each of them: the paper's slips, slips in the numbers of records,
+//! and faults in what the library leaves.
 
 use crate::library::Library;
 use crate::{Kind, BUDGET};
@@ -61,7 +61,7 @@ fn slips(kinds: &[&Files]) {
         let calls = Reference(slip);
         for files in kinds {
             let noticed = files.noticed(&calls);
-            // Only one slip is in the solver; the others are in what comes before it.
+            // Only one slip is in the solver; the others are in what comes before it, or in what the routes answer beside it.
             let expected = slip.is_some() && (files.kind == Kind::Case || slip == Some(Slip::InnerKept));
             assert_eq!(!noticed.is_empty(), expected, "{slip:?}");
             if let Some((seed, bytes)) = noticed.first() {

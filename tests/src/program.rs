@@ -3,10 +3,10 @@
 use crate::calls::{Calls, MARK_WORDS};
 use crate::formats::*;
 use crate::generate::{case_of, equations, Size};
-use crate::paper::{line, p1_file, runs, LIMIT};
+use crate::paper::{p1_file, runs, LIMIT};
 use crate::random::Random;
 use crate::slips::Reference;
-use crate::stream::{reference_lines, text};
+use crate::stream::{line, reference_lines};
 use crate::text::case;
 use std::io::{ErrorKind, Write};
 use std::path::Path;
@@ -42,6 +42,7 @@ fn output(binary: &Path, input: &[u8], piece: usize) -> Result<String, String> {
 }
 
 const LARGE: &str = "an equation file over 65,536 bytes";
+const SPENT: &str = "more rounds than the limit in the equation route";
 
 /// Inputs by name.
 type Inputs = Vec<(&'static str, Vec<u8>)>;
@@ -51,8 +52,9 @@ fn cases() -> Inputs {
     let p1 = all[0].1.clone();
     let full = case_of(&mut Random::new(5), Size::Full);
     assert!(full.bytes().len() == LARGEST_CASE && crate::reader::read_case(&full.bytes()).is_ok());
-    let large = case(256, 1, &[(0, 0, 1)], "true", &("box 0 ".repeat(24) + "false"));
-    let path: Vec<(usize, usize, usize)> = (0..15).map(|s| (s, 0, s + 1)).collect();
+    let large = case(256, 1, &[(0, 0, 1), (0, 0, 1), (1, 0, 2)], "true", &("box 0 ".repeat(24) + "false"));
+    let mut path: Vec<(usize, usize, usize)> = (0..15).map(|s| (s, 0, s + 1)).collect();
+    path.extend([(7, 0, 8), (0, 0, 1), (7, 0, 8)]);
     let spent = case(16, 1, &path, "true", &("and ".repeat(4) + &"mu X box 0 X ".repeat(5)));
     let long = [&full.bytes()[..], &[0; 7_000]].concat();
     all.extend([
@@ -61,7 +63,7 @@ fn cases() -> Inputs {
         ("a byte too short", p1[..53].to_vec()),
         ("19 bytes", p1[..19].to_vec()),
         (LARGE, large.bytes()),
-        ("more rounds than the limit in the equation route", spent.bytes()),
+        (SPENT, spent.bytes()),
         ("the largest case", full.bytes()),
         ("a byte more than the largest case", long[..LARGEST_CASE + 1].to_vec()),
         ("longer than any case", long),
@@ -85,14 +87,14 @@ fn files() -> Inputs {
 
 /// What `twosides` prints by the reference.
 fn both_routes(bytes: &[u8]) -> String {
-    let (equation, direct) = reference_lines(bytes);
-    format!("E {}\nD {}\n", text(equation), text(direct))
+    reference_lines(bytes).join("\n") + "\n"
 }
 
 /// What `solvefile` prints by the reference.
 fn solved(bytes: &[u8]) -> String {
     let (mut work, mut marks) = (vec![0; CELLS], [0; MARK_WORDS]);
-    format!("S {}\n", text(line(Reference(None).solve(bytes, &mut work, &mut marks, LIMIT))))
+    let x = Reference(None).solve(bytes, &mut work, &mut marks, LIMIT);
+    line('S', &[x.refusal, x.verdict, x.count, x.rounds]) + "\n"
 }
 
 /// Compares what a program prints with the reference; answers how many runs were compared.
@@ -117,8 +119,13 @@ fn compare(binary: &Path, inputs: Inputs, expected: fn(&[u8]) -> String) -> Resu
 
 /// The program `twosides` of a folder.
 pub fn twosides(folder: &Path) -> Result<u64, String> {
-    let large = cases().into_iter().find(|(name, _)| *name == LARGE).expect("the large case").1;
-    assert!(both_routes(&large).starts_with("E 13 0 0 0\nD 0 "), "the large case is one that only direct solves");
+    assert_eq!(both_routes(&runs()[0].case.bytes()), "E 0 1 3 4\nD 0 1 3 4\nT 3 2\n");
+    for (wanted, first, last) in [(LARGE, "E 13 0 0 0\nD 0 ", "\nT 3 2\n"), (SPENT, "E 14 0 0 0\nD 0 ", "\nT 18 15\n")]
+    {
+        let bytes = cases().into_iter().find(|(name, _)| *name == wanted).expect("a case by its name").1;
+        let lines = both_routes(&bytes);
+        assert!(lines.starts_with(first) && lines.ends_with(last), "{wanted}: a case that only direct solves");
+    }
     compare(&folder.join("twosides"), cases(), both_routes)
 }
 

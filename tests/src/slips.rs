@@ -1,6 +1,7 @@
-//! The paper's "Slips seen in such programs" as wrong versions of the calls. The comparison must notice each of them.
+//! The paper's "Slips seen in such programs", and slips in the numbers of records, as wrong versions of the calls. The
+//! comparison must notice each of them.
 
-use crate::calls::{mark_words, Calls, Numbers, MARK_WORDS};
+use crate::calls::{mark_words, Calls, Numbers, Recorded, RouteNumbers, MARK_WORDS};
 use crate::formats::*;
 use crate::meaning::{accepted_by_node, cell_values};
 use crate::reader::{read_case, read_equations};
@@ -19,10 +20,24 @@ pub enum Slip {
     InsideOut,
     /// A box without transitions taken as false.
     EmptyBoxFalse,
+    /// Copies looked for among all records, not only those before: a record that has one is never counted as distinct.
+    CopiesAnywhere,
+    /// The distinct records answered as the records, and the records as the distinct ones.
+    NumbersSwapped,
+    /// No numbers of records when the rounds exceed the limit.
+    LostWhenSpent,
 }
 
-pub const SLIPS: [Slip; 5] =
-    [Slip::CopiesKept, Slip::LabelsMerged, Slip::InnerKept, Slip::InsideOut, Slip::EmptyBoxFalse];
+pub const SLIPS: [Slip; 8] = [
+    Slip::CopiesKept,
+    Slip::LabelsMerged,
+    Slip::InnerKept,
+    Slip::InsideOut,
+    Slip::EmptyBoxFalse,
+    Slip::CopiesAnywhere,
+    Slip::NumbersSwapped,
+    Slip::LostWhenSpent,
+];
 
 /// The calls by the reference, with a slip or with none.
 pub struct Reference(pub Option<Slip>);
@@ -37,7 +52,7 @@ impl Reference {
             Some(Slip::LabelsMerged) => tables::equations_over(case, &merged(&case.transitions)),
             Some(Slip::InsideOut) => inside_out(tables::equations(case)),
             Some(Slip::EmptyBoxFalse) => empty_boxes_false(case, tables::equations(case)),
-            Some(Slip::InnerKept) | None => tables::equations(case),
+            _ => tables::equations(case),
         }
     }
 
@@ -64,6 +79,38 @@ impl Reference {
             _ => rounds::direct(case, limit),
         }
     }
+
+    /// What direct answers on an accepted case, without the numbers of records.
+    fn direct_answer(&self, case: &Case, marks: &mut [u64], limit: u64) -> Numbers {
+        if marks.len() < MARK_WORDS {
+            return Numbers::refused(13);
+        }
+        match self.directly(case, limit) {
+            Err(Spent) => Numbers::refused(14),
+            Ok((set, rounds)) => {
+                marks[..MARK_WORDS].copy_from_slice(&mark_words(&set));
+                Numbers::report(&set, case.initial, rounds)
+            }
+        }
+    }
+
+    /// The numbers of records that come with an answer on an accepted case.
+    fn recorded(&self, case: &Case, answer: Numbers) -> Recorded {
+        let records = case.transitions.len() as u64;
+        let distinct = tables::distinct(&case.transitions).len() as u64;
+        match self.0 {
+            Some(Slip::CopiesAnywhere) => Recorded { records, distinct: without_copies(&case.transitions) },
+            Some(Slip::NumbersSwapped) => Recorded { records: distinct, distinct: records },
+            Some(Slip::LostWhenSpent) if answer.refusal == 14 => Recorded::default(),
+            _ => Recorded { records, distinct },
+        }
+    }
+}
+
+/// How many records have no other record equal to them.
+fn without_copies(transitions: &[Transition]) -> u64 {
+    let equal = |t: &Transition| transitions.iter().filter(|&u| u == t).count();
+    transitions.iter().filter(|&t| equal(t) == 1).count() as u64
 }
 
 /// Only the first of the transitions with equal ends.
@@ -218,25 +265,26 @@ impl Calls for Reference {
         }
     }
 
-    fn direct(&self, case: &[u8], marks: &mut [u64], limit: u64) -> Numbers {
+    fn direct(&self, case: &[u8], marks: &mut [u64], limit: u64) -> RouteNumbers {
         match read_case(case) {
-            Err(number) => Numbers::refused(number),
-            Ok(_) if marks.len() < MARK_WORDS => Numbers::refused(13),
-            Ok(case) => match self.directly(&case, limit) {
-                Err(Spent) => Numbers::refused(14),
-                Ok((set, rounds)) => {
-                    marks[..MARK_WORDS].copy_from_slice(&mark_words(&set));
-                    Numbers::report(&set, case.initial, rounds)
-                }
-            },
+            Err(number) => RouteNumbers::refused(number),
+            Ok(case) => {
+                let answer = self.direct_answer(&case, marks, limit);
+                RouteNumbers::with(answer, self.recorded(&case, answer))
+            }
         }
     }
 
-    fn equation(&self, case: &[u8], file: &mut [u8], work: &mut [u8], marks: &mut [u64], limit: u64) -> Numbers {
+    fn equation(&self, case: &[u8], file: &mut [u8], work: &mut [u8], marks: &mut [u64], limit: u64) -> RouteNumbers {
         let translated = self.translate(case, file);
-        if translated.refusal != 0 {
-            return translated;
+        match read_case(case) {
+            Err(number) => RouteNumbers::refused(number),
+            Ok(case) => {
+                let length = translated.length as usize;
+                let written = translated.refusal == 0;
+                let answer = if written { self.solve(&file[..length], work, marks, limit) } else { translated };
+                RouteNumbers::with(answer, self.recorded(&case, answer))
+            }
         }
-        self.solve(&file[..translated.length as usize], work, marks, limit)
     }
 }

@@ -1,10 +1,12 @@
 //! The cases that the program `runs` is held to, and the line that each must give.
 
+use crate::calls::RouteNumbers;
 use crate::formats::*;
 use crate::meaning;
-use crate::paper::{both_routes, refused_cases, runs, Line};
+use crate::paper::{both_routes, refused_cases, runs};
 use crate::reader::read_case;
 use crate::slips::Reference;
+use crate::tables;
 use crate::text::case;
 use std::path::Path;
 
@@ -109,22 +111,34 @@ fn further() -> Vec<Case> {
     all
 }
 
-/// The numbers of the equation route and of direct by the reference; the parity game must agree.
-pub fn reference_lines(bytes: &[u8]) -> (Line, Line) {
-    let lines = both_routes(&Reference(None), bytes);
+/// The answers of the equation route and of direct by the reference; the parity game must agree, and so must another count
+/// of the distinct records.
+pub fn reference_answers(bytes: &[u8]) -> (RouteNumbers, RouteNumbers) {
+    let (equation, direct) = both_routes(&Reference(None), bytes);
     if let Ok(case) = read_case(bytes) {
         let set = meaning::states_by_game(&case);
         let count = set.iter().filter(|&&marked| marked).count() as u64;
-        for line in [lines.0, lines.1].iter().filter(|line| line[0] == 0) {
-            assert_eq!((line[1], line[2]), (set[case.initial] as u64, count), "rounds and game");
+        for answer in [equation, direct] {
+            assert_eq!(answer.recorded(), tables::recorded(&case.transitions), "first appearances and equal ones");
+            if answer.refusal == 0 {
+                assert_eq!((answer.verdict, answer.count), (set[case.initial] as u64, count), "rounds and game");
+            }
         }
     }
-    lines
+    (equation, direct)
 }
 
-/// Four numbers as the programs print them.
-pub fn text(line: Line) -> String {
-    line.map(|x| x.to_string()).join(" ")
+/// The lines E, D and T of a case by the reference, as the programs print them. Both routes give the numbers of T.
+pub fn reference_lines(bytes: &[u8]) -> [String; 3] {
+    let (equation, direct) = reference_answers(bytes);
+    assert_eq!(equation.recorded(), direct.recorded(), "both routes");
+    let route = |letter: char, x: RouteNumbers| line(letter, &[x.refusal, x.verdict, x.count, x.rounds]);
+    [route('E', equation), route('D', direct), line('T', &[direct.records, direct.distinct])]
+}
+
+/// A letter and numbers as the programs print them.
+pub fn line(letter: char, numbers: &[u64]) -> String {
+    numbers.iter().fold(letter.to_string(), |text, number| format!("{text} {number}"))
 }
 
 /// What the program reads and what it must print.
@@ -133,8 +147,7 @@ pub fn stdin_and_stdout() -> (Vec<u8>, String) {
     for (i, bytes) in cases().iter().enumerate() {
         stdin.extend(u16::try_from(bytes.len()).expect("a case is that short").to_le_bytes());
         stdin.extend(bytes);
-        let (equation, direct) = reference_lines(bytes);
-        stdout += &format!("{} E {} D {}\n", i + 1, text(equation), text(direct));
+        stdout += &format!("{} {}\n", i + 1, reference_lines(bytes).join(" "));
     }
     (stdin, stdout)
 }

@@ -1,5 +1,6 @@
-//! The equation file of a case, from the tables E and RHS.
+//! The equation file of a case, from the tables E and RHS, and how many of its records are distinct.
 
+use crate::calls::Recorded;
 use crate::formats::*;
 use crate::meaning::accepted_by_node;
 use std::collections::HashSet;
@@ -8,6 +9,14 @@ use std::collections::HashSet;
 pub fn distinct(transitions: &[Transition]) -> Vec<Transition> {
     let mut seen = HashSet::new();
     transitions.iter().copied().filter(|&t| seen.insert(t)).collect()
+}
+
+/// The table's records and the distinct ones, counted by bringing equal ones together.
+pub fn recorded(transitions: &[Transition]) -> Recorded {
+    let mut triples: Vec<_> = transitions.iter().map(|t| (t.source, t.label, t.target)).collect();
+    triples.sort_unstable();
+    triples.dedup();
+    Recorded { records: transitions.len() as u64, distinct: triples.len() as u64 }
 }
 
 /// The case with a root that binds: if it does not, a nu that binds nothing used stands before it.

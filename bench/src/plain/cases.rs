@@ -23,7 +23,6 @@ pub struct Header {
     pub third: usize,
 }
 
-#[derive(PartialEq)]
 pub struct Transition {
     pub source: usize,
     pub label: usize,
@@ -240,7 +239,37 @@ pub fn accepted_labels(part: &[u8], a: usize, j: usize) -> u64 {
     masks[at]
 }
 
-/// Whether no record before record i equals it.
-pub fn is_first(part: &[u8], i: usize) -> bool {
-    (0..i).all(|j| transition_at(part, j) != transition_at(part, i))
+/// Calls `first` for each of the m records of an accepted case that no record before it equals, in order.
+pub fn first_appearances(part: &[u8], m: usize, first: impl FnMut(usize)) {
+    match m {
+        0..=16 => found_in::<32>(part, m, first),
+        17..=128 => found_in::<256>(part, m, first),
+        _ => found_in::<{ 2 * TRANSITIONS }>(part, m, first),
+    }
+}
+
+/// The same with a table of the records found, which has at least two places for each of the m: a record stands, as one number, at
+/// the first free place from the one that its hash gives.
+fn found_in<const PLACES: usize>(part: &[u8], m: usize, mut first: impl FnMut(usize)) {
+    const FREE: u32 = u32::MAX;
+    let mut found = [FREE; PLACES];
+    for i in 0..m {
+        let t = transition_at(part, i);
+        let key = ((t.source * LABELS + t.label) * sets::STATES + t.target) as u32;
+        let mut place = (key.wrapping_mul(0x9e37_79b1) >> 16) as usize % PLACES;
+        while found[place] != FREE && found[place] != key {
+            place = (place + 1) % PLACES;
+        }
+        if found[place] == FREE {
+            found[place] = key;
+            first(i);
+        }
+    }
+}
+
+/// How many of the m records of an accepted case are distinct.
+pub fn distinct(part: &[u8], m: usize) -> usize {
+    let mut count = 0;
+    first_appearances(part, m, |_| count += 1);
+    count
 }

@@ -1,14 +1,14 @@
-//! The program `twosides`: a case from standard input by both routes, two lines.
+//! The program `twosides`: a case from standard input by both routes, three lines.
 
-use super::solver::Report;
-use super::{cases, routes, sets, solver};
+use super::routes::{self, Answer};
+use super::{cases, sets, solver};
 use std::io::{self, Read};
 
 const LIMIT: u64 = 1_000_000;
 const FILE: usize = 65_536;
 
-fn line(route: char, answer: Result<Report, u8>) {
-    match answer {
+fn line(route: char, answer: &Answer) {
+    match &answer.outcome {
         Ok(report) => println!("{route} 0 {} {} {}", report.verdict as u8, report.count, report.rounds),
         Err(cause) => println!("{route} {cause} 0 0 0"),
     }
@@ -28,7 +28,9 @@ pub fn twosides() -> io::Result<()> {
     let mut file = [0u8; FILE];
     let mut work = [0u8; solver::CELLS];
     let mut marks = [0u64; sets::WORDS];
-    line('E', routes::equation(case, &mut file, &mut work, &mut marks, LIMIT));
-    line('D', routes::direct(case, &mut marks, LIMIT));
+    line('E', &routes::equation(case, &mut file, &mut work, &mut marks, LIMIT));
+    let direct = routes::direct(case, &mut marks, LIMIT);
+    line('D', &direct);
+    println!("T {} {}", direct.records, direct.distinct);
     Ok(())
 }

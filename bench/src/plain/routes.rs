@@ -3,7 +3,22 @@
 use super::cases::{self, accepted_labels, is_binder, node_at, transition_at, Header, NODES};
 use super::sets::{self, Set, WORDS};
 use super::solver::{self, Report, BLOCKS};
-use super::translate;
+use super::translate::{self, First};
+
+/// What a route answers: a report or the number of the refusal, and of an accepted case how many records its table has and how many of
+/// them are distinct.
+pub struct Answer {
+    pub outcome: Result<Report, u8>,
+    pub records: usize,
+    pub distinct: usize,
+}
+
+impl Answer {
+    /// The answer on a case that is not accepted.
+    fn refused(cause: u8) -> Answer {
+        Answer { outcome: Err(cause), records: 0, distinct: 0 }
+    }
+}
 
 /// What evaluation reads.
 struct Formula<'a> {
@@ -74,15 +89,21 @@ fn report_of(h: &Header, set: &Set, rounds: u64) -> Report {
     Report { verdict: sets::test(set, h.initial), count: sets::count(set, h.states), rounds }
 }
 
-/// Evaluates the formula of a case on sets of states: a report, or the number of the refusal.
-pub fn direct(case: &[u8], marks: &mut [u64], limit: u64) -> Result<Report, u8> {
+/// Evaluates the formula of a case on sets of states.
+pub fn direct(case: &[u8], marks: &mut [u64], limit: u64) -> Answer {
     if let Some(cause) = cases::refusal(case) {
-        return Err(cause);
+        return Answer::refused(cause);
     }
+    let h = cases::header(case);
+    let distinct = cases::distinct(&case[h.first..], h.transitions);
+    Answer { outcome: evaluated(case, &h, marks, limit), records: h.transitions, distinct }
+}
+
+/// The report of direct on an accepted case, or the number of the refusal.
+fn evaluated(case: &[u8], h: &Header, marks: &mut [u64], limit: u64) -> Result<Report, u8> {
     if marks.len() < WORDS {
         return Err(13);
     }
-    let h = cases::header(case);
     let actions = &case[h.second..];
     let nodes = &case[h.third..];
     let mut labels = [0u64; NODES];
@@ -96,17 +117,21 @@ pub fn direct(case: &[u8], marks: &mut [u64], limit: u64) -> Result<Report, u8> 
         blocks[i] = count;
         count += is_binder(&x) as u8;
     }
-    let formula = Formula { h: &h, records: &case[h.first..], nodes, labels: &labels, blocks: &blocks, limit };
+    let formula = Formula { h, records: &case[h.first..], nodes, labels: &labels, blocks: &blocks, limit };
     let mut rounds = 0;
     let (set, _) = formula.evaluate(&mut [sets::EMPTY; BLOCKS], 0, &mut rounds).map_err(|Spent| 14)?;
     marks[..WORDS].copy_from_slice(&set);
-    Ok(report_of(&h, &set, rounds))
+    Ok(report_of(h, &set, rounds))
 }
 
-/// Translates a case and solves its equation file: a report, or the number of the refusal.
-pub fn equation(case: &[u8], file: &mut [u8], work: &mut [u8], marks: &mut [u64], limit: u64) -> Result<Report, u8> {
-    let length = translate::translate(case, file)?;
-    let report = solver::solve(&file[..length], work, marks, limit)?;
-    let set: Set = std::array::from_fn(|i| marks[i]);
-    Ok(report_of(&cases::header(case), &set, report.rounds))
+/// Translates a case and solves its equation file.
+pub fn equation(case: &[u8], file: &mut [u8], work: &mut [u8], marks: &mut [u64], limit: u64) -> Answer {
+    if let Some(cause) = cases::refusal(case) {
+        return Answer::refused(cause);
+    }
+    let h = cases::header(case);
+    let first = First::of(&case[h.first..], h.transitions);
+    let written = translate::write(case, &h, &first, file);
+    let outcome = written.and_then(|length| solver::solve(&file[..length], work, marks, limit));
+    Answer { outcome, records: h.transitions, distinct: first.count }
 }

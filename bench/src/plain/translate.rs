@@ -1,6 +1,8 @@
 //! Writing the equation file of a case.
 
-use super::cases::{self, accepted_labels, binders, is_binder, node_at, subtree_end, transition_at, TRANSITIONS};
+use super::cases::{
+    self, accepted_labels, binders, is_binder, node_at, subtree_end, transition_at, Header, TRANSITIONS,
+};
 
 const SHAPES: usize = cases::NODES + 1;
 
@@ -22,12 +24,21 @@ struct Source<'a> {
     shapes: &'a [Shape],
 }
 
-fn first_appearances(records: &[u8], m: usize) -> [bool; TRANSITIONS] {
-    let mut first = [false; TRANSITIONS];
-    for (j, flag) in first[..m].iter_mut().enumerate() {
-        *flag = cases::is_first(records, j);
+/// Which records are the first of their kind, and how many are.
+pub struct First {
+    flags: [bool; TRANSITIONS],
+    pub count: usize,
+}
+
+impl First {
+    pub fn of(records: &[u8], m: usize) -> First {
+        let mut first = First { flags: [false; TRANSITIONS], count: 0 };
+        cases::first_appearances(records, m, |j| {
+            first.flags[j] = true;
+            first.count += 1;
+        });
+        first
     }
-    first
 }
 
 fn is_pair(kind: usize) -> bool {
@@ -169,18 +180,21 @@ pub fn translate(case: &[u8], out: &mut [u8]) -> Result<usize, u8> {
         return Err(cause);
     }
     let h = cases::header(case);
-    let records = &case[h.first..];
+    write(case, &h, &First::of(&case[h.first..], h.transitions), out)
+}
+
+/// The same for an accepted case whose first appearances are found.
+pub fn write(case: &[u8], h: &Header, first: &First, out: &mut [u8]) -> Result<usize, u8> {
     let actions = &case[h.second..];
     let formula = &case[h.third..];
-    let first = first_appearances(records, h.transitions);
     let added = if is_binder(&node_at(formula, 0)) { 0 } else { 1 };
     let mut shapes = [Shape { kind: 8, second: 0, block: 0, labels: 0 }; SHAPES];
     for i in 0..h.nodes {
         shapes[added + i] = shape_at(actions, h.actions, formula, h.nodes, added, i);
     }
     let source = Source {
-        records,
-        first: &first,
+        records: &case[h.first..],
+        first: &first.flags,
         transitions: h.transitions,
         states: h.states,
         shapes: &shapes[..added + h.nodes],

@@ -1,9 +1,11 @@
--- Laws of equal records in a table that is made record by record.
+-- Laws of equal records in a table that is made record by record, and of a walk along those with one source.
 use mathlib.Core.Path.{_≡_, refl, sym, ap, _∙_}
-use mathlib.Core.Bool.{true, false, cond}
+use mathlib.Core.Logic.{_⊎_, inl, inr, by-cases}
+use mathlib.Core.Bool.{Bool, false, cond}
 use mathlib.Core.List.{List, _∷_, map}
 use Prim.Native.Nat.{ℕ, zero, suc, _+_, _-_, _<_, _≤_}
-use native.Mathlib.Nat.{sub-zero}
+use native.Mathlib.Nat.{sub-zero, zero-add, eq-or-lt-of-le}
+use native.Mathlib.Decide.{ℕ-discrete}
 use native.Mathlib.Numerals.{add-one}
 use native.Mathlib.Omega.{arith}
 use borrow.Author.Tests.{ne-eqb, eq-eqb}
@@ -13,6 +15,7 @@ use Rattle.sets.specs.Lists.{numbersFrom}
 use Rattle.sets.proofs.Lists.{table-at}
 use Rattle.cases.specs.File.{Transition}
 use Rattle.cases.specs.Case.{sameTransition, copies, copiesBefore}
+use Rattle.cases.specs.internal.Links.{firstOn}
 
 -- the first i elements of a list made of a range
 pub take-map-range : {B : Type 0} (f : ℕ → B) (s i m : ℕ) → i ≤ m → take i (map f (numbersFrom s m)) ≡ map f (numbersFrom s i)
@@ -49,14 +52,6 @@ module _ (record-at : ℕ → Transition) where
   abbrev pub copiesFrom : ℕ → ℕ → ℕ
   copiesFrom i j = copies (record-at i) (map record-at (numbersFrom j (i - j)))
 
-  -- What a search before record i keeps: none before j is equal.
-  pub record NoneBefore (i j : ℕ) : Type 0 where
-    pub within : j ≤ i
-    pub same-left : copiesFrom i 0 ≡ copiesFrom i j
-
-  pub none-yet : (i : ℕ) → NoneBefore i 0
-  none-yet i = record { within = omega arith; same-left = refl }
-
   -- the number of copies is that from 0 on
   counted : (i : ℕ) → copiesBefore (map record-at (numbersFrom 0 (i + 1))) i ≡ copiesFrom i 0
   counted i = rw (sub-zero i) (copies-before i (i + 1) (omega arith))
@@ -68,23 +63,70 @@ module _ (record-at : ℕ → Transition) where
       let e : i - j ≡ suc (i - suc j) = omega arith in
       rw (e, add-one j)
 
-  -- record j is equal: record i is not the first
-  pub found : (i j : ℕ) → NoneBefore i j → j < i → sameTransition (record-at j) (record-at i) ≡ true
-      → false ≡ eqb (copiesBefore (map record-at (numbersFrom 0 (i + 1))) i) 0
-  found i j n h e =
-      let step : copiesFrom i j ≡ 1 + copiesFrom i (j + 1) = rw e at (looked-at i j h) in
-      sym (ne-eqb (copiesBefore (map record-at (numbersFrom 0 (i + 1))) i) 0 (λ z. omega (arith, counted i)))
+  -- ---- the walk along the records with the source of record i
 
-  -- record j differs
-  pub none-more : (i j : ℕ) → NoneBefore i j → j < i → sameTransition (record-at j) (record-at i) ≡ false → NoneBefore i (j + 1)
-  none-more i j n h e =
-      let step : copiesFrom i j ≡ 0 + copiesFrom i (j + 1) = rw e at (looked-at i j h) in
-      record { within = omega arith; same-left = omega arith }
+  abbrev source : ℕ → ℕ
+  source j = record-at j .source
 
-  -- all records before i differ
-  pub none-found : (i j : ℕ) → NoneBefore i j → i ≤ j → true ≡ eqb (copiesBefore (map record-at (numbersFrom 0 (i + 1))) i) 0
+  -- the first record from j on, of m, with the source of record i
+  abbrev next : ℕ → ℕ → ℕ → ℕ
+  next m i j = firstOn source (source i) j (m - j)
+
+  -- From j on record p is the first with the source of record i, and no record between is a copy of it.
+  pub record Skipped (i j p : ℕ) : Type 0 where
+    pub from : j ≤ p
+    pub within : p ≤ i
+    pub same-source : source p ≡ source i
+    pub same-left : copiesFrom i j ≡ copiesFrom i p
+
+  skip-one : (i j p : ℕ) → j < i → ¬ (source j ≡ source i) → Skipped i (j + 1) p → Skipped i j p
+  unfolding sameTransition
+  skip-one i j p h d k =
+      let other : sameTransition (record-at j) (record-at i) ≡ false = rw (ne-eqb (source j) (source i) d) in
+      let step : copiesFrom i j ≡ 0 + copiesFrom i (j + 1) = rw other at (looked-at i j h) in
+      record { from = omega (arith, k .from); within = k .within; same-source = k .same-source; same-left = omega (arith, k .same-left, step) }
+
+  -- k numbers from j on, with i among them
+  skip : (i j k : ℕ) → j ≤ i → i < j + k → Skipped i j (firstOn source (source i) j k)
+  unfolding firstOn
+  skip i j zero h l = absurd (omega arith)
+  skip i j (suc k) h l = by-cases (ℕ-discrete (source j) (source i))
+      (λ e. rw (eq-eqb (source j) (source i) e) (record { from = omega arith; within = h; same-source = e; same-left = refl }))
+      (λ d. rw (ne-eqb (source j) (source i) d) (further d (eq-or-lt-of-le {n = j} {m = i} h) (λ o. rw (add-one j) (skip i (suc j) k (omega arith) (omega arith)))))
+    where
+      further : ¬ (source j ≡ source i) → (j ≡ i) ⊎ (j < i) → (j < i → Skipped i (j + 1) (firstOn source (source i) (suc j) k))
+          → Skipped i j (firstOn source (source i) (suc j) k)
+      further d (inl e) rest = absurd (d (ap source e))
+      further d (inr o) rest = skip-one i j _ o d (rest o)
+
+  pub skips : (m i j : ℕ) → i < m → j ≤ i → Skipped i j (next m i j)
+  skips m i j h l = skip i j (m - j) l (omega arith)
+
+  -- What a walk to record i keeps: at record j so many copies are counted.
+  pub record Walked (i j count : ℕ) : Type 0 where
+    pub within : j ≤ i
+    pub few : count ≤ j
+    pub same-source : source j ≡ source i
+    pub sum : count + copiesFrom i j ≡ copiesFrom i 0
+
+  pub walk-start : (i p : ℕ) → Skipped i 0 p → Walked i p 0
+  walk-start i p k = record { within = k .within; few = omega arith; same-source = k .same-source; sum = zero-add _ ∙ sym (k .same-left) }
+
+  -- record j is counted if it is equal
+  module _ {i j count count′ p : ℕ} {same : Bool} (w : Walked i j count) (h : j < i) (k : Skipped i (j + 1) p) where
+    pub walk-next : same ≡ sameTransition (record-at j) (record-at i) → count′ ≡ count + cond same 1 0 → count′ ≤ count + 1 → Walked i p count′
+    walk-next e f few =
+        let step : copiesFrom i j ≡ cond same 1 0 + copiesFrom i (j + 1) = rw e (looked-at i j h) in
+        record {
+          within = k .within;
+          few = omega (arith, k .from, w .few);
+          same-source = k .same-source;
+          sum = omega (arith, w .sum, step, k .same-left);
+        }
+
+  pub walk-end : (i j count : ℕ) → Walked i j count → i ≤ j → count ≡ copiesBefore (map record-at (numbersFrom 0 (i + 1))) i
   unfolding copies numbersFrom
-  none-found i j n h =
+  walk-end i j count w h =
       let e : i - j ≡ 0 = omega arith in
       let none : copiesFrom i j ≡ 0 = rw e in
-      sym (eq-eqb (copiesBefore (map record-at (numbersFrom 0 (i + 1))) i) 0 (omega (arith, counted i)))
+      omega (arith, counted i, w .sum, none)

@@ -6,6 +6,9 @@ pub mod TableTrees
 pub mod Counting
 pub mod Scopes
 pub mod Copies
+pub mod Distinct
+pub mod Links
+pub mod FirstAppearances
 pub mod Masks
 pub mod Checking
 pub mod PrefixRules
@@ -15,3 +18,4 @@ pub mod FormulaRules
 pub mod Openings
 pub mod ClosedMeaning
 pub mod Accepting
+pub mod Tallies

@@ -3,8 +3,7 @@
 use mathlib.Core.Path.{_≡_, refl, sym, ap, ap₂, subst, _∙_}
 use mathlib.Core.Bool.{Bool, true, false, not, cond, _&&_, _||_}
 use mathlib.Core.List.{List, [], _∷_, map}
-use Prim.Native.Nat.{ℕ, zero, suc, _+_, _<_}
-use native.Mathlib.Nat.{zero-add}
+use Prim.Native.Nat.{ℕ, zero, suc, _<_}
 use native.Mathlib.Omega.{arith}
 use borrow.Author.Tests.{eq-eqb}
 use lib.Dec.{T, eqb, eqb→eq, eqb-refl, T-not, not-T}
@@ -12,7 +11,7 @@ use lib.ListN.{length, getD, take, replicate, length-replicate}
 use Rattle.sets.specs.Lists.{numbersFrom, every, forSome}
 use Rattle.sets.specs.States.{States, has, Subset, start, Extremal, Valuation, update, Sized}
 use Rattle.sets.specs.computed.Iteration.{Worked, repeated, same}
-use Rattle.sets.proofs.Lists.{length-map-range, getD-map-range, and-left, and-right, and-both, or-left, or-right, Implies, kept-implies}
+use Rattle.sets.proofs.Lists.{length-map-range, and-left, and-right, and-both, or-left, or-right, Implies, kept-implies}
 use Rattle.sets.proofs.Order.{before-eq, subset-antisym, extremal-map, extremal-one}
 use Rattle.sets.proofs.FixedPoint.{extremal, fixed-mono}
 use Rattle.sets.proofs.Valuation.{update-sized, update-mono}
@@ -20,7 +19,7 @@ use Rattle.cases.specs.Action.{Action}
 use Rattle.cases.specs.Formula.{Formula, False, True, And, Or, Box, Diamond, Variable, Fix}
 use Rattle.cases.specs.internal.Scope.{free, Within}
 use Rattle.cases.specs.File.{Transition}
-use Rattle.cases.specs.Case.{sameTransition, copies, transitionAt, copiesBefore, keep, distinct}
+use Rattle.cases.specs.Case.{sameTransition}
 use Rattle.cases.specs.Meaning.{setOf, from, boxIn, diamondIn, Means}
 use Rattle.cases.specs.computed.Meanings.{meaning}
 
@@ -66,35 +65,6 @@ any-first p d (x ∷ xs) t = go (p x) refl t (any-first p d xs)
         let f = next u in
         record { index = suc (f .index); below = omega (arith, f .below); holds = f .holds; new = rw e (f .new) }
 
--- any of a list that is made from another
-any-map : {A B : Type 0} (p : B → Bool) (f : A → B) (xs : List A) → forSome p (map f xs) ≡ forSome (λ x. p (f x)) xs
-unfolding forSome
-any-map p f [] = refl
-any-map p f (x ∷ xs) = ap (λ b. p (f x) || b) (any-map p f xs)
-
--- any of the elements that are kept
-any-keep : {A : Type 0} (p q : A → Bool) (xs : List A) → forSome p (keep q xs) ≡ forSome (λ x. q x && p x) xs
-unfolding forSome keep
-any-keep p q [] = refl
-any-keep p q (x ∷ xs) = go (q x) (any-keep p q xs)
-  where
-    go : (b : Bool) → forSome p (keep q xs) ≡ forSome (λ y. q y && p y) xs → forSome p (cond b (x ∷ keep q xs) (keep q xs)) ≡ ((b && p x) || forSome (λ y. q y && p y) xs)
-    go true e = ap (λ b. p x || b) e
-    go false e = e
-
--- some number below n has p
-any-below : (p : ℕ → Bool) (n : ℕ) → T (forSome p (numbersFrom 0 n)) → (j : ℕ) × (j < n) × T (p j)
-any-below p n t =
-    let f = any-first (λ b. b) false (map p (numbersFrom 0 n)) (rw (any-map (λ b. b) p (numbersFrom 0 n)) t) in
-    let h : f .index < n = omega (arith, f .below, length-map-range p 0 n) in
-    (f .index, h, rw (getD-map-range p 0 n (f .index) false h, zero-add) at (f .holds))
-
--- and the other way
-below-any : (p : ℕ → Bool) (n j : ℕ) → j < n → T (p j) → T (forSome p (numbersFrom 0 n))
-below-any p n j h t =
-    rw (any-map (λ b. b) p (numbersFrom 0 n)) at
-    (any-at (λ b. b) false (map p (numbersFrom 0 n)) j (omega (arith, length-map-range p 0 n)) (rw (getD-map-range p 0 n j false h, zero-add) t))
-
 -- ---- members of a list of transitions
 
 -- each list has its own members
@@ -139,50 +109,6 @@ all-within ts us w p q h =
     rw (all-not p ts, all-not q us)
     (contrary (forSome (λ t. not (q t)) us) (forSome (λ t. not (p t)) ts)
     (any-within us ts w (λ t. not (q t)) (λ t. not (p t)) (λ t. contrary (p t) (q t) (h t))))
-
--- ---- distinct transitions
-
--- where x is no member, no record equals it
-copies-none : (x : Transition) (ys : List Transition) → T (not (forSome (sameTransition x) ys)) → copies x ys ≡ 0
-unfolding copies forSome
-copies-none x [] h = refl
-copies-none x (y ∷ ys) h = go (sameTransition y x) refl (copies-none x ys (contrary later (here || later) (or-right here later) h))
-  where
-    here : Bool
-    here = sameTransition x y
-
-    later : Bool
-    later = forSome (sameTransition x) ys
-
-    go : (b : Bool) → sameTransition y x ≡ b → copies x ys ≡ 0 → cond b 1 0 + copies x ys ≡ 0
-    go true e none =
-        let q : y ≡ x = same-equal y x (subst T (sym e) tt) in
-        absurd (T-not (here || later) h (or-left here later (rw q (same-self x))))
-    go false e none = omega arith
-
--- a member of the distinct transitions is a record that is the first of its kind
-distinct-any : (p : Transition → Bool) (ts : List Transition)
-    → forSome p (distinct ts) ≡ forSome (λ i. eqb (copiesBefore ts i) 0 && p (transitionAt ts i)) (numbersFrom 0 (length ts))
-unfolding distinct
-distinct-any p ts =
-    any-map p (transitionAt ts) (keep (λ i. eqb (copiesBefore ts i) 0) (numbersFrom 0 (length ts)))
-    ∙ any-keep (λ i. p (transitionAt ts i)) (λ i. eqb (copiesBefore ts i) 0) (numbersFrom 0 (length ts))
-
--- The distinct transitions have the members of all.
-pub within-distinct : (ts : List Transition) → Within ts (distinct ts)
-unfolding copiesBefore
-within-distinct ts t m =
-    let d : Transition = transition 0 0 0 in
-    let f = any-first (sameTransition t) d ts m in
-    rw (distinct-any (sameTransition t) ts)
-    (below-any (λ i. eqb (copiesBefore ts i) 0 && sameTransition t (transitionAt ts i)) (length ts) (f .index) (f .below)
-    (and-both (eqb (copiesBefore ts (f .index)) 0) (sameTransition t (transitionAt ts (f .index)))
-    (rw (← same-equal t (transitionAt ts (f .index)) (f .holds), copies-none t (take (f .index) ts) (f .new)) tt) (f .holds)))
-
-pub distinct-within : (ts : List Transition) → Within (distinct ts) ts
-distinct-within ts t m =
-    let f = any-below (λ i. eqb (copiesBefore ts i) 0 && sameTransition t (transitionAt ts i)) (length ts) (rw (distinct-any (sameTransition t) ts) at m) in
-    any-at (sameTransition t) (transition 0 0 0) ts (f .0) (f .1) (and-right (eqb (copiesBefore ts (f .0)) 0) _ (f .2))
 
 -- ---- the meaning as a function
 

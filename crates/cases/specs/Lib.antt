@@ -5,6 +5,7 @@ pub mod Prefix
 pub mod File
 pub mod Case
 pub mod Conditions
+pub mod Tally
 pub mod Opening
 pub mod Meaning
 pub mod computed

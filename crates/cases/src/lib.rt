@@ -13,7 +13,7 @@ pub use conditions::subtree_end;
 pub use file::node_at;
 pub use file::number_at;
 pub use file::transition_at;
-pub use transitions::is_first;
+pub use transitions::first_appearances;
 
 pub const LABELS: usize = 64;
 
@@ -44,6 +44,12 @@ pub struct Transition {
     pub source: usize,
     pub label: usize,
     pub target: usize,
+}
+
+// How many records a transition table has, and how many of them are distinct.
+pub struct Tally {
+    pub records: usize,
+    pub distinct: usize,
 }
 
 // A node of the action or formula table: kind, argument.

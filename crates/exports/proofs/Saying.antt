@@ -6,8 +6,10 @@ use Rattle.sets.specs.Refusals.{Outcome, refused}
 use Rattle.solver.specs.Outcome.{Answered}
 use Rattle.translate.specs.Translating.{Translated}
 use Rattle.routes.specs.Route.{direct, Lent, marksOnly, Ran, EquationRan}
+use Rattle.cases.specs.declared.Tally.{Tally}
 use Rattle.exports.specs.declared.Numbers.{Numbers}
-use Rattle.exports.specs.Exported.{exported, TranslateSays, SolveSays, DirectSays, EquationSays}
+use Rattle.exports.specs.declared.RouteNumbers.{RouteNumbers}
+use Rattle.exports.specs.Exported.{exported, exportedRoute, exportedTally, TranslateSays, SolveSays, DirectSays, EquationSays}
 use Rattle.exports.specs.internal.Saying.{Says}
 
 module _ {n : Numbers} where
@@ -21,10 +23,10 @@ module _ {n : Numbers} where
       → o ≡ q → Says n o 0 → SolveSays e work marks limit n work′ marks′
   solve-says a e s = record { answered = rw (s .numbers ∙ e) a; length-is = s .length-is }
 
-  pub direct-says : {b marks : List ℕ} {limit : ℕ} {o : Outcome} {marks′ : List ℕ} → Ran direct b (marksOnly marks) limit o marks′
-      → Says n o 0 → DirectSays b marks limit n marks′
-  direct-says r s = record { ran = rw (s .numbers) r; length-is = s .length-is }
+module _ {n : RouteNumbers} {o : Outcome} {t : Tally} (says : (exportedRoute n ≡ o) × (exportedTally n ≡ t)) where
+  pub direct-says : {b marks : List ℕ} {limit : ℕ} {marks′ : List ℕ} → Ran direct b (marksOnly marks) limit o t marks′ → DirectSays b marks limit n marks′
+  direct-says r = record { ran = rw (says .0, says .1) r }
 
-  pub equation-says : {b : List ℕ} {l : Lent} {limit : ℕ} {o : Outcome} {file′ work′ marks′ : List ℕ} → EquationRan b l limit o file′ work′ marks′
-      → Says n o 0 → EquationSays b l limit n file′ work′ marks′
-  equation-says r s = record { ran = rw (s .numbers) r; length-is = s .length-is }
+  pub equation-says : {b : List ℕ} {l : Lent} {limit : ℕ} {file′ work′ marks′ : List ℕ} → EquationRan b l limit o t file′ work′ marks′
+      → EquationSays b l limit n file′ work′ marks′
+  equation-says r = record { ran = rw (says .0, says .1) r }

@@ -1,5 +1,6 @@
-// The calls for programs in C or Rust. A slice is a pointer and a length; the answer is five numbers.
+// The calls for programs in C or Rust. A slice is a pointer and a length; the answer is five numbers, and six of a route over a case.
 use routes::Answer;
+use routes::Tallied;
 use routes::numbers_of;
 use routes::solving_answer;
 use translate::Written;
@@ -8,7 +9,7 @@ ghost use mathlib.Core.Path.{_≡_};
 ghost use Rattle.sets.specs.Refusals.{refused};
 ghost use Rattle.translate.specs.Translating.{writtenNumber, writtenLength};
 ghost use Rattle.routes.specs.Route.{routeAnswer, lent};
-ghost use Rattle.exports.specs.Exported.{TranslateSays, SolveSays, DirectSays, EquationSays};
+ghost use Rattle.exports.specs.Exported.{exportedRoute, exportedTally, TranslateSays, SolveSays, DirectSays, EquationSays};
 ghost use Rattle.exports.specs.internal.Saying.{Says};
 
 // The refusal number (0 if none), the verdict as 1 or 0, the count of marked states, the rounds, and the length of the file that was
@@ -22,7 +23,19 @@ pub struct Numbers {
     pub length: u64,
 }
 
-// The numbers of a route's answer.
+// The refusal number (0 if none), the verdict as 1 or 0, the count of marked states and the rounds, which are 0 after a refusal; then how
+// many records the case's transition table has and how many of them are distinct, which are 0 where the case is refused on opening.
+#[repr(C)]
+pub struct RouteNumbers {
+    pub refusal: u64,
+    pub verdict: u64,
+    pub count: u64,
+    pub rounds: u64,
+    pub records: u64,
+    pub distinct: u64,
+}
+
+// The numbers of an answer.
 fn answered(answer: Answer) -> Numbers
     ensures { λ r. ⌜ Says r (routeAnswer answer) 0 ⌝ }
 {
@@ -33,6 +46,23 @@ fn answered(answer: Answer) -> Numbers
         count: numbers.count,
         rounds: numbers.rounds,
         length: 0,
+    }
+}
+
+// The numbers of a route's answer, and of its tally.
+fn route_numbers(run: Tallied) -> RouteNumbers
+    ensures { λ r. ⌜ (exportedRoute r ≡ routeAnswer (run .answer)) × (exportedTally r ≡ run .tally) ⌝ }
+{
+    let answer = run.answer;
+    let tally = run.tally;
+    let five = answered(answer);
+    RouteNumbers {
+        refusal: five.refusal,
+        verdict: five.verdict,
+        count: five.count,
+        rounds: five.rounds,
+        records: tally.records as u64,
+        distinct: tally.distinct as u64,
     }
 }
 
@@ -78,10 +108,10 @@ pub extern "C" fn bithrowy_solve(
 }
 
 #[no_mangle]
-pub extern "C" fn bithrowy_direct(case: &[u8], marks: &mut [u64], limit: u64) -> Numbers
+pub extern "C" fn bithrowy_direct(case: &[u8], marks: &mut [u64], limit: u64) -> RouteNumbers
     ensures { λ r. ⌜ DirectSays (now (case .entry)) (now (marks .entry)) limit r (now (marks .exit)) ⌝ }
 {
-    answered(routes::direct(case, marks, limit))
+    route_numbers(routes::direct(case, marks, limit))
 }
 
 #[no_mangle]
@@ -91,9 +121,9 @@ pub extern "C" fn bithrowy_equation(
     work: &mut [u8],
     marks: &mut [u64],
     limit: u64,
-) -> Numbers
+) -> RouteNumbers
     ensures { λ r. ⌜ EquationSays (now (case .entry)) (lent (now (file .entry)) (now (work .entry)) (now (marks .entry))) limit r
         (now (file .exit)) (now (work .exit)) (now (marks .exit)) ⌝ }
 {
-    answered(routes::equation(case, file, work, marks, limit))
+    route_numbers(routes::equation(case, file, work, marks, limit))
 }

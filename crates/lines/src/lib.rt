@@ -1,6 +1,7 @@
 // Both routes and solve, as the programs run them: their limit, their memory, and how the numbers are printed.
 use libc::STDOUT_FILENO;
 use routes::Numbers;
+use routes::Tallied;
 use routes::numbers_of;
 use routes::solving_answer;
 use sets::WORDS;
@@ -9,28 +10,29 @@ ghost use mathlib.Core.Path.{_≡_};
 ghost use Rattle.sets.specs.Words.{wordCount};
 ghost use Rattle.solver.specs.File.{cellLimit};
 ghost use Rattle.solver.specs.Outcome.{solveOutcome};
-ghost use Rattle.routes.specs.Route.{direct, equation, outcomeOf, shown, programLimit, programMemory};
+ghost use Rattle.cases.specs.Tally.{tallyOf};
+ghost use Rattle.routes.specs.Route.{routeAnswer, direct, equation, outcomeOf, shown, programLimit, programMemory};
 
 const LIMIT: u64 = 1_000_000;
 
 const FILE: usize = 65_536;
 
-// The numbers of the equation route, with fresh memory.
-pub fn by_equation(case: &[u8]) -> Numbers
-    ensures { λ r. ⌜ shown r ≡ outcomeOf equation (now (case .entry)) programMemory programLimit ⌝ }
+// What the equation route answers, with fresh memory.
+pub fn by_equation(case: &[u8]) -> Tallied
+    ensures { λ r. ⌜ (routeAnswer (r .answer) ≡ outcomeOf equation (now (case .entry)) programMemory programLimit) × (r .tally ≡ tallyOf (now (case .entry))) ⌝ }
 {
     let mut file = [0u8; FILE];
     let mut work = [0u8; CELLS];
     let mut marks = [0u64; WORDS];
-    numbers_of(routes::equation(case, &mut file, &mut work, &mut marks, LIMIT))
+    routes::equation(case, &mut file, &mut work, &mut marks, LIMIT)
 }
 
-// The numbers of direct, with fresh memory.
-pub fn by_direct(case: &[u8]) -> Numbers
-    ensures { λ r. ⌜ shown r ≡ outcomeOf direct (now (case .entry)) programMemory programLimit ⌝ }
+// What direct answers, with fresh memory.
+pub fn by_direct(case: &[u8]) -> Tallied
+    ensures { λ r. ⌜ (routeAnswer (r .answer) ≡ outcomeOf direct (now (case .entry)) programMemory programLimit) × (r .tally ≡ tallyOf (now (case .entry))) ⌝ }
 {
     let mut marks = [0u64; WORDS];
-    numbers_of(routes::direct(case, &mut marks, LIMIT))
+    routes::direct(case, &mut marks, LIMIT)
 }
 
 // The numbers of solving an equation file, with fresh memory.
@@ -48,11 +50,25 @@ fn print_number(n: u64) {
     io::print_decimal(STDOUT_FILENO, n);
 }
 
-// A name, as E and D of the routes, and its numbers.
+// A name, as S of solve, and its numbers.
 pub fn print(name: &[u8], numbers: Numbers) {
     io::write_all(STDOUT_FILENO, name);
     print_number(numbers.refusal);
     print_number(numbers.verdict);
     print_number(numbers.count);
     print_number(numbers.rounds);
+}
+
+// A name, E or D, and the numbers of a route's answer.
+pub fn print_route(name: &[u8], run: Tallied) {
+    let answer = run.answer;
+    print(name, numbers_of(answer));
+}
+
+// T, how many records the case's transition table has, and how many of them are distinct.
+pub fn print_tally(run: Tallied) {
+    let tally = run.tally;
+    io::write_all(STDOUT_FILENO, b"T");
+    print_number(tally.records as u64);
+    print_number(tally.distinct as u64);
 }

@@ -1,8 +1,11 @@
 -- What the equation route promises from what translate and solve promise.
-use mathlib.Core.Path.{_≡_, sym, ap, _∙_}
+use mathlib.Core.Path.{_≡_, refl, sym, ap, _∙_}
+use mathlib.Core.Bool.{Bool, true, false}
 use mathlib.Core.List.{List}
 use Prim.Native.Nat.{ℕ, _≤_}
 use native.Mathlib.Omega.{arith}
+use borrow.Author.Tests.{ltb-true, ltb-false}
+use lib.Dec.{ltb}
 use lib.ListN.{length, take, length-append}
 use lib.Seq.{take-append-seam}
 use Rattle.sets.specs.Refusals.{Outcome, firstOf, refused, outcomeBy, reportOf}
@@ -10,22 +13,19 @@ use Rattle.sets.proofs.Refusals.{refusing}
 use Rattle.solver.specs.Outcome.{report, solveRefusal, solveOutcome, solveMarks, solveWork, Answered}
 use Rattle.cases.specs.Case.{caseOf}
 use Rattle.cases.specs.Conditions.{Accepted}
+use Rattle.cases.specs.declared.Tally.{Tally}
+use Rattle.cases.specs.Tally.{tallyOf}
 use Rattle.translate.specs.Translating.{file, fileAfter, translateRefusal, writtenNumber, writtenLength, Translated}
 use Rattle.translate.specs.declared.Written.{Written}
 use Rattle.translate.specs.declared.Cause.{Cause}
 use Rattle.translate.specs.declared.Written.the-variants.{File, Refused}
 use Rattle.translate.proofs.Promises.{writes, read-back}
-use Rattle.translate.proofs.Translations.{some-number, unrefused}
+use Rattle.translate.proofs.Translations.{some-number, unrefused, lacks-room}
 use Rattle.routes.specs.Route.{equation, Lent, runOf, routeConditions, routeOutcome, marksAfter, workAfter, EquationRan}
 use Rattle.routes.proofs.RouteLaws.{translate-then-solve, translate-never-14}
 use Rattle.routes.proofs.DirectAnswers.{ran-refused}
 
--- a refusal has a number
-pub refusal-number : {w : Written} {cause : Cause} → w ≡ Refused cause → ¬ (writtenNumber w ≡ 0)
-unfolding writtenNumber
-refusal-number {cause = cause} e z = some-number cause (sym (ap writtenNumber e) ∙ z)
-
--- and a file none; its length is answered
+-- A file has no number, and its length is answered.
 pub file-number : {w : Written} {k : ℕ} → w ≡ File k → writtenNumber w ≡ 0
 unfolding writtenNumber
 file-number e = ap writtenNumber e
@@ -46,14 +46,26 @@ module _ {b : List ℕ} (l : Lent) {file′ : List ℕ} {number long : ℕ} (t :
     first-is : firstOf (routeConditions equation b l limit) ≡ number
     first-is = translate-then-solve b l limit ∙ refusing (translateRefusal b room) _ (translateRefusal b room) none ∙ sym (t .answers)
 
-    pub translate-refused : {o : Outcome} → o ≡ refused number → EquationRan b l limit o file′ (l .work) (l .marks)
+    pub translate-refused : {o : Outcome} {tally : Tally} → o ≡ refused number → tally ≡ tallyOf b → EquationRan b l limit o tally file′ (l .work) (l .marks)
     unfolding fileAfter workAfter
-    translate-refused is = record {
-      ran = record { by = ran-refused is first-is d };
+    translate-refused is tally-is = record {
+      ran = record { by = ran-refused is first-is d; tally-is = tally-is };
       file-is = t .bytes;
       work-is = λ n. sym (refusing (firstOf (routeConditions equation b l limit)) _ _ (λ z. d (sym first-is ∙ z)));
       work-14 = λ z. absurd (translate-never-14 b room (sym (ap (λ (o : Outcome). o .refusal) is ∙ t .answers) ∙ z));
     }
+
+  -- of an accepted case it is 13
+  pub short-refused : {w : Written} {cause : Cause} → w ≡ Refused cause → number ≡ writtenNumber w → Accepted b
+      → {o : Outcome} {tally : Tally} → o ≡ refused 13 → tally ≡ tallyOf b → EquationRan b l limit o tally file′ (l .work) (l .marks)
+  unfolding writtenNumber
+  short-refused {cause = cause} e is ok said tally-is =
+      let some : ¬ (number ≡ 0) = λ z. some-number cause (sym (is ∙ ap writtenNumber e) ∙ z) in
+      translate-refused some (said ∙ ap refused (sym (by (ltb room (length (file b))) refl some))) tally-is
+    where
+      by : (x : Bool) → ltb room (length (file b)) ≡ x → ¬ (number ≡ 0) → number ≡ 13
+      by true h some = t .answers ∙ lacks-room b room .1 (ok, ltb-true room (length (file b)) h)
+      by false h some = absurd (some (t .answers ∙ unrefused b room .1 (ok, ltb-false room (length (file b)) h)))
 
   -- ---- what is written is the file of an accepted case
   module _ {k : ℕ} (zero-number : number ≡ 0) (length-is : long ≡ k) where
@@ -83,9 +95,9 @@ module _ {b : List ℕ} (l : Lent) {file′ : List ℕ} {number long : ℕ} (t :
 
     -- and so is all that it leaves
     pub route-solved : {said : Outcome} {work′ marks′ : List ℕ} → Answered (take k file′) (l .work) (l .marks) limit said work′ marks′
-        → {o : Outcome} → o ≡ said → EquationRan b l limit o file′ work′ marks′
+        → {o : Outcome} {tally : Tally} → o ≡ said → tally ≡ tallyOf b → EquationRan b l limit o tally file′ work′ marks′
     unfolding solveRefusal solveOutcome solveMarks solveWork routeOutcome outcomeBy marksAfter fileAfter workAfter runOf
-    route-solved a′ is =
+    route-solved a′ is tally-is =
         let a = rw written-file at a′ in
         let same = ap (λ (o : Outcome). o .refusal) is in
         record {
@@ -94,6 +106,7 @@ module _ {b : List ℕ} (l : Lent) {file′ : List ℕ} {number long : ℕ} (t :
               answers = is ∙ a .answers ∙ rw (same-report, number-solve);
               marks-are = a .marks-are ∙ rw number-solve;
             };
+            tally-is = tally-is;
           };
           file-is = t .bytes;
           work-is = λ n. a .work-is (λ z. n (same ∙ z)) ∙ rw number-solve;

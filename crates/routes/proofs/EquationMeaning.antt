@@ -20,7 +20,8 @@ use Rattle.cases.specs.computed.Meanings.{meaning}
 use Rattle.cases.proofs.TableTrees.{formula-table}
 use Rattle.cases.proofs.Accepting.{passed}
 use Rattle.cases.proofs.ClosedMeaning.{none-free}
-use Rattle.cases.proofs.MeaningLaws.{within-distinct, distinct-within, means-members}
+use Rattle.cases.proofs.MeaningLaws.{means-members}
+use Rattle.cases.proofs.Distinct.{within-distinct, distinct-within}
 use Rattle.translate.specs.Whole.{whole, binderNodes, blockIn}
 use Rattle.translate.specs.Cells.{cellsFrom, blocksFrom}
 use Rattle.translate.specs.Bytes.{systemOf}

@@ -2,6 +2,7 @@
 pub mod Promises
 pub mod RouteLaws
 pub mod EquationAnswers
+pub mod Refusing
 pub mod Outcomes
 pub mod EquationMeaning
 pub mod WholeMeaning

@@ -3,7 +3,7 @@
 -- Numbers have no bound.
 use mathlib.Core.Path.{_≡_, refl, sym, ap, _∙_}
 use mathlib.Core.Logic.{_↔_, _⊎_, inl, inr, by-cases}
-use mathlib.Core.List.{List, _++_, map, List·Memᴰ}
+use mathlib.Core.List.{List, [], _∷_, _++_, map, List·Memᴰ, List·Memᴰ·head, List·Memᴰ·tail, List·Nodup, Perm}
 use mathlib.Core.Bool.{Bool, true}
 use Prim.Native.Nat.{ℕ, suc, _≤_, _<_}
 use native.Mathlib.Omega.{arith}
@@ -13,8 +13,8 @@ use lib.ListN.{length, take, drop}
 use Rattle.sets.specs.Lists.{every}
 use Rattle.sets.specs.States.{States, Valuation, Sized}
 use Rattle.sets.specs.Words.{bit, Marks, wordCount}
-use Rattle.sets.specs.Refusals.{numbersOf, NoneHolds, FirstHolds, refused, byRefusal, Outcome, GivesMarks, Spent, reportOf}
-use Rattle.sets.proofs.Refusals.{apart, refusing, answered-member, answered-first, answered-none}
+use Rattle.sets.specs.Refusals.{firstOf, numbersOf, NoneHolds, FirstHolds, refused, byRefusal, Outcome, GivesMarks, Spent, reportOf}
+use Rattle.sets.proofs.Refusals.{apart, absent, member, refusing, answered-member, answered-first, answered-none}
 use Rattle.sets.proofs.Words.{take-words, shows}
 use Rattle.solver.specs.Cells.{Values}
 use Rattle.solver.specs.File.{sizesOf, cells}
@@ -22,14 +22,18 @@ use Rattle.solver.specs.Solution.{powers, StandardSolution}
 use Rattle.solver.specs.Outcome.{solveRefusal, Scratch}
 use Rattle.solver.proofs.Starts.{own-values}
 use Rattle.translate.proofs.Promises.{well-formed}
-use Rattle.cases.specs.Case.{caseOf}
-use Rattle.cases.specs.Conditions.{layoutConditions, modelConditions, formulaConditions, caseConditions, Accepted}
+use Rattle.cases.specs.Case.{Case, caseOf}
+use Rattle.cases.specs.declared.Tally.{Tally}
+use Rattle.cases.specs.Tally.{tallied, noTally}
+use Rattle.cases.proofs.Tallies.{tally-accepted, tally-refused, tallied-order}
+use Rattle.cases.proofs.Distinct.{length-distinct, distinct-all}
+use Rattle.cases.specs.Conditions.{layoutConditions, modelConditions, formulaConditions, caseConditions, caseRefusal, Accepted}
 use Rattle.cases.specs.Meaning.{MeansIn}
 use Rattle.cases.proofs.MeaningLaws.{means-sized}
 use Rattle.translate.specs.Translating.{file, translateRefusal, fileAfter}
 use Rattle.translate.proofs.Translations.{unrefused}
 use Rattle.routes.specs.Route.{Route, equation, Lent, OwnRounds, runOf, exceeds, runConditions, routeConditions, Enough, workAfter, Ran, EquationRan}
-use Rattle.routes.proofs.RouteLaws.{translate-then-solve, number-ran, reported, written, refused-with, kept, given, spent-over, spent-accepted, spent-number, gives-number}
+use Rattle.routes.proofs.RouteLaws.{translate-then-solve, case-refused, case-accepted, number-ran, reported, written, refused-with, kept, given, spent-over, spent-accepted, spent-number, gives-number}
 use Rattle.routes.proofs.Outcomes.{meaning-of, one-meaning, own-exists, own-one, runs-alike, run-means, run-bound}
 
 -- ---- Demand 3, of an accepted case with enough memory
@@ -53,7 +57,7 @@ module _ (b : List ℕ) (accepted : Accepted b) where
   unfolding exceeds
   exceeds-iff R r o limit = rw (own-one b accepted R r o) (ltb-true limit (runOf R (caseOf b) .1), lt-ltb limit (runOf R (caseOf b) .1))
 
-  module _ {R : Route} {l : Lent} {limit : ℕ} {o : Outcome} {marks′ : List ℕ} (ran : Ran R b l limit o marks′)
+  module _ {R : Route} {l : Lent} {limit : ℕ} {o : Outcome} {t : Tally} {marks′ : List ℕ} (ran : Ran R b l limit o t marks′)
       (enough : Enough R (caseOf b) l) (r : ℕ) (own : OwnRounds R (caseOf b) r) where
     -- (a) A route is spent exactly if its own rounds exceed the limit.
     pub spent-iff : Spent o ↔ limit < r
@@ -68,7 +72,7 @@ module _ (b : List ℕ) (accepted : Accepted b) where
 
 -- (c) Where a route gives marks, a state is marked exactly if it lies in the formula's meaning, no bit from n up is 1, and the words behind
 -- are as lent.
-module _ {R : Route} {b : List ℕ} {l : Lent} {limit : ℕ} {o : Outcome} {marks′ : List ℕ} (ran : Ran R b l limit o marks′) where
+module _ {R : Route} {b : List ℕ} {l : Lent} {limit : ℕ} {o : Outcome} {t : Tally} {marks′ : List ℕ} (ran : Ran R b l limit o t marks′) where
   accepted-run : GivesMarks o → Accepted b
   accepted-run g = given R b l limit (sym (number-ran (ran .by)) ∙ g) .0
 
@@ -77,7 +81,7 @@ module _ {R : Route} {b : List ℕ} {l : Lent} {limit : ℕ} {o : Outcome} {mark
       rw (written (ran .by) g, ← run-means b (accepted-run g) R ρ (m .0) v (m .1)) (shows v (l .marks) _ refl (means-sized _ _ _ ρ (m .0) v (m .1)))
 
   -- (d) Any two runs that give marks, by either route and at whatever limits and lent memory, are alike in marks, verdict and count.
-  pub alike : {R′ : Route} {l′ : Lent} {limit′ : ℕ} {o′ : Outcome} {marks″ : List ℕ} → Ran R′ b l′ limit′ o′ marks″ → GivesMarks o → GivesMarks o′
+  pub alike : {R′ : Route} {l′ : Lent} {limit′ : ℕ} {o′ : Outcome} {t′ : Tally} {marks″ : List ℕ} → Ran R′ b l′ limit′ o′ t′ marks″ → GivesMarks o → GivesMarks o′
       → (take wordCount marks′ ≡ take wordCount marks″) × (o .verdict ≡ o′ .verdict) × (o .count ≡ o′ .count)
   alike {R′} ran′ g g′ =
       let same = runs-alike b (accepted-run g) R R′ in (
@@ -87,7 +91,7 @@ module _ {R : Route} {b : List ℕ} {l : Lent} {limit : ℕ} {o : Outcome} {mark
       )
 
   -- (e) What gives marks at a limit gives the same marks and report at each larger one, with whatever memory that is enough.
-  pub larger : {l′ : Lent} {more : ℕ} {o′ : Outcome} {marks″ : List ℕ} → Ran R b l′ more o′ marks″ → Enough R (caseOf b) l′ → limit ≤ more → GivesMarks o
+  pub larger : {l′ : Lent} {more : ℕ} {o′ : Outcome} {t′ : Tally} {marks″ : List ℕ} → Ran R b l′ more o′ t′ marks″ → Enough R (caseOf b) l′ → limit ≤ more → GivesMarks o
       → (o′ ≡ o) × (marks″ ≡ take wordCount marks′ ++ drop wordCount (l′ .marks))
   larger {l′} {more} {o′} ran′ enough h g =
       let (ok, _, low) = given R b l limit (sym (number-ran (ran .by)) ∙ g) in
@@ -133,8 +137,63 @@ module _ {R : Route} {b : List ℕ} {l : Lent} {limit : ℕ} {o : Outcome} {mark
   pub marks-kept : ¬ GivesMarks o → marks′ ≡ l .marks
   marks-kept = kept (ran .by)
 
+-- ---- How many records were copies, of any bytes
+
+-- none of 1 to 10 is 0, 13 or 14
+own-numbers : (b : List ℕ) (k : ℕ) → List·Memᴰ k (0 ∷ 13 ∷ 14 ∷ []) → ¬ List·Memᴰ k (numbersOf (caseConditions b))
+unfolding caseConditions layoutConditions modelConditions formulaConditions every
+own-numbers b k (List·Memᴰ·head e) m = absent 0 (caseConditions b) tt (rw e at m)
+own-numbers b k (List·Memᴰ·tail (List·Memᴰ·head e)) m = absent 13 (caseConditions b) tt (rw e at m)
+own-numbers b k (List·Memᴰ·tail (List·Memᴰ·tail (List·Memᴰ·head e))) m = absent 14 (caseConditions b) tt (rw e at m)
+
+-- a run over a case answers no others
+run-numbers : (R : Route) (c : Case) (l : Lent) (limit : ℕ) → List·Memᴰ (firstOf (runConditions R c l limit)) (0 ∷ 13 ∷ 14 ∷ [])
+unfolding runConditions
+run-numbers R c l limit = by-cases (ℕ-discrete (firstOf (runConditions R c l limit)) 0) List·Memᴰ·head (λ d. List·Memᴰ·tail (member (runConditions R c l limit) d))
+
+module _ {R : Route} {b : List ℕ} {l : Lent} {limit : ℕ} {o : Outcome} {t : Tally} {marks′ : List ℕ} (ran : Ran R b l limit o t marks′) where
+  -- A case is accepted exactly if a route answers none of the numbers 1 to 10 of it.
+  pub accepted-iff : Accepted b ↔ ¬ List·Memᴰ (o .refusal) (numbersOf (caseConditions b))
+  unfolding caseRefusal
+  accepted-iff = (
+    (λ ok m. own-numbers b _ (rw (number-ran (ran .by) ∙ case-accepted R b l limit ok) (run-numbers R (caseOf b) l limit)) m),
+    λ d. by-cases (ℕ-discrete (caseRefusal b) 0) (λ z. z)
+        (λ n. absurd (d (rw (number-ran (ran .by) ∙ case-refused R b l limit n) (member (caseConditions b) n)))),
+  )
+
+  -- After one of those numbers both numbers of the tally are 0. After a report (0), 13 and 14 they are those of the case's table.
+  pub tally-none : List·Memᴰ (o .refusal) (numbersOf (caseConditions b)) → t ≡ noTally
+  tally-none m = ran .tally-is ∙ tally-refused b (λ ok. accepted-iff .0 ok m)
+
+  pub tally-carried : List·Memᴰ (o .refusal) (0 ∷ 13 ∷ 14 ∷ []) → t ≡ tallied (caseOf b .transitions)
+  tally-carried m = ran .tally-is ∙ tally-accepted b (accepted-iff .1 (own-numbers b _ m))
+
+  -- Both routes give the same two numbers, whatever is lent and whatever the limit.
+  pub tally-alike : {R′ : Route} {l′ : Lent} {limit′ : ℕ} {o′ : Outcome} {t′ : Tally} {marks″ : List ℕ} → Ran R′ b l′ limit′ o′ t′ marks″ → t ≡ t′
+  tally-alike ran′ = ran .tally-is ∙ sym (ran′ .tally-is)
+
+  -- No more are distinct than there are.
+  pub distinct-most : t .distinct ≤ t .records
+  unfolding tallied
+  distinct-most = by-cases (ℕ-discrete (caseRefusal b) 0)
+      (λ ok. rw (ran .tally-is ∙ tally-accepted b ok) (length-distinct (caseOf b .transitions)))
+      (λ d. rw (ran .tally-is ∙ tally-refused b d) (omega arith))
+
+  module _ (accepted : Accepted b) where
+    -- There are as many exactly if no record has a copy.
+    pub no-copies : t .records ≡ t .distinct ↔ List·Nodup (caseOf b .transitions)
+    unfolding tallied
+    no-copies = rw (ran .tally-is ∙ tally-accepted b accepted) (distinct-all (caseOf b .transitions))
+
+    -- They do not depend on the order of the records.
+    pub any-order : {R′ : Route} {b′ : List ℕ} {l′ : Lent} {limit′ : ℕ} {o′ : Outcome} {t′ : Tally} {marks″ : List ℕ} → Ran R′ b′ l′ limit′ o′ t′ marks″
+        → Accepted b′ → Perm (caseOf b .transitions) (caseOf b′ .transitions) → t ≡ t′
+    any-order {b′ = b′} ran′ accepted′ p =
+        ran .tally-is ∙ tally-accepted b accepted ∙ tallied-order (caseOf b .transitions) (caseOf b′ .transitions) p
+        ∙ sym (ran′ .tally-is ∙ tally-accepted b′ accepted′)
+
 -- The equation route's file and working bytes.
-module _ {b : List ℕ} {l : Lent} {limit : ℕ} {o : Outcome} {file′ work′ marks′ : List ℕ} (e : EquationRan b l limit o file′ work′ marks′) where
+module _ {b : List ℕ} {l : Lent} {limit : ℕ} {o : Outcome} {t : Tally} {file′ work′ marks′ : List ℕ} (e : EquationRan b l limit o t file′ work′ marks′) where
   -- It writes the file of an accepted case where there is room for it, whatever solve then answers; otherwise the buffer is unchanged.
   pub file-written : Accepted b → length (file b) ≤ length (l .file) → file′ ≡ file b ++ drop (length (file b)) (l .file)
   unfolding fileAfter

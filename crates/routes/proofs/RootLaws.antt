@@ -1,5 +1,5 @@
 -- Evaluating from the root: what the evaluator is handed and answers there, and the three parts of an accepted case.
-use mathlib.Core.Path.{_≡_, sym, ap, _∙_}
+use mathlib.Core.Path.{_≡_, sym, _∙_}
 use mathlib.Core.Bool.{false}
 use mathlib.Core.List.{List, []}
 use Prim.Native.Nat.{ℕ, _+_, _<_, _≤_}
@@ -18,32 +18,26 @@ use Rattle.cases.specs.declared.Node.{Node}
 use Rattle.cases.specs.Prefix.{actionAt, formulaAt}
 use Rattle.cases.specs.File.{headerOf, transitionTable, actionTable, formulaTable, nodeLimit}
 use Rattle.cases.specs.Case.{caseOf}
-use Rattle.cases.specs.Conditions.{binderCount, blockTotal, tooDeep, caseRefusal, Accepted}
-use Rattle.cases.specs.Opening.{Opens}
-use Rattle.cases.specs.declared.Opened.{Opened}
-use Rattle.cases.specs.declared.Opened.the-variants.{Refused as Refused′}
-use Rattle.cases.specs.declared.Cause.{Cause as Cause′}
-use Rattle.cases.proofs.Openings.{refused as opened-refused}
-use Rattle.sets.specs.Refusals.{refused, Outcome}
+use Rattle.cases.specs.declared.Tally.{Tally}
+use Rattle.cases.specs.Tally.{tallyOf}
+use Rattle.cases.specs.Conditions.{binderCount, blockTotal, tooDeep, Accepted}
+use Rattle.sets.specs.Refusals.{Outcome}
 use Rattle.cases.specs.internal.Checks.{transitionsIn, nodesIn}
 use Rattle.cases.proofs.Accepting.{Passed, passed}
 use Rattle.cases.proofs.TableTrees.{formula-table, root}
 use Rattle.cases.proofs.Masks.{whole-actions}
 use Rattle.cases.proofs.ModelRules.{transitions-inside, actions-inside, nodes-inside}
-use Rattle.translate.proofs.AcceptedCases.{model-holds}
+use Rattle.cases.proofs.Tallies.{model-holds, partAt}
 use Rattle.cases.proofs.FormulaRules.{length-nodes}
-use Rattle.translate.proofs.CaseParts.{from}
 use Rattle.routes.specs.declared.Value.{Value}
 use Rattle.routes.specs.computed.Worked.{worked}
-use Rattle.routes.specs.declared.Answer.the-variants.{Refused}
-use Rattle.routes.specs.declared.Cause.the-variants.{Open}
-use Rattle.routes.specs.Route.{routeNumber, routeAnswer, direct, runOf, marksOnly, runConditions, RanBy, Ran}
+use Rattle.routes.specs.Route.{direct, runOf, marksOnly, runConditions, RanBy, Ran}
 use Rattle.routes.specs.internal.Answering.{Rooted}
 use Rattle.routes.specs.internal.Evaluating.{Records, FormulaPart, caseIn, CaseParts, Masks, BinderBlocks, Shown, Asks, Rule, Evaluated}
 use Rattle.routes.proofs.DirectLaws.{direct-exists}
 use Rattle.routes.proofs.TableLaws.{binders-before}
-use Rattle.routes.proofs.RouteLaws.{case-refused, case-accepted}
-use Rattle.routes.proofs.DirectAnswers.{ran-refused, ran-first}
+use Rattle.routes.proofs.RouteLaws.{case-accepted}
+use Rattle.routes.proofs.DirectAnswers.{ran-first}
 
 -- ---- from the parts
 
@@ -116,7 +110,7 @@ few-binders t e = omega (arith, ltb-false blockLimit (blockTotal t) e)
 
 module _ (b : List ℕ) (accepted : Accepted b) where
   -- The parts of an accepted case at the offsets of its header are as the evaluator asks,
-  header-parts : CaseParts (headerOf b) (from b (headerOf b .«transitions_at»)) (from b (headerOf b .«actions_at»)) (from b (headerOf b .«formula_at»))
+  header-parts : CaseParts (headerOf b) (partAt b (headerOf b .«transitions_at»)) (partAt b (headerOf b .«actions_at»)) (partAt b (headerOf b .«formula_at»))
   unfolding transitionTable actionTable formulaTable transitionsIn nodesIn
   header-parts =
       let good : Passed b = passed b accepted in
@@ -142,25 +136,17 @@ module _ (b : List ℕ) (accepted : Accepted b) where
       }
 
   -- and their case is the case of the bytes.
-  header-case : caseIn (headerOf b) (from b (headerOf b .«transitions_at»)) (from b (headerOf b .«actions_at»)) (from b (headerOf b .«formula_at»)) ≡ caseOf b
+  header-case : caseIn (headerOf b) (partAt b (headerOf b .«transitions_at»)) (partAt b (headerOf b .«actions_at»)) (partAt b (headerOf b .«formula_at»)) ≡ caseOf b
   unfolding caseIn caseOf transitionTable actionTable formulaTable transitionsIn nodesIn
   header-case = rw (part-to-end b (headerOf b .«transitions_at»), part-to-end b (headerOf b .«actions_at»), part-to-end b (headerOf b .«formula_at»))
 
   module _ {h : Header} (is : h ≡ headerOf b) where
-    pub case-parts : CaseParts h (from b (h .«transitions_at»)) (from b (h .«actions_at»)) (from b (h .«formula_at»))
+    pub case-parts : CaseParts h (partAt b (h .«transitions_at»)) (partAt b (h .«actions_at»)) (partAt b (h .«formula_at»))
     case-parts = rw is header-parts
 
     -- So what direct promises from the parts it promises of the case.
     pub case-ran : {marks : List ℕ} {limit : ℕ} {o : Outcome} {after : List ℕ}
-        → RanBy (runConditions direct (caseIn h (from b (h .«transitions_at»)) (from b (h .«actions_at»)) (from b (h .«formula_at»))) (marksOnly marks) limit) direct
-        (caseIn h (from b (h .«transitions_at»)) (from b (h .«actions_at»)) (from b (h .«formula_at»))) marks o after
-        → Ran direct b (marksOnly marks) limit o after
-    case-ran {marks} {limit} r = record { by = ran-first (sym (case-accepted direct b (marksOnly marks) limit accepted)) (rw (is, header-case) at r) }
-
--- A case that is not opened is refused with its number.
-pub open-refused : {b marks : List ℕ} {limit : ℕ} {opened : Opened} {cause : Cause′} → Opens (caseRefusal b) (headerOf b) opened → opened ≡ Refused′ cause
-    → Ran direct b (marksOnly marks) limit (routeAnswer (Refused (Open cause))) marks
-unfolding routeAnswer routeNumber
-open-refused {b} {marks} {limit} {cause = cause} o e =
-    let x = opened-refused o e in
-    record { by = ran-refused (ap refused (x .0)) (case-refused direct b (marksOnly marks) limit (x .1)) (x .1) }
+        → RanBy (runConditions direct (caseIn h (partAt b (h .«transitions_at»)) (partAt b (h .«actions_at»)) (partAt b (h .«formula_at»))) (marksOnly marks) limit) direct
+        (caseIn h (partAt b (h .«transitions_at»)) (partAt b (h .«actions_at»)) (partAt b (h .«formula_at»))) marks o after
+        → {t : Tally} → t ≡ tallyOf b → Ran direct b (marksOnly marks) limit o t after
+    case-ran {marks} {limit} r {t} tally-is = record { tally-is = tally-is; by = ran-first (sym (case-accepted direct b (marksOnly marks) limit accepted)) (rw (is, header-case) at r) }

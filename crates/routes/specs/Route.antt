@@ -13,6 +13,8 @@ use Rattle.solver.specs.computed.Solved.{evaluate, run}
 use Rattle.solver.specs.File.{sizesOf, cells, cellLimit}
 use Rattle.solver.specs.Outcome.{Scratch, solveNumber, FileRounds, solveTooShort}
 use Rattle.cases.specs.Case.{Case, caseOf}
+use Rattle.cases.specs.Tally.{tallyOf}
+use Rattle.cases.specs.declared.Tally.{Tally}
 use Rattle.translate.specs.Bytes.{fileOf}
 use Rattle.cases.specs.Conditions.{caseConditions}
 use Rattle.cases.specs.Opening.{caseNumber}
@@ -119,14 +121,16 @@ pub record RanBy (cs : Conditions) (R : Route) (c : Case) (marks : List ℕ) (o 
   pub answers : o ≡ routeOutcome cs R c
   pub marks-are : after ≡ marksAfter cs R c marks
 
--- What a route promises of any bytes. Direct promises this.
-pub record Ran (R : Route) (b : List ℕ) (l : Lent) (limit : ℕ) (o : Outcome) (after : List ℕ) : Type 0 where
+-- What a route promises of any bytes: of the outcome o, and beside it of the tally t, which is that of the bytes, whatever is lent and answered.
+-- Direct promises this.
+pub record Ran (R : Route) (b : List ℕ) (l : Lent) (limit : ℕ) (o : Outcome) (t : Tally) (after : List ℕ) : Type 0 where
   pub by : RanBy (routeConditions R b l limit) R (caseOf b) (l .marks) o after
+  pub tally-is : t ≡ tallyOf b
 
 -- What the equation route promises: this, and the bytes of the file buffer, which are translate's whatever solve then answers, and the working
 -- bytes. After 14 each of the c working bytes is 0 or 1.
-pub record EquationRan (b : List ℕ) (l : Lent) (limit : ℕ) (o : Outcome) (file′ work′ marks′ : List ℕ) : Type 0 where
-  pub ran : Ran equation b l limit o marks′
+pub record EquationRan (b : List ℕ) (l : Lent) (limit : ℕ) (o : Outcome) (t : Tally) (file′ work′ marks′ : List ℕ) : Type 0 where
+  pub ran : Ran equation b l limit o t marks′
   pub file-is : file′ ≡ fileAfter b (l .file)
   pub work-is : ¬ Spent o → work′ ≡ workAfter b l limit
   pub work-14 : Spent o → Scratch (sizesOf (file b) .cells) (l .work) work′

@@ -6,19 +6,24 @@ mod tables;
 
 use cases::Header;
 use cases::Opened;
+use cases::TRANSITIONS;
+use cases::Tally;
+use cases::first_appearances;
 use evaluate::evaluate_root;
 pub use outcome::numbers_of;
 pub use outcome::solving_answer;
 use sets::WORDS;
 use translate::Written;
+use translate::write_case;
 ghost use mathlib.Core.Path.{_≡_};
 ghost use Prim.Native.Nat.{_<_, _≤_};
 ghost use Rattle.sets.specs.Words.{stateLimit};
 ghost use Rattle.sets.specs.Refusals.{refused as Outcome·refused};
 ghost use Rattle.cases.specs.File.{headerOf};
 ghost use Rattle.cases.specs.Conditions.{Accepted};
-ghost use Rattle.translate.specs.Translating.{translateNumber, writtenNumber};
-ghost use Rattle.routes.specs.Route.{routeNumber, routeAnswer, direct as Route·direct, lent, marksOnly, runConditions, RanBy, Ran, EquationRan};
+ghost use Rattle.cases.specs.Opening.{caseNumber};
+ghost use Rattle.cases.specs.Tally.{noTally};
+ghost use Rattle.routes.specs.Route.{routeAnswer, direct as Route·direct, lent, marksOnly, runConditions, RanBy, Ran, EquationRan};
 ghost use Rattle.routes.specs.internal.Answering.{Reported};
 ghost use Rattle.routes.specs.internal.Evaluating.{caseIn, CaseParts};
 
@@ -38,6 +43,12 @@ pub struct Report {
 pub enum Answer {
     Solved(Report),
     Refused(Cause),
+}
+
+// A route's answer, and the tally of the case's transition table: both its numbers are 0 where the case is refused on opening.
+pub struct Tallied {
+    pub answer: Answer,
+    pub tally: Tally,
 }
 
 // The numbers of an answer: the refusal number (0 if none), the verdict as 1 or 0, the count and the rounds; the last three are 0 after a
@@ -96,51 +107,79 @@ pub fn direct_parts(
 }
 
 // Direct on an accepted case and its header.
-fn direct_opened(case: &[u8], h: Header, marks: &mut [u64], limit: u64) -> Answer
+fn direct_opened(case: &[u8], h: Header, marks: &mut [u64], limit: u64) -> Tallied
     requires { ⌜ Accepted (now case) × (h ≡ headerOf (now case)) ⌝ }
-    ensures { λ r. ⌜ Ran Route·direct (now (case .entry)) (marksOnly (now (marks .entry))) limit (routeAnswer r) (now (marks .exit)) ⌝ }
+    ensures { λ r. ⌜ Ran Route·direct (now (case .entry)) (marksOnly (now (marks .entry))) limit (routeAnswer (r .answer)) (r .tally) (now (marks .exit)) ⌝ }
 {
+    let mut first = [0u8; TRANSITIONS];
+    let tally = first_appearances(case, h, &mut first);
     let records = h.transitions_at;
     let actions = h.actions_at;
     let formula = h.formula_at;
-    direct_parts(
+    let answer = direct_parts(
         h,
         &case[records..],
         &case[actions..],
         &case[formula..],
         marks,
         limit,
-    )
+    );
+    Tallied {
+        answer: answer,
+        tally: tally,
+    }
+}
+
+// The answer to a case that is refused on opening.
+fn unopened(cause: cases::Cause) -> Tallied
+    ensures { λ r. ⌜ (routeAnswer (r .answer) ≡ Outcome·refused (caseNumber cause)) × (r .tally ≡ noTally) ⌝ }
+{
+    Tallied {
+        answer: Answer::Refused(Cause::Open(cause)),
+        tally: Tally {
+            records: 0,
+            distinct: 0,
+        },
+    }
 }
 
 // Evaluates the formula of a case on sets of states. Is lent the words of a set for the marks.
-pub fn direct(case: &[u8], marks: &mut [u64], limit: u64) -> Answer
-    ensures { λ r. ⌜ Ran Route·direct (now (case .entry)) (marksOnly (now (marks .entry))) limit (routeAnswer r) (now (marks .exit)) ⌝ }
+pub fn direct(case: &[u8], marks: &mut [u64], limit: u64) -> Tallied
+    ensures { λ r. ⌜ Ran Route·direct (now (case .entry)) (marksOnly (now (marks .entry))) limit (routeAnswer (r .answer)) (r .tally) (now (marks .exit)) ⌝ }
 {
     match cases::open(case) {
         Opened::Accepted(h) => direct_opened(case, h, marks, limit),
-        Opened::Refused(cause) => Answer::Refused(Cause::Open(cause)),
+        Opened::Refused(cause) => unopened(cause),
     }
 }
 
-// The cause of a refusal of translate's.
-fn translating_cause(cause: translate::Cause) -> Cause
-    ensures { λ r. ⌜ routeNumber r ≡ translateNumber cause ⌝ }
+// The equation route on an accepted case and its header. First appearances are found once, for the file and for the tally. Without a file
+// the buffer was too short, for the case is accepted.
+fn equation_opened(
+    case: &[u8],
+    h: Header,
+    file: &mut [u8],
+    work: &mut [u8],
+    marks: &mut [u64],
+    limit: u64,
+) -> Tallied
+    requires { ⌜ Accepted (now case) × (h ≡ headerOf (now case)) ⌝ }
+    ensures { λ r. ⌜ EquationRan (now (case .entry)) (lent (now (file .entry)) (now (work .entry)) (now (marks .entry))) limit (routeAnswer (r .answer)) (r .tally)
+        (now (file .exit)) (now (work .exit)) (now (marks .exit)) ⌝ }
 {
-    match cause {
-        translate::Cause::Open(cause) => Cause::Open(cause),
-        translate::Cause::Memory => Cause::Run(solver::Cause::Memory),
-    }
-}
-
-// The refusal of a translation that wrote no file.
-fn unwritten(written: Written) -> Answer
-    requires { ⌜ ¬ (writtenNumber written ≡ 0) ⌝ }
-    ensures { λ r. ⌜ routeAnswer r ≡ Outcome·refused (writtenNumber written) ⌝ }
-{
-    match written {
-        Written::File(_) => Answer::Refused(Cause::Run(solver::Cause::Memory)),
-        Written::Refused(cause) => Answer::Refused(translating_cause(cause)),
+    let mut first = [0u8; TRANSITIONS];
+    let tally = first_appearances(case, h, &mut first);
+    let written = write_case(case, h, &first, file);
+    let Written::File(length) = written else {
+        return Tallied {
+            answer: Answer::Refused(Cause::Run(solver::Cause::Memory)),
+            tally: tally,
+        };
+    };
+    let answer = solving_answer(solver::solve(&file[..length], work, marks, limit));
+    Tallied {
+        answer: answer,
+        tally: tally,
     }
 }
 
@@ -152,13 +191,12 @@ pub fn equation(
     work: &mut [u8],
     marks: &mut [u64],
     limit: u64,
-) -> Answer
-    ensures { λ r. ⌜ EquationRan (now (case .entry)) (lent (now (file .entry)) (now (work .entry)) (now (marks .entry))) limit (routeAnswer r)
+) -> Tallied
+    ensures { λ r. ⌜ EquationRan (now (case .entry)) (lent (now (file .entry)) (now (work .entry)) (now (marks .entry))) limit (routeAnswer (r .answer)) (r .tally)
         (now (file .exit)) (now (work .exit)) (now (marks .exit)) ⌝ }
 {
-    let written = translate::translate(case, file);
-    let Written::File(length) = written else {
-        return unwritten(written);
-    };
-    solving_answer(solver::solve(&file[..length], work, marks, limit))
+    match cases::open(case) {
+        Opened::Accepted(h) => equation_opened(case, h, file, work, marks, limit),
+        Opened::Refused(cause) => unopened(cause),
+    }
 }

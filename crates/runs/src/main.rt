@@ -1,15 +1,19 @@
 // Reads a stream of cases from standard input, each as its length, a 16-bit number, low byte first, and then so many bytes. Prints a line
-// for each: its number in the stream, and then for each route what `twosides` prints. A stream that ends inside a case ends there.
+// for each: its number in the stream, and then what `twosides` prints. A stream that ends inside a case ends there.
 use libc::STDIN_FILENO;
 use libc::STDOUT_FILENO;
 
 // The line of a case.
 fn run(number: u64, case: &[u8]) {
+    let equation = lines::by_equation(case);
+    let direct = lines::by_direct(case);
     io::print_decimal(STDOUT_FILENO, number);
     io::write_all(STDOUT_FILENO, b" ");
-    lines::print(b"E", lines::by_equation(case));
+    lines::print_route(b"E", equation);
     io::write_all(STDOUT_FILENO, b" ");
-    lines::print(b"D", lines::by_direct(case));
+    lines::print_route(b"D", direct);
+    io::write_all(STDOUT_FILENO, b" ");
+    lines::print_tally(direct);
     io::write_all(STDOUT_FILENO, b"\n");
 }
 

@@ -27,6 +27,10 @@ without-rest : (k n : ℕ) (c : Bool) (cs : Conditions) → Without k ((n, c) �
 unfolding every
 without-rest k n c cs t = and-right (not (eqb n k)) _ t
 
+pub absent : (k : ℕ) (cs : Conditions) → Without k cs → ¬ List·Memᴰ k (numbersOf cs)
+absent k ((n, c) ∷ cs) t (List·Memᴰ·head e) = without-first k n c cs t (sym e)
+absent k ((n, c) ∷ cs) t (List·Memᴰ·tail m) = absent k cs (without-rest k n c cs t) m
+
 -- ---- one by one, as code looks at them
 
 pub none-holds : 0 ≡ firstOf []

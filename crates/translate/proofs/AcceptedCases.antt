@@ -1,51 +1,35 @@
 -- An accepted case is within the limits of its equations, and each of its variables is bound.
 use mathlib.Core.Path.{_≡_, refl, ap, _∙_}
-use mathlib.Core.Bool.{Bool, true, false, cond, _&&_, _||_}
+use mathlib.Core.Bool.{Bool, true, false, cond, _||_}
 use mathlib.Core.List.{List, map}
 use Prim.Native.Nat.{ℕ, _+_, _≤_, _<_}
 use native.Mathlib.Omega.{arith}
-use borrow.Author.Tests.{not-false, ltb-false}
-use lib.Dec.{T, eqb, ltb, ltb→lt}
+use borrow.Author.Tests.{ltb-false}
+use lib.Dec.{eqb}
 use lib.ListN.{length, length-map, length-append}
-use Rattle.sets.specs.Lists.{every}
-use Rattle.sets.proofs.Lists.{and-left, and-right, length-table}
+use Rattle.sets.proofs.Lists.{length-table}
 use Rattle.cases.specs.Action.{Action}
 use Rattle.cases.specs.Formula.{Formula, False, True, And, Or, Box, Diamond, Variable, Fix, nodes}
 use Rattle.cases.specs.internal.Scope.{binders}
 use Rattle.cases.specs.declared.Node.{Node}
 use Rattle.cases.specs.Prefix.{arityIn, formulaArities, actionAt, formulaAt}
-use Rattle.cases.specs.File.{headerOf, transitionTable, actionTable, formulaTable, transitionIn, nodeIn}
-use Rattle.cases.specs.internal.Checks.{transitionPart, formulaPart}
+use Rattle.cases.specs.File.{headerOf, actionTable, formulaTable, nodeIn}
+use Rattle.cases.specs.internal.Checks.{formulaPart}
 use Rattle.cases.specs.Case.{caseOf}
-use Rattle.cases.specs.Conditions.{transitionOk, nodeAt, isBinder, badModel, blockTotal, tooDeep, Accepted}
+use Rattle.cases.specs.Conditions.{nodeAt, isBinder, blockTotal, tooDeep, Accepted}
 use Rattle.cases.specs.internal.Tables.{made, formulaOperator, FormulaTable}
 use Rattle.cases.proofs.Spans.{span-length}
-use Rattle.cases.proofs.TableTrees.{holds, held, each-kind, formula-table, formula-at, root}
+use Rattle.cases.proofs.TableTrees.{each-kind, formula-table, formula-at, root}
 use Rattle.cases.proofs.Counting.{nodes-span, binders-all}
 use Rattle.cases.proofs.Scopes.{Bound, variable-bound, formula-scoped}
 use Rattle.cases.proofs.Accepting.{Passed, passed}
+use Rattle.cases.proofs.Tallies.{model-holds, length-transitions}
 use Rattle.translate.specs.Whole.{raise, bindsFirst, whole, binderNodes}
 use Rattle.translate.proofs.Equations.{raised}
 use Rattle.translate.proofs.Closing.{closed-whole}
 use Rattle.translate.proofs.CaseFile.{Fit}
 
--- ---- the model
-
--- the initial state is a state, and the transitions have states and labels
-pub model-holds : (b : List ℕ) → badModel b ≡ false
-    → (headerOf b .initial < headerOf b .states) × (every (transitionOk (headerOf b .states) (headerOf b .labels)) (transitionTable b) ≡ true)
-unfolding badModel
-model-holds b e =
-    let low : Bool = ltb (headerOf b .initial) (headerOf b .states) in
-    let oks : Bool = every (transitionOk (headerOf b .states) (headerOf b .labels)) (transitionTable b) in
-    let good : T (low && oks) = held (low && oks) (not-false (low && oks) e) in
-    (ltb→lt (headerOf b .initial) (headerOf b .states) (and-left low oks good), holds oks (and-right low oks good))
-
--- how long the tables are
-pub length-transitions : (b : List ℕ) → length (transitionTable b) ≡ headerOf b .transitions
-unfolding transitionTable
-length-transitions b = length-table (transitionIn (transitionPart b)) (headerOf b .transitions)
-
+-- how long the formula table is
 pub length-formula : (b : List ℕ) → length (formulaTable b) ≡ headerOf b .nodes
 unfolding formulaTable
 length-formula b = length-table (nodeIn (formulaPart b)) (headerOf b .nodes)

@@ -17,6 +17,7 @@ use Rattle.cases.specs.Formula.{Formula, nodes}
 use Rattle.cases.specs.Case.{Case, distinct}
 use Rattle.cases.specs.Conditions.{transitionOk}
 use Rattle.cases.specs.declared.Transition.{Transition}
+use Rattle.cases.proofs.Distinct.{length-distinct}
 use Rattle.translate.specs.Whole.{whole, binderNodes, blockIn}
 use Rattle.translate.specs.Bytes.{systemOf, allOperands, fileOf}
 use Rattle.translate.proofs.AllLaws.{all-distinct, among-all}
@@ -68,7 +69,7 @@ module _ (c : Case) (fit : Fit c) where
   unfolding systemOf
   operands-few =
       let n-high : 2 * n ≤ transitionLimit = omega (arith, fit .states-high) in
-      let few : length ts ≤ transitionLimit = omega (arith, counts.length-distinct (c .transitions), fit .transitions-high) in
+      let few : length ts ≤ transitionLimit = omega (arith, length-distinct (c .transitions), fit .transitions-high) in
       counts.length-operands n ts (blockIn a) n-high few a 0
 
   pub operands-high : length (allOperands (systemOf c .cells)) ≤ operandLimit

@@ -2,23 +2,25 @@
 use mathlib.Core.Path.{_≡_, refl, sym, ap, _∙_, subst}
 use mathlib.Core.Bool.{Bool, true, false, cond}
 use mathlib.Core.List.{List, _++_}
-use Prim.Native.Nat.{ℕ, _+_, _-_, _*_, _≤_}
+use Prim.Native.Nat.{ℕ, _+_, _-_, _≤_}
 use lib.Dec.{ltb}
 use lib.ListN.{length, take, drop}
 use borrow.Author.Tests.{ltb-true, ltb-false}
 use borrow.Rule.Slice.PartAt.{part-to-end}
 use Rattle.cases.specs.declared.Header.{Header}
-use Rattle.cases.specs.File.{headerOf, transitionLimit}
+use Rattle.cases.specs.File.{headerOf}
 use Rattle.cases.specs.Case.{caseOf}
 use Rattle.cases.specs.Conditions.{nodeAt, isBinder, Accepted}
-use Rattle.cases.specs.internal.Checks.{nodesIn}
+use Rattle.cases.specs.internal.Checks.{transitionPart, nodesIn}
 use Rattle.translate.specs.declared.Shape.{Shape}
 use Rattle.translate.specs.declared.Written.{Written}
 use Rattle.translate.specs.declared.Cause.the-variants.{Memory}
 use Rattle.translate.specs.declared.Written.the-variants.{File, Refused}
 use Rattle.translate.specs.Bytes.{System, systemOf, fileOf}
 use Rattle.translate.specs.internal.Parts.{distinctIn}
-use Rattle.translate.specs.internal.Tabled.{FirstFlags, Tables, HoldsShapes}
+use Rattle.cases.specs.internal.Links.{FirstFlags}
+use Rattle.cases.proofs.Tallies.{partAt}
+use Rattle.translate.specs.internal.Tabled.{Tables, HoldsShapes}
 use Rattle.translate.specs.internal.Sources.{Sources, shapeSystem, Emitted}
 use Rattle.translate.specs.Translating.{file, translateNumber, writtenNumber, writtenLength, Translated}
 use Rattle.translate.proofs.CaseSources as of-case
@@ -41,39 +43,30 @@ module _ (b before : List ℕ) (accepted : Accepted b) {w : Written} {after : Li
   pub ends-translated : Translated b before (writtenNumber w) (writtenLength w) after
   ends-translated = ends-by (ltb (length before) (length (file b))) refl
 
--- the part of the file that starts at an offset
-abbrev pub from : List ℕ → ℕ → List ℕ
-from b at = take (length b - at) (drop at b)
-
 -- what is known of an accepted case by its header
 pub record Opened (b : List ℕ) (h : Header) : Type 0 where
   pub transitions : h .«transitions_at» ≤ length b
   pub actions : h .«actions_at» ≤ length b
   pub formula : h .«formula_at» ≤ length b
-  pub records : 6 * h .transitions ≤ length (from b (h .«transitions_at»))
-  pub few : h .transitions ≤ transitionLimit
-  pub tables : Tables (from b (h .«actions_at»)) (h .actions) (from b (h .«formula_at»)) (h .nodes)
+  pub tables : Tables (partAt b (h .«actions_at»)) (h .actions) (partAt b (h .«formula_at»)) (h .nodes)
   pub some : 1 ≤ h .nodes
 
 -- and once flags and shapes are worked out
 pub record Held (b first : List ℕ) (shapes : List Shape) (added : ℕ) (h : Header) : Type 0 where
-  pub flags : FirstFlags (from b (h .«transitions_at»)) (h .transitions) first
-  pub nodes : HoldsShapes (from b (h .«actions_at»)) (h .actions) (from b (h .«formula_at»)) (h .nodes) shapes
-  pub before : added ≡ cond (isBinder (nodeAt (nodesIn (from b (h .«formula_at»)) (h .nodes)) 0)) 0 1
+  pub flags : FirstFlags (transitionPart b) (h .transitions) first
+  pub nodes : HoldsShapes (partAt b (h .«actions_at»)) (h .actions) (partAt b (h .«formula_at»)) (h .nodes) shapes
+  pub before : added ≡ cond (isBinder (nodeAt (nodesIn (partAt b (h .«formula_at»)) (h .nodes)) 0)) 0 1
 
 module _ (b : List ℕ) (accepted : Accepted b) where
   opened-header : Opened b (headerOf b)
   opened-header =
       let p = of-case.parts b accepted in
-      let one = part-to-end b (headerOf b .«transitions_at») in
       let two = part-to-end b (headerOf b .«actions_at») in
       let three = part-to-end b (headerOf b .«formula_at») in
       record {
         transitions = p .3;
         actions = p .4;
         formula = p .5;
-        records = rw one (p .0);
-        few = p .1;
         tables = rw (two, three) (of-case.tables b accepted);
         some = p .2;
       }
@@ -83,36 +76,36 @@ module _ (b : List ℕ) (accepted : Accepted b) where
 
   module _ (first : List ℕ) (shapes : List Shape) (added : ℕ) where
     sources-header : Held b first shapes added (headerOf b)
-        → Sources (from b (headerOf b .«transitions_at»)) first (headerOf b .transitions) shapes (added + headerOf b .nodes) (headerOf b .states)
+        → Sources (partAt b (headerOf b .«transitions_at»)) first (headerOf b .transitions) shapes (added + headerOf b .nodes) (headerOf b .states)
     sources-header held =
         let one = part-to-end b (headerOf b .«transitions_at») in
         let two = part-to-end b (headerOf b .«actions_at») in
         let three = part-to-end b (headerOf b .«formula_at») in
-        rw one (of-case.sources b accepted first shapes (added + headerOf b .nodes) (rw one at (held .flags)) (rw (two, three) at (held .nodes))
+        rw one (of-case.sources b accepted first shapes (added + headerOf b .nodes) (held .flags) (rw (two, three) at (held .nodes))
         (ap (λ (x : ℕ). x + headerOf b .nodes) (rw three at (held .before))))
 
     system-header : Held b first shapes added (headerOf b)
-        → shapeSystem (headerOf b .states) (headerOf b .initial) (distinctIn (from b (headerOf b .«transitions_at»)) first (headerOf b .transitions)) (take (added + headerOf b .nodes) shapes) ≡ systemOf (caseOf b)
+        → shapeSystem (headerOf b .states) (headerOf b .initial) (distinctIn (partAt b (headerOf b .«transitions_at»)) first (headerOf b .transitions)) (take (added + headerOf b .nodes) shapes) ≡ systemOf (caseOf b)
     system-header held =
         let one = part-to-end b (headerOf b .«transitions_at») in
         let two = part-to-end b (headerOf b .«actions_at») in
         let three = part-to-end b (headerOf b .«formula_at») in
-        rw one (of-case.system-of b accepted first shapes (added + headerOf b .nodes) (rw one at (held .flags)) (rw (two, three) at (held .nodes))
+        rw one (of-case.system-of b accepted first shapes (added + headerOf b .nodes) (held .flags) (rw (two, three) at (held .nodes))
         (ap (λ (x : ℕ). x + headerOf b .nodes) (rw three at (held .before))))
 
     module _ {h : Header} (e : h ≡ headerOf b) (held : Held b first shapes added h) where
       -- what the writers are handed
-      pub handed : Sources (from b (h .«transitions_at»)) first (h .transitions) shapes (added + h .nodes) (h .states)
+      pub handed : Sources (partAt b (h .«transitions_at»)) first (h .transitions) shapes (added + h .nodes) (h .states)
       handed =
-          subst (λ (x : Header). Sources (from b (x .«transitions_at»)) first (x .transitions) shapes (added + x .nodes) (x .states)) (sym e)
+          subst (λ (x : Header). Sources (partAt b (x .«transitions_at»)) first (x .transitions) shapes (added + x .nodes) (x .states)) (sym e)
           (sources-header (subst (Held b first shapes added) e held))
 
       -- what follows from what they leave
       pub left-as : {before : List ℕ} {w : Written} {after : List ℕ}
-          → Emitted (shapeSystem (h .states) (h .initial) (distinctIn (from b (h .«transitions_at»)) first (h .transitions)) (take (added + h .nodes) shapes)) before w after
+          → Emitted (shapeSystem (h .states) (h .initial) (distinctIn (partAt b (h .«transitions_at»)) first (h .transitions)) (take (added + h .nodes) shapes)) before w after
           → Translated b before (writtenNumber w) (writtenLength w) after
       left-as {before} {w} {after} emitted =
-          let is : shapeSystem (h .states) (h .initial) (distinctIn (from b (h .«transitions_at»)) first (h .transitions)) (take (added + h .nodes) shapes) ≡ systemOf (caseOf b) =
-          subst (λ (x : Header). shapeSystem (x .states) (x .initial) (distinctIn (from b (x .«transitions_at»)) first (x .transitions)) (take (added + x .nodes) shapes) ≡ systemOf (caseOf b)) (sym e)
+          let is : shapeSystem (h .states) (h .initial) (distinctIn (partAt b (h .«transitions_at»)) first (h .transitions)) (take (added + h .nodes) shapes) ≡ systemOf (caseOf b) =
+          subst (λ (x : Header). shapeSystem (x .states) (x .initial) (distinctIn (partAt b (x .«transitions_at»)) first (x .transitions)) (take (added + x .nodes) shapes) ≡ systemOf (caseOf b)) (sym e)
           (system-header (subst (Held b first shapes added) e held)) in
           ends-translated b before accepted (subst (λ (y : System). Emitted y before w after) is emitted)

@@ -19,6 +19,7 @@ use Rattle.cases.specs.File.{headerOf, labelLimit, transitionLimit, nodeLimit, 
 use Rattle.cases.specs.Case.{caseOf, distinct}
 use Rattle.cases.specs.Conditions.{transitionOk, nodeAt, nodeOk, isBinder, badFormula, Accepted}
 use Rattle.cases.specs.internal.Checks.{transitionsIn, nodesIn, transitionPart, actionPart, formulaPart}
+use Rattle.cases.specs.internal.Links.{FirstFlags}
 use Rattle.cases.specs.internal.Tables.{FormulaTable}
 use Rattle.cases.proofs.Spans.{exactly-whole, second-node}
 use Rattle.cases.proofs.Trees.{arity-at}
@@ -31,14 +32,15 @@ use Rattle.translate.specs.Bytes.{System, systemOf, allOperands}
 use Rattle.translate.specs.internal.Shapes.{shapesFrom, shapeIn, tableShapes}
 use Rattle.translate.specs.internal.Parts.{distinctIn}
 use Rattle.translate.specs.internal.Sources.{shapeSystem, shapeAt, Sources}
-use Rattle.translate.specs.internal.Tabled.{FirstFlags, Tables, HoldsShapes}
+use Rattle.translate.specs.internal.Tabled.{Tables, HoldsShapes}
 use Rattle.translate.proofs.AllLaws.{all-distinct}
-use Rattle.translate.proofs.FirstAppearances.{flagged-distinct}
+use Rattle.cases.proofs.FirstAppearances.{flagged-distinct}
 use Rattle.translate.proofs.TableShapes.{shape-blocks, shape-cells, table-shapes}
 use Rattle.translate.proofs.ShapeLaws.{shape-cell}
 use Rattle.translate.proofs.CaseFile.{operands-high}
 use Rattle.cases.proofs.Accepting.{Passed, passed}
-use Rattle.translate.proofs.AcceptedCases.{model-holds, length-formula, variables-known, fit}
+use Rattle.cases.proofs.Tallies.{model-holds}
+use Rattle.translate.proofs.AcceptedCases.{length-formula, variables-known, fit}
 
 -- ---- the tables
 
@@ -240,7 +242,7 @@ module _ (b : List ℕ) (accepted : Accepted b) where
         let few : k ≤ nodeLimit + 1 = omega (arith, count, l .counts .few-nodes, added-small (isBinder (nodeAt (nodesIn (formulaPart b) (headerOf b .nodes)) 0))) in
         let operands = ap (λ (y : System). length (allOperands (y .cells))) system-of in
         record {
-          recorded = record { records = parts .0; flags = omega (arith, flags .long, parts .1) };
+          recorded = record { records = parts .0; flags = flags .long };
           few-transitions = parts .1;
           held = omega (arith, holds-shapes .long);
           few-nodes = few;

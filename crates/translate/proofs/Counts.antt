@@ -8,13 +8,12 @@ use lib.Dec.{eqb}
 use lib.ListN.{length, length-append, length-map}
 use borrow.Author.Tests.{eqb-true, ne-eqb}
 use Rattle.sets.specs.Lists.{numbersFrom}
-use Rattle.sets.proofs.Lists.{length-range}
 use Rattle.solver.specs.Cells.{Cell, operandsOf}
 use Rattle.cases.specs.File.{transitionLimit}
 use Rattle.cases.specs.Action.{Action, accepts}
 use Rattle.cases.specs.Formula.{Formula, False, True, And, Or, Box, Diamond, Variable, Fix, nodes}
 use Rattle.cases.specs.declared.Transition.{Transition}
-use Rattle.cases.specs.Case.{copiesBefore, keep, distinct}
+use Rattle.cases.specs.Case.{keep}
 use Rattle.cases.specs.Meaning.{from}
 use Rattle.translate.specs.Whole.{raise, bindsFirst, whole, binderNodes}
 use Rattle.translate.specs.Cells.{targets, cellOf, cellsFrom, blocksFrom}
@@ -76,21 +75,6 @@ length-blocks n (Box α a) i = length-blocks n a (i + 1)
 length-blocks n (Diamond α a) i = length-blocks n a (i + 1)
 length-blocks n (Variable j) i = refl
 length-blocks n (Fix sign j a) i = ap suc (length-blocks n a (i + 1))
-
--- how many elements are kept
-pub length-keep : {A : Type 0} (p : A → Bool) (xs : List A) → length (keep p xs) ≤ length xs
-unfolding keep
-length-keep p [] = omega arith
-length-keep p (x ∷ xs) = go (p x) (length-keep p xs)
-  where
-    go : (b : Bool) → length (keep p xs) ≤ length xs → length (cond b (x ∷ keep p xs) (keep p xs)) ≤ suc (length xs)
-    go true h = omega arith
-    go false h = omega arith
-
--- at most as many transitions are distinct as there are
-pub length-distinct : (ts : List Transition) → length (distinct ts) ≤ length ts
-unfolding distinct
-length-distinct ts = simp length-map (omega (arith, length-keep (λ i. eqb (copiesBefore ts i) 0) (numbersFrom 0 (length ts)), length-range 0 (length ts)))
 
 -- the operands of cells that follow one another
 pub operands-append : (xs ys : List Cell) → allOperands (xs ++ ys) ≡ allOperands xs ++ allOperands ys

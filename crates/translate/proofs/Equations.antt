@@ -1,21 +1,21 @@
 -- The blocks of a formula are the equations of the table, and recorded copies of a transition are one transition.
-use mathlib.Core.Path.{_≡_, refl, sym, ap, _∙_}
+use mathlib.Core.Path.{_≡_, refl, ap, _∙_}
 use mathlib.Core.Bool.{Bool, true, false, cond, _&&_}
-use mathlib.Core.List.{List, [], _∷_, _++_, map, append-nil, map-append}
+use mathlib.Core.List.{List, [], _∷_, _++_, map, map-append}
 use Prim.Native.Nat.{ℕ, zero, suc, _+_, _*_, _≤_, _<_}
-use native.Mathlib.Nat.{zero-add, add-zero, add-assoc, add-mul, one-mul, mul-le-mul-right}
-use native.Mathlib.Numerals.{add-one}
+use native.Mathlib.Nat.{zero-add, add-zero, add-mul, one-mul, mul-le-mul-right}
 use native.Mathlib.Omega.{arith}
 use borrow.Author.Tests.{eq-eqb, ne-eqb}
-use lib.Dec.{T, eqb, ltb, ltb→lt, lt→ltb, eqb→eq}
-use lib.ListN.{length, getD, take, length-append, List·getD-append}
-use lib.Seq.{getD-append-add, append-snoc, getD-append-seam, take-append-seam}
-use Rattle.sets.specs.Lists.{numbersFrom, every}
+use lib.Dec.{T, eqb, ltb, ltb→lt, lt→ltb}
+use lib.ListN.{length, getD, length-append, List·getD-append}
+use lib.Seq.{getD-append-add}
+use Rattle.sets.specs.Lists.{every}
 use Rattle.sets.proofs.Lists.{and-left, and-right, and-both, all-at}
 use Rattle.solver.specs.File.{Block}
 use Rattle.cases.specs.Formula.{Formula, False, True, And, Or, Box, Diamond, Variable, Fix, nodes, subformulas, Stands}
 use Rattle.cases.specs.declared.Transition.{Transition}
-use Rattle.cases.specs.Case.{keep, copies, copiesBefore, sameTransition, transitionAt, distinct, fresh}
+use Rattle.cases.specs.Case.{copies, distinct}
+use Rattle.cases.proofs.Distinct.{copy-none}
 use Rattle.translate.specs.Whole.{raise, bindsFirst, whole, binderNodes, indexIn, blockIn}
 use Rattle.translate.specs.Tables.{Constant, RHS, Equation, E}
 use Rattle.translate.specs.Unfolding.{Plain, Unfolding, Agree}
@@ -235,118 +235,7 @@ increasing-whole a t = go (bindsFirst a)
 
 -- ---- copies
 
-length-snoc : {A : Type 0} (xs : List A) (x : A) → length (xs ++ (x ∷ [])) ≡ suc (length xs)
-length-snoc xs x = length-append xs (x ∷ []) ∙ add-one (length xs)
-
--- those of the k records from i on that have no equal record before them
-abbrev firsts : List Transition → ℕ → ℕ → List Transition
-firsts ts i k = map (transitionAt ts) (keep (λ j. eqb (copiesBefore ts j) 0) (numbersFrom i k))
-
-firsts-next : (ts : List Transition) (i k : ℕ) (t : Transition) (seen : List Transition) → transitionAt ts i ≡ t → take i ts ≡ seen
-    → firsts ts i (suc k) ≡ cond (eqb (copies t seen) 0) (t ∷ firsts ts (suc i) k) (firsts ts (suc i) k)
-unfolding numbersFrom keep copiesBefore
-firsts-next ts i k t seen p q = rw (p, q) (go (eqb (copies t seen) 0))
-  where
-    js : List ℕ
-    js = keep (λ j. eqb (copiesBefore ts j) 0) (numbersFrom (suc i) k)
-
-    go : (b : Bool) → map (transitionAt ts) (cond b (i ∷ js) js) ≡ cond b (t ∷ firsts ts (suc i) k) (firsts ts (suc i) k)
-    go true = rw p
-    go false = refl
-
--- Those that follow the records `seen` are fresh after them.
-firsts-fresh : (ts seen : List Transition) → firsts (seen ++ ts) (length seen) (length ts) ≡ fresh seen ts
-unfolding numbersFrom keep fresh
-firsts-fresh [] seen = refl
-firsts-fresh (t ∷ ts) seen =
-    let more : firsts (seen ++ (t ∷ ts)) (suc (length seen)) (length ts) ≡ fresh (seen ++ (t ∷ [])) ts =
-    rw (append-snoc seen t ts, length-snoc seen t) at (firsts-fresh ts (seen ++ (t ∷ []))) in
-    firsts-next (seen ++ (t ∷ ts)) (length seen) (length ts) t seen (getD-append-seam seen t ts _) (take-append-seam seen (t ∷ ts)) ∙ rw more
-
-pub distinct-fresh : (ts : List Transition) → distinct ts ≡ fresh [] ts
-unfolding distinct
-distinct-fresh ts = firsts-fresh ts []
-
--- What is fresh of two lists together is fresh of the first, and of the second after it.
-fresh-append : (us seen ws : List Transition) → fresh seen (us ++ ws) ≡ fresh seen us ++ fresh (seen ++ us) ws
-unfolding fresh
-fresh-append [] seen ws = rw append-nil
-fresh-append (u ∷ us) seen ws = rw (fresh-append us (seen ++ (u ∷ [])) ws, append-snoc seen u us) (go (eqb (copies u seen) 0))
-  where
-    go : (b : Bool) → cond b (u ∷ (fresh (seen ++ (u ∷ [])) us ++ fresh (seen ++ (u ∷ us)) ws)) (fresh (seen ++ (u ∷ [])) us ++ fresh (seen ++ (u ∷ us)) ws)
-        ≡ cond b (u ∷ fresh (seen ++ (u ∷ [])) us) (fresh (seen ++ (u ∷ [])) us) ++ fresh (seen ++ (u ∷ us)) ws
-    go true = refl
-    go false = refl
-
--- copies in two lists together
-copies-append : (x : Transition) (us ws : List Transition) → copies x (us ++ ws) ≡ copies x us + copies x ws
-unfolding copies
-copies-append x [] ws = sym (zero-add _)
-copies-append x (u ∷ us) ws = rw (copies-append x us ws) (sym (add-assoc _ _ _))
-
--- Further copies leave it so that two lists have both none of a record, or both some.
-none-add : (a b c : ℕ) → eqb a 0 ≡ eqb b 0 → eqb (a + c) 0 ≡ eqb (b + c) 0
-none-add a b zero e = rw (add-zero a, add-zero b) e
-none-add a b (suc c) e = ne-eqb (a + suc c) 0 (λ q. omega arith) ∙ sym (ne-eqb (b + suc c) 0 (λ q. omega arith))
-
--- What is fresh depends only on which records have been seen.
-fresh-same : (ts xs ys : List Transition) → ((x : Transition) → eqb (copies x xs) 0 ≡ eqb (copies x ys) 0) → fresh xs ts ≡ fresh ys ts
-unfolding fresh
-fresh-same [] xs ys h = refl
-fresh-same (t ∷ ts) xs ys h = rw (h t, fresh-same ts (xs ++ (t ∷ [])) (ys ++ (t ∷ [])) more)
-  where
-    more : (x : Transition) → eqb (copies x (xs ++ (t ∷ []))) 0 ≡ eqb (copies x (ys ++ (t ∷ []))) 0
-    more x = rw (copies-append x xs (t ∷ []), copies-append x ys (t ∷ [])) (none-add (copies x xs) (copies x ys) _ (h x))
-
--- Equal records are the same.
-same-eq : (x y : Transition) → sameTransition x y ≡ true → x ≡ y
-unfolding sameTransition
-same-eq x y e =
-    let t : T (eqb (x .source) (y .source) && eqb (x .label) (y .label) && eqb (x .target) (y .target)) = rw e tt in
-    let low : T (eqb (x .source) (y .source) && eqb (x .label) (y .label)) = and-left (eqb (x .source) (y .source) && eqb (x .label) (y .label)) _ t in
-    let p : x .source ≡ y .source = eqb→eq _ _ (and-left (eqb (x .source) (y .source)) _ low) in
-    let q : x .label ≡ y .label = eqb→eq _ _ (and-right (eqb (x .source) (y .source)) _ low) in
-    let r : x .target ≡ y .target = eqb→eq _ _ (and-right (eqb (x .source) (y .source) && eqb (x .label) (y .label)) _ t) in
-    λ i. record { source = p i; label = q i; target = r i }
-
--- a record that has been seen, seen again
-seen-again : (us : List Transition) (t : Transition) → 0 < copies t us → (x : Transition) → eqb (copies x (us ++ (t ∷ []))) 0 ≡ eqb (copies x us) 0
-unfolding copies
-seen-again us t h x = rw (copies-append x us (t ∷ [])) (go (sameTransition t x) refl)
-  where
-    go : (b : Bool) → sameTransition t x ≡ b → eqb (copies x us + (cond b 1 0 + 0)) 0 ≡ eqb (copies x us) 0
-    go true e =
-        let l : 0 < copies x us = rw (same-eq t x e) at h in
-        ne-eqb (copies x us + (1 + 0)) 0 (λ q. omega arith) ∙ sym (ne-eqb (copies x us) 0 (λ q. omega arith))
-    go false e = rw (add-zero (copies x us))
-
--- A recorded copy of a transition adds none: it may be left out.
-pub copy-none : (us : List Transition) (t : Transition) (vs : List Transition) → 0 < copies t us → distinct (us ++ (t ∷ vs)) ≡ distinct (us ++ vs)
-unfolding fresh
-copy-none us t vs h =
-    let e : eqb (copies t us) 0 ≡ false = ne-eqb (copies t us) 0 (λ q. omega arith) in
-    let step : fresh us (t ∷ vs) ≡ fresh us vs = rw e (fresh-same vs (us ++ (t ∷ [])) us (seen-again us t h)) in
-    distinct-fresh (us ++ (t ∷ vs)) ∙ fresh-append us [] (t ∷ vs) ∙ ap (λ (ws : List Transition). fresh [] us ++ ws) step
-    ∙ sym (distinct-fresh (us ++ vs) ∙ fresh-append us [] vs)
-
--- So it adds no cell and no operand.
+-- A recorded copy of a transition adds no cell and no operand.
 pub copy-cells : (n : ℕ) (us : List Transition) (t : Transition) (vs : List Transition) (block : ℕ → ℕ) (a : Formula) (k : ℕ) → 0 < copies t us
     → cellsFrom n (distinct (us ++ (t ∷ vs))) block a k ≡ cellsFrom n (distinct (us ++ vs)) block a k
 copy-cells n us t vs block a k h = ap (λ (ts : List Transition). cellsFrom n ts block a k) (copy-none us t vs h)
-
--- Transitions that differ in label are two, whatever their ends.
-pub labels-apart : (us : List Transition) (t u : Transition) (vs : List Transition) → ¬ (t .label ≡ u .label) → copies t us ≡ 0 → copies u us ≡ 0
-    → distinct (us ++ (t ∷ u ∷ vs)) ≡ distinct us ++ (t ∷ u ∷ fresh (us ++ (t ∷ []) ++ (u ∷ [])) vs)
-unfolding fresh copies sameTransition
-labels-apart us t u vs h p q =
-    let first : eqb (copies t us) 0 ≡ true = eq-eqb (copies t us) 0 p in
-    let apart : eqb (t .label) (u .label) ≡ false = ne-eqb (t .label) (u .label) h in
-    let other : sameTransition t u ≡ false = rw apart (and-false (eqb (t .source) (u .source)) (eqb (t .target) (u .target))) in
-    let none : copies u (us ++ (t ∷ [])) ≡ 0 = copies-append u us (t ∷ []) ∙ rw (q, other) refl in
-    let second : eqb (copies u (us ++ (t ∷ []))) 0 ≡ true = eq-eqb (copies u (us ++ (t ∷ []))) 0 none in
-    let both : fresh us (t ∷ u ∷ vs) ≡ t ∷ u ∷ fresh (us ++ (t ∷ []) ++ (u ∷ [])) vs = rw (first, second) in
-    distinct-fresh (us ++ (t ∷ u ∷ vs)) ∙ fresh-append us [] (t ∷ u ∷ vs) ∙ rw (both, distinct-fresh us) refl
-  where
-    and-false : (a b : Bool) → (a && false && b) ≡ false
-    and-false true b = refl
-    and-false false b = refl

@@ -15,7 +15,6 @@ pub mod AcceptedCases
 pub mod Putting
 pub mod ShapeLaws
 pub mod Translations
-pub mod FirstAppearances
 pub mod ShapeFields
 pub mod BlockParts
 pub mod NodeParts

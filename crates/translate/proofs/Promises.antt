@@ -28,7 +28,8 @@ use Rattle.translate.specs.Unfolding.{Plain, plain, Unfolding, equations
 use Rattle.translate.specs.Bytes.{systemOf, allOperands}
 use Rattle.translate.specs.Translating.{file, translateConditions, translateRefusal, writtenNumber, writtenLength, fileAfter, Translated}
 use Rattle.translate.proofs.Unfold.{sides, cells-RHS, unfolding-one, cells-ordered, cells-inside, unfolded-RHS}
-use Rattle.translate.proofs.Equations.{blocks-E, of-own, increasing-whole, copy-none, labels-apart}
+use Rattle.cases.proofs.Distinct.{copy-none, labels-apart}
+use Rattle.translate.proofs.Equations.{blocks-E, of-own, increasing-whole}
 use Rattle.translate.proofs.Equations as equations
 use Rattle.translate.proofs.BinderNodes.{increasing-binders}
 use Rattle.translate.proofs.ShapeLaws.{keep-append}

@@ -11,11 +11,12 @@ use blocks::write_blocks;
 use bytes::put_header;
 use cases::Header;
 use cases::Opened;
+use cases::TRANSITIONS;
+use cases::first_appearances;
 use rows::write_all_cells;
 use rows::write_all_operands;
 use shapes::SHAPES;
 use shapes::added_before;
-use shapes::first_appearances;
 use shapes::shapes_of;
 use solver::HEADER;
 use totals::operand_total;
@@ -24,6 +25,8 @@ ghost use Prim.Native.Nat.{_+_, _*_};
 ghost use lib.ListN.{length, take};
 ghost use Rattle.cases.specs.File.{headerOf};
 ghost use Rattle.cases.specs.Conditions.{Accepted};
+ghost use Rattle.cases.specs.internal.Checks.{transitionPart};
+ghost use Rattle.cases.specs.internal.Links.{FirstFlags};
 ghost use Rattle.translate.specs.Bytes.{numbers};
 ghost use Rattle.translate.specs.internal.Parts.{Wrote, distinctIn};
 ghost use Rattle.translate.specs.internal.Sources.{Sources, RoomFor, shapeSystem, Emitted};
@@ -102,21 +105,21 @@ fn emit(
     Written::File(size)
 }
 
-// The equation file of an accepted case. First appearances are found once, and the labels that a node accepts once.
-fn write_case(case: &[u8], h: Header, out: &mut [u8]) -> Written
-    requires { ⌜ Accepted (now case) ⌝ ∗ ⌜ h ≡ headerOf (now case) ⌝ }
+// The equation file of an accepted case, with its header and the flags of first appearances. The labels that a node accepts are found
+// once.
+pub fn write_case(case: &[u8], h: Header, first: &[u8], out: &mut [u8]) -> Written
+    requires { ⌜ Accepted (now case) × (h ≡ headerOf (now case)) × FirstFlags (transitionPart (now case)) (h .transitions) (now first) ⌝ }
     ensures { λ w. ⌜ Translated (now (case .entry)) (now (out .entry)) (writtenNumber w) (writtenLength w) (now (out .exit)) ⌝ }
 {
     let records = h.transitions_at;
     let actions = h.actions_at;
     let formula = h.formula_at;
-    let first = first_appearances(&case[records..], h.transitions);
     let shapes = shapes_of(&case[actions..], h.actions, &case[formula..], h.nodes);
     let k = added_before(&case[formula..], h.nodes) + h.nodes;
     emit(
         out,
         &case[records..],
-        &first,
+        first,
         h.transitions,
         shapes,
         k,
@@ -125,12 +128,22 @@ fn write_case(case: &[u8], h: Header, out: &mut [u8]) -> Written
     )
 }
 
+// Finds the first appearances of an accepted case, and writes its equation file.
+fn translate_opened(case: &[u8], h: Header, out: &mut [u8]) -> Written
+    requires { ⌜ Accepted (now case) × (h ≡ headerOf (now case)) ⌝ }
+    ensures { λ w. ⌜ Translated (now (case .entry)) (now (out .entry)) (writtenNumber w) (writtenLength w) (now (out .exit)) ⌝ }
+{
+    let mut first = [0u8; TRANSITIONS];
+    first_appearances(case, h, &mut first);
+    write_case(case, h, &first, out)
+}
+
 // Writes the equation file of a case to the start of a buffer.
 pub fn translate(case: &[u8], out: &mut [u8]) -> Written
     ensures { λ w. ⌜ Translated (now (case .entry)) (now (out .entry)) (writtenNumber w) (writtenLength w) (now (out .exit)) ⌝ }
 {
     match cases::open(case) {
-        Opened::Accepted(h) => write_case(case, h, out),
+        Opened::Accepted(h) => translate_opened(case, h, out),
         Opened::Refused(cause) => Written::Refused(Cause::Open(cause)),
     }
 }

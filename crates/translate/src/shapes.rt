@@ -1,46 +1,20 @@
-// Reading a case's tables: which transitions are the first of their kind, and the shape of each node.
+// Reading a case's formula table: the shape of each node.
 use crate::Shape;
-use cases::TRANSITIONS;
 ghost use mathlib.Core.Path.{_≡_};
 ghost use mathlib.Core.Bool.{cond, _||_};
 ghost use Prim.Native.Nat.{ℕ, _+_, _*_, _<_, _≤_};
 ghost use lib.Dec.{eqb};
 ghost use lib.ListN.{length};
-ghost use Rattle.sets.specs.Words.{bit};
-ghost use Rattle.cases.specs.File.{transitionLimit, nodeLimit};
+ghost use Rattle.cases.specs.File.{nodeLimit};
 ghost use Rattle.cases.specs.Action.{Action};
 ghost use Rattle.cases.specs.Prefix.{actionAt};
-ghost use Rattle.cases.specs.Case.{copiesBefore};
 ghost use Rattle.cases.specs.Conditions.{nodeAt, isBinder};
-ghost use Rattle.cases.specs.internal.Checks.{transitionsIn, nodesIn, NodesFit};
+ghost use Rattle.cases.specs.internal.Checks.{nodesIn, NodesFit};
 ghost use Rattle.translate.specs.internal.Shapes.{shapeIn};
-ghost use Rattle.translate.specs.internal.Tabled.{FirstFlags, CountableBlocks, Tables, HoldsShapes};
+ghost use Rattle.translate.specs.internal.Tabled.{CountableBlocks, Tables, HoldsShapes};
 
 // The limit on nodes, and one more for a nu that is put before the root.
 pub const SHAPES: usize = cases::NODES + 1;
-
-// 1 where transition j of m is the first of its kind, and 0 where it is a copy.
-fn first_flag(part: &[u8], m: usize, j: usize) -> u8
-    requires { ⌜ (6 * m ≤ length (now part)) × (j < m) ⌝ }
-    ensures { λ r. ⌜ r ≡ bit (eqb (copiesBefore (transitionsIn (now (part .entry)) m) j) 0) ⌝ }
-{
-    if cases::is_first(part, j) {
-        return 1;
-    }
-    0
-}
-
-// Which of the m transitions of a part are the first of their kind.
-pub fn first_appearances(part: &[u8], m: usize) -> [u8; TRANSITIONS]
-    requires { ⌜ (6 * m ≤ length (now part)) × (m ≤ transitionLimit) ⌝ }
-    ensures { λ r. ⌜ FirstFlags (now (part .entry)) m r ⌝ }
-{
-    let mut flags = [0u8; TRANSITIONS];
-    for j in 0..m {
-        flags[j] = first_flag(part, m, j);
-    }
-    flags
-}
 
 // Whether a node of this kind has two operands: and, or.
 pub fn is_pair(kind: usize) -> bool

@@ -1,5 +1,6 @@
-// Reads a case from standard input and prints two lines, E for the equation route and D for direct: the route, the refusal number (0 if
-// none), the verdict as 1 or 0, the count of marked states and the rounds; the last three are 0 on a refusal.
+// Reads a case from standard input and prints three lines. E for the equation route and D for direct have the refusal number (0 if none),
+// the verdict as 1 or 0, the count of marked states and the rounds; the last three are 0 on a refusal. T has the records of the transition
+// table and the distinct ones, both 0 after refusals 1 to 10.
 use cases::LARGEST;
 use libc::STDIN_FILENO;
 use libc::STDOUT_FILENO;
@@ -18,8 +19,12 @@ fn room() -> [u8; LARGEST + 1]
 fn main() {
     let mut case = room();
     let length = io::read_full(STDIN_FILENO, &mut case);
-    lines::print(b"E", lines::by_equation(&case[..length]));
+    let equation = lines::by_equation(&case[..length]);
+    let direct = lines::by_direct(&case[..length]);
+    lines::print_route(b"E", equation);
     io::write_all(STDOUT_FILENO, b"\n");
-    lines::print(b"D", lines::by_direct(&case[..length]));
+    lines::print_route(b"D", direct);
+    io::write_all(STDOUT_FILENO, b"\n");
+    lines::print_tally(direct);
     io::write_all(STDOUT_FILENO, b"\n");
 }

@@ -13,6 +13,7 @@ use Rattle.cases.specs.Action.{accepts}
 use Rattle.cases.specs.Prefix.{wholeFormulas, exactly, span, trees, actionAt}
 use Rattle.cases.specs.File.{u16, headerSize, Transition, transitionTable, actionTable, formulaTable, labelLimit, transitionLimit, actionLimit, nodeLimit}
 use Rattle.cases.specs.Case.{sameTransition, copies, copiesBefore, keep, distinct}
+use Rattle.cases.specs.Tally.{tallied}
 use Rattle.cases.specs.Conditions.{tooSmall, otherVersion, badCount, badOffset, badLength, badModel, badActions, badFormula, boundOk, badVariable, binderCount, blockTotal, tooDeep}
 use Rattle.cases.specs.Conditions.{layoutConditions, modelConditions, formulaConditions, caseConditions, caseRefusal}
 
@@ -207,19 +208,21 @@ accepted =
     map (λ j. map (accepts eqb (actionAt (actionTable b) j)) (numbersFrom 0 3)) (0 ∷ 2 ∷ [])
 
 -- Transitions of which the second and the last are recorded before: a transition with the same ends and another label is another one.
-pub kept : List Transition
+pub recorded : List Transition
 unfolding bytes
-kept =
-    distinct (transitionTable (bytes
+recorded =
+    transitionTable (bytes
     (1 ∷ 3 ∷ 5 ∷ 2 ∷ 0 ∷ 0 ∷ 1 ∷ headerSize ∷ (headerSize + 6 * 5) ∷ (headerSize + 6 * 5)
     ∷ 1 ∷ 1 ∷ 2 ∷ 1 ∷ 1 ∷ 2 ∷ 0 ∷ 0 ∷ 1 ∷ 1 ∷ 0 ∷ 2 ∷ 1 ∷ 1 ∷ 2
-    ∷ 1 ∷ 0 ∷ [])))
+    ∷ 1 ∷ 0 ∷ []))
 
 pub read :
     (accepted ≡ (false ∷ true ∷ true ∷ []) ∷ (false ∷ false ∷ true ∷ []) ∷ [])
-    × (kept ≡ record { source = 1; label = 1; target = 2 } ∷ record { source = 0; label = 0; target = 1 } ∷ record { source = 1; label = 0; target = 2 } ∷ [])
-unfolding accepted kept u16 transitionTable actionTable actionAt trees accepts distinct keep copies copiesBefore sameTransition numbersFrom
-read = (refl, refl)
+    × (map (copiesBefore recorded) (numbersFrom 0 5) ≡ 0 ∷ 1 ∷ 0 ∷ 0 ∷ 2 ∷ [])
+    × (distinct recorded ≡ record { source = 1; label = 1; target = 2 } ∷ record { source = 0; label = 0; target = 1 } ∷ record { source = 1; label = 0; target = 2 } ∷ [])
+    × (tallied recorded ≡ record { records = 5; distinct = 3 })
+unfolding accepted recorded tallied u16 transitionTable actionTable actionAt trees accepts distinct keep copies copiesBefore sameTransition numbersFrom
+read = (refl, refl, refl, refl)
 
 -- the header's size, P1's offsets and the limits as the paper has them
 pub limits :

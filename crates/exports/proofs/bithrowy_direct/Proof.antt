@@ -7,14 +7,14 @@ use Rattle.exports.proofs.bithrowy_direct.Tie as tie
 direct-requires : tie.Need-direct-requires
 direct-requires c κs = search needs
 
-answered-requires : tie.Need-answered-requires
-answered-requires c κs = search needs
+route-numbers-requires : tie.Need-route-numbers-requires
+route-numbers-requires c κs = search needs
 
 same-length : tie.Need-same-length
 same-length c = search needs
 
 returns : tie.Need-returns
-returns c = direct-says (c .before .before .before .direct .ensures) (c .answered .ensures)
+returns c = direct-says (c .route-numbers .ensures) (c .before .before .before .direct .ensures)
 
 pub bithrowy-direct-spec : {M : Type 1} → statement M
-bithrowy-direct-spec = tie.close (tie.spec direct-requires answered-requires same-length returns)
+bithrowy-direct-spec = tie.close (tie.spec direct-requires route-numbers-requires same-length returns)

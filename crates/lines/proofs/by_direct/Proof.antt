@@ -1,4 +1,3 @@
-use mathlib.Core.Path.{_∙_}
 use Rattle.routes.specs.Route.{tooShort, runConditions, routeConditions, routeOutcome}
 use borrow.Author.Needs.{needs}
 use Rattle.lines.proofs.by_direct.Statement.{statement}
@@ -10,13 +9,10 @@ slice-aggregate-direct c = search needs
 direct-requires : tie.Need-direct-requires
 direct-requires c κs = search needs
 
-numbers-of-requires : tie.Need-numbers-of-requires
-numbers-of-requires c κs = search needs
-
 returns : tie.Need-returns
 unfolding routeOutcome routeConditions runConditions tooShort
-returns c = c .numbers-of .ensures ∙ c .before .before .direct .ensures .by .answers
+returns c = let ran = c .before .direct .ensures in (ran .by .answers, ran .tally-is)
 
 pub by-direct-spec : {M : Type 1} → statement M
 by-direct-spec =
-    tie.close (tie.spec slice-aggregate-direct direct-requires numbers-of-requires returns)
+    tie.close (tie.spec slice-aggregate-direct direct-requires returns)

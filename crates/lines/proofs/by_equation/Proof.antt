@@ -1,4 +1,3 @@
-use mathlib.Core.Path.{_∙_}
 use borrow.Author.Needs.{needs}
 use Rattle.lines.proofs.by_equation.Statement.{statement}
 use Rattle.lines.proofs.by_equation.Tie as tie
@@ -15,11 +14,8 @@ slice-aggregate-equation-3 c = search needs
 equation-requires : tie.Need-equation-requires
 equation-requires c κs = search needs
 
-numbers-of-requires : tie.Need-numbers-of-requires
-numbers-of-requires c κs = search needs
-
 returns : tie.Need-returns
-returns c = c .numbers-of .ensures ∙ c .before .before .before .before .equation .ensures .ran .by .answers
+returns c = let ran = c .before .before .before .equation .ensures .ran in (ran .by .answers, ran .tally-is)
 
 pub by-equation-spec : {M : Type 1} → statement M
 by-equation-spec =
@@ -29,5 +25,4 @@ by-equation-spec =
     slice-aggregate-equation-2
     slice-aggregate-equation-3
     equation-requires
-    numbers-of-requires
     returns)

@@ -1,6 +1,6 @@
 -- `direct` meets its contract: the case is opened, and evaluated or refused.
 use Rattle.cases.proofs.Openings.{accepted}
-use Rattle.routes.proofs.RootLaws.{open-refused}
+use Rattle.routes.proofs.Refusing.{direct-refused}
 use borrow.Author.Needs.{needs}
 use Rattle.routes.proofs.direct.Statement.{statement}
 use Rattle.routes.proofs.direct.Tie as tie
@@ -17,6 +17,9 @@ direct-opened-requires c κs = accepted (c .before .before .before .before .«op
 enum-known-cause : tie.Need-enum-known-cause
 enum-known-cause c = search needs
 
+unopened-requires : tie.Need-unopened-requires
+unopened-requires c κs = search needs
+
 same-length : tie.Need-same-length
 same-length c = search needs
 
@@ -24,7 +27,7 @@ returns : tie.Need-returns
 returns c = search needs
 
 returns-2 : tie.Need-returns-2
-returns-2 c = open-refused (c .before .before .before .«open» .ensures) (c .before .cause .given .1)
+returns-2 c = direct-refused _ (c .before .before .before .before .«open» .ensures) (c .before .before .cause .given .1) (c .unopened .ensures)
 
 pub direct-spec : {M : Type 1} → statement M
 direct-spec =
@@ -34,6 +37,7 @@ direct-spec =
     enum-known-h
     direct-opened-requires
     enum-known-cause
+    unopened-requires
     same-length
     returns
     returns-2)

@@ -12,8 +12,8 @@ open-requires c κs = search needs
 enum-known-h : tie.Need-enum-known-h
 enum-known-h c = search needs
 
-write-case-requires : tie.Need-write-case-requires
-write-case-requires c κs = accepted (c .before .before .before .before .«open» .ensures) (c .before .before .h .given .1)
+translate-opened-requires : tie.Need-translate-opened-requires
+translate-opened-requires c κs = accepted (c .before .before .before .before .«open» .ensures) (c .before .before .h .given .1)
 
 enum-known-cause : tie.Need-enum-known-cause
 enum-known-cause c = search needs
@@ -34,7 +34,7 @@ translate-spec =
     (tie.spec
     open-requires
     enum-known-h
-    write-case-requires
+    translate-opened-requires
     enum-known-cause
     same-length
     returns

@@ -1,24 +1,17 @@
--- What the functions that read a case's tables into flags and shapes ask and promise.
+-- What the functions that read a case's tables into shapes ask and promise.
 use mathlib.Core.Path.{_≡_}
 use mathlib.Core.Bool.{true, _||_}
 use mathlib.Core.List.{List}
 use Prim.Native.Nat.{ℕ, _+_, _≤_, _<_}
 use lib.Dec.{eqb}
-use lib.ListN.{length, getD, take}
-use Rattle.sets.specs.Words.{bit}
-use Rattle.cases.specs.File.{transitionLimit, actionLimit, nodeLimit}
+use lib.ListN.{length, take}
+use Rattle.cases.specs.File.{actionLimit, nodeLimit}
 use Rattle.cases.specs.Prefix.{actionAt}
-use Rattle.cases.specs.Case.{copiesBefore}
 use Rattle.cases.specs.Conditions.{nodeAt}
 use Rattle.cases.specs.internal.Masks.{WholeActions}
-use Rattle.cases.specs.internal.Checks.{transitionsIn, nodesIn, NodesFit}
+use Rattle.cases.specs.internal.Checks.{nodesIn, NodesFit}
 use Rattle.translate.specs.declared.Shape.{Shape}
 use Rattle.translate.specs.internal.Shapes.{tableShapes}
-
--- flag j is 1 where transition j is the first of its kind, and 0 where it is a copy
-pub record FirstFlags (part : List ℕ) (m : ℕ) (flags : List ℕ) : Type 0 where
-  pub long : length flags ≡ transitionLimit
-  pub at : (j : ℕ) → j < m → getD flags j 0 ≡ bit (eqb (copiesBefore (transitionsIn part m) j) 0)
 
 -- a formula table of f nodes whose blocks can be counted: the argument of a variable is at most f
 pub record CountableBlocks (part : List ℕ) (f : ℕ) : Type 0 where

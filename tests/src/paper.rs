@@ -142,6 +142,7 @@ fn check_refused_runs(calls: &dyn Calls, p1: &[u8], held: &mut Held) -> Check {
     let refused = |refusal| answer([refusal, 0, 0, 0], [3, 2]);
     let spent = calls.equation(p1, &mut file, &mut work, &mut marks, 3);
     held.to("P1 with limit 3, equations", spent, refused(14))?;
+    held.to("P1's equation file after 14", file.to_vec(), p1_file())?;
     held.to("P1 with limit 3, direct", calls.direct(p1, &mut marks, 3), refused(14))?;
     let short = calls.equation(p1, &mut [0; 159], &mut work, &mut marks, 4);
     held.to("P1 with a file buffer of 159 bytes", short, refused(13))?;

@@ -12,6 +12,7 @@ use Rattle.cases.specs.Conditions.{caseRefusal}
 unfoldable pub tallied : List Transition → Tally
 tallied ts = record { records = length ts; distinct = length (distinct ts) }
 
+-- of a case that is refused
 abbrev pub noTally : Tally
 noTally = record { records = 0; distinct = 0 }
 

@@ -15,6 +15,7 @@ use Rattle.exports.specs.declared.RouteNumbers.{RouteNumbers}
 unfoldable pub exported : Numbers → Outcome
 exported n = record { refusal = n .refusal; verdict = n .verdict; count = n .count; rounds = n .rounds }
 
+-- the same of a route's numbers
 unfoldable pub exportedRoute : RouteNumbers → Outcome
 exportedRoute n = record { refusal = n .refusal; verdict = n .verdict; count = n .count; rounds = n .rounds }
 

@@ -1,5 +1,6 @@
 -- The promises of both routes, of whatever keeps their contracts: Ran and EquationRan of specs/Route.antt. b is the case file, any list of
--- bytes; l is what is lent, as it is before the call; o is the outcome of what a call answers, and marks′, file′ and work′ are what it leaves.
+-- bytes; l is what is lent, as it is before the call; o is the outcome of what a call answers, t the tally beside it, and marks′, file′ and work′
+-- are what it leaves.
 -- Numbers have no bound.
 use mathlib.Core.Path.{_≡_, refl, sym, ap, _∙_}
 use mathlib.Core.Logic.{_↔_, _⊎_, inl, inr, by-cases}
@@ -180,16 +181,20 @@ module _ {R : Route} {b : List ℕ} {l : Lent} {limit : ℕ} {o : Outcome} {t : 
       (λ d. rw (ran .tally-is ∙ tally-refused b d) (omega arith))
 
   module _ (accepted : Accepted b) where
+    -- An accepted case has the tally of its table, whatever is answered.
+    pub tally-table : t ≡ tallied (caseOf b .transitions)
+    tally-table = ran .tally-is ∙ tally-accepted b accepted
+
     -- There are as many exactly if no record has a copy.
     pub no-copies : t .records ≡ t .distinct ↔ List·Nodup (caseOf b .transitions)
     unfolding tallied
-    no-copies = rw (ran .tally-is ∙ tally-accepted b accepted) (distinct-all (caseOf b .transitions))
+    no-copies = rw tally-table (distinct-all (caseOf b .transitions))
 
     -- They do not depend on the order of the records.
     pub any-order : {R′ : Route} {b′ : List ℕ} {l′ : Lent} {limit′ : ℕ} {o′ : Outcome} {t′ : Tally} {marks″ : List ℕ} → Ran R′ b′ l′ limit′ o′ t′ marks″
         → Accepted b′ → Perm (caseOf b .transitions) (caseOf b′ .transitions) → t ≡ t′
     any-order {b′ = b′} ran′ accepted′ p =
-        ran .tally-is ∙ tally-accepted b accepted ∙ tallied-order (caseOf b .transitions) (caseOf b′ .transitions) p
+        tally-table ∙ tallied-order (caseOf b .transitions) (caseOf b′ .transitions) p
         ∙ sym (ran′ .tally-is ∙ tally-accepted b′ accepted′)
 
 -- The equation route's file and working bytes.

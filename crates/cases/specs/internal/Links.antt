@@ -10,6 +10,7 @@ use Rattle.cases.specs.File.{transitionIn, transitionLimit}
 use Rattle.cases.specs.Case.{copiesBefore}
 use Rattle.cases.specs.internal.Checks.{transitionsIn}
 
+-- the source of record j of a part
 abbrev pub sourceIn : List ℕ → ℕ → ℕ
 sourceIn part j = transitionIn part j .source
 

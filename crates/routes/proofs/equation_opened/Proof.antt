@@ -3,8 +3,8 @@ use mathlib.Core.Path.{refl, sym}
 use mathlib.Core.List.{[]}
 use native.Mathlib.Omega.{arith}
 use lib.Seq.{length-take-le}
-use Rattle.solver.specs.Outcome.{solveNumber}
-use Rattle.routes.specs.Route.{routeNumber, routeAnswer, lent}
+use Rattle.routes.specs.Route.{lent}
+use Rattle.routes.proofs.DirectAnswers.{memory-is}
 use Rattle.routes.proofs.EquationAnswers.{file-number, file-long, short-refused, written-fits, route-solved}
 use borrow.Author.Needs.{needs}
 use Rattle.routes.proofs.equation_opened.Statement.{statement}
@@ -32,9 +32,8 @@ same-length : tie.Need-same-length
 same-length c = search needs
 
 returns : tie.Need-returns
-unfolding routeAnswer routeNumber solveNumber
 returns c =
-    short-refused (lent _ _ _) (c .before .before .before .before .write-case .ensures) _ (c .enum-told .given .1) refl (c .before .before .before .before .before .before .before .before .before .before .before .before .before .before .pre .0) refl (c .before .before .before .before .before .before .before .before .first-appearances .ensures .1)
+    short-refused (lent _ _ _) (c .before .before .before .before .write-case .ensures) _ (c .enum-told .given .1) refl (c .before .before .before .before .before .before .before .before .before .before .before .before .before .before .pre .0) memory-is (c .before .before .before .before .before .before .before .before .first-appearances .ensures .1)
 
 slice-reshare-prefix-solve : tie.Need-slice-reshare-prefix-solve
 slice-reshare-prefix-solve c = omega (arith, written-fits (lent _ [] []) (c .before .before .before .before .before .write-case .ensures) 0 (file-number (c .before .written .given .1)) (file-long (c .before .written .given .1)))

@@ -1,4 +1,4 @@
-//! The cases that are timed: three of a catalogue's size, the largest there is, and a deep alternation.
+//! The cases that are timed: three of a catalogue's size, the largest of version 1, a deep alternation, and two of version 2.
 
 /// An action formula.
 enum Action {
@@ -122,14 +122,39 @@ impl Tables {
     }
 }
 
-/// The bytes of a case that starts in state 0.
-fn case(states: u16, labels: u16, transitions: &[(u16, u16, u16)], formula: &Formula) -> Vec<u8> {
+/// Source, label and target.
+type Transition = (u16, u16, u16);
+
+/// The names of a label, padded with zeros.
+type Names = [u16; 4];
+
+/// The bytes of a case of version 1 that starts in state 0.
+fn case(states: u16, labels: u16, transitions: &[Transition], formula: &Formula) -> Vec<u8> {
+    written(1, states, labels, &[], transitions, formula)
+}
+
+/// The bytes of a case of version 2 that starts in state 0, with the names of each label.
+fn named_case(states: u16, names: &[Names], transitions: &[Transition], formula: &Formula) -> Vec<u8> {
+    written(2, states, names.len() as u16, &[&[22], names.as_flattened()].concat(), transitions, formula)
+}
+
+/// The same for both versions, given the numbers between the ten of the header and the transitions.
+fn written(
+    version: u16,
+    states: u16,
+    labels: u16,
+    between: &[u16],
+    transitions: &[Transition],
+    formula: &Formula,
+) -> Vec<u8> {
     let mut tables = Tables::default();
     tables.formula(formula, &mut Vec::new());
     let m = transitions.len() as u16;
     let a = tables.actions.len() as u16;
     let f = tables.formula.len() as u16;
-    let mut numbers = vec![1, states, m, labels, 0, a, f, 20, 20 + 6 * m, 20 + 6 * m + 4 * a];
+    let first = 20 + 2 * between.len() as u16;
+    let mut numbers = vec![version, states, m, labels, 0, a, f, first, first + 6 * m, first + 6 * m + 4 * a];
+    numbers.extend(between);
     numbers.extend(transitions.iter().flat_map(|&(s, x, t)| [s, x, t]));
     numbers.extend(tables.actions.iter().chain(&tables.formula).flat_map(|&(kind, arg)| [kind, arg]));
     numbers.into_iter().flat_map(u16::to_le_bytes).collect()
@@ -270,6 +295,86 @@ fn deep() -> Vec<u8> {
     case(6 * CHAIN, 8, &transitions, &formula)
 }
 
+/// The labels of the dialog with fields: 0 opens it; 1 and 2 move the focus, and 3 and 4 do so with a click; 5 and 6 edit a field; 7 and 8 close
+/// the dialog; 9 is silent; 10 and 11 have one focus and two at once.
+fn together_names() -> [Names; 12] {
+    const FOCUS: u16 = 1;
+    const BLUR: u16 = 2;
+    const OPEN: u16 = 3;
+    const CLOSE: u16 = 4;
+    const KEY: u16 = 5;
+    const CLICK: u16 = 6;
+    const CHANGE: u16 = 7;
+    [
+        [OPEN, FOCUS, 0, 0],
+        [BLUR, FOCUS, 0, 0],
+        [FOCUS, BLUR, 0, 0],
+        [CLICK, BLUR, FOCUS, 0],
+        [BLUR, FOCUS, CLICK, 0],
+        [KEY, CHANGE, 0, 0],
+        [CHANGE, KEY, 0, 0],
+        [CLICK, CLOSE, BLUR, 0],
+        [CLOSE, BLUR, CLICK, 0],
+        [0, 0, 0, 0],
+        [FOCUS, 0, 0, 0],
+        [FOCUS, FOCUS, 0, 0],
+    ]
+}
+
+/// A dialog with four fields, where focus and blur fire together, recorded in either order. States: 0 closed, 1 to 4 a field has the focus,
+/// 5 to 8 the same after an edit, 9 the button, 10 closing, 11 faded out. Always, once the focus has moved, some way without a silent step
+/// leads to a close, and after an edit no focus comes twice at once until the focus moves.
+fn together() -> Vec<u8> {
+    let mut transitions = vec![(0, 0, 1), (9, 7, 10), (9, 8, 10), (9, 1, 1), (10, 9, 11), (11, 9, 0), (11, 10, 11)];
+    for field in 1..=4 {
+        let (edited, next) = (field + 4, field % 4 + 1);
+        transitions.extend([
+            (field, 1 + field % 2, next),
+            (edited, 2 - field % 2, next),
+            (field, 5 + field % 2, edited),
+            (edited, 6 - field % 2, edited),
+            (edited, 3 + field % 2, 9),
+        ]);
+    }
+    let closes = mu("close", or(some(label(7), True), some(not(label(9)), Variable("close"))));
+    let moves = either(label(1), label(3));
+    let settled = nu("settled", and(all(label(11), False), all(not(moves), Variable("settled"))));
+    let after = and(all(label(2), closes), all(label(6), settled));
+    let formula = nu("always", and(all(Action::True, Variable("always")), after));
+    named_case(12, &together_names(), &transitions, &formula)
+}
+
+/// A board of 8 times 8 places with 64 labels: 16 steps, each under four labels with the same four names in different orders. A step to the
+/// right is recorded in two orders and numbered by its column; the one from the last column back to the first is from 12 on, in row 3 it is 7.
+/// A step down is 8 to 11, and in five rows of the first column there is one more from 12 on. On every run without end of steps below 8 and from 12
+/// on, those from 12 on come again and again: not in row 3, nor in the two rows from which it is reached.
+fn crowded() -> Vec<u8> {
+    let names: Vec<Names> = (0..64)
+        .map(|i| {
+            let mut names = [1 + i / 16, 10 + i / 4 % 4, 10 + i / 4 % 4, 20];
+            names.rotate_left(usize::from(i % 4));
+            names
+        })
+        .collect();
+    let mut transitions = Vec::new();
+    for place in 0..64 {
+        let (row, column) = (place / 8, place % 8);
+        let (right, below) = (8 * row + (column + 1) % 8, (place + 8) % 64);
+        let step = if column < 7 || row == 3 { column } else { 12 + row % 4 };
+        let order = row % 4;
+        transitions.extend([(place, 4 * step + order, right), (place, 4 * step + 3 - order, right)]);
+        transitions.push((place, 4 * (8 + column % 4) + order, below));
+        if column == 0 && [1, 2, 4, 5, 6].contains(&row) {
+            transitions.push((place, 4 * 12 + order, below));
+        }
+    }
+    let any = |steps: [u16; 4]| steps.map(|step| label(4 * step + 3)).into_iter().reduce(either).expect("four steps");
+    let early = either(any([0, 1, 2, 3]), any([4, 5, 6, 7]));
+    let late = any([12, 13, 14, 15]);
+    let body = and(all(late, Variable("again")), all(early, Variable("ends")));
+    named_case(64, &names, &transitions, &nu("again", mu("ends", body)))
+}
+
 pub struct Input {
     pub name: &'static str,
     pub case: Vec<u8>,
@@ -282,5 +387,7 @@ pub fn inputs() -> Vec<Input> {
         Input { name: "form", case: form() },
         Input { name: "largest", case: largest() },
         Input { name: "deep", case: deep() },
+        Input { name: "together", case: together() },
+        Input { name: "crowded", case: crowded() },
     ]
 }

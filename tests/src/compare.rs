@@ -1,8 +1,10 @@
 //! Compares calls with the reference: the numbers answered, the whole of each lent place, and the guards around it.
 
 use crate::calls::{mark_words, Calls, Numbers, Recorded, RouteNumbers, MARK_WORDS};
+use crate::formats::Case;
 use crate::lent::{Lent, Work};
 use crate::meaning;
+use crate::names::{self, brought_up, BROUGHT_UP};
 use crate::random::Random;
 use crate::reader::{read_case, read_equations};
 use crate::rounds::{self, Solved};
@@ -32,7 +34,7 @@ impl Solving {
 #[derive(Clone, Debug, Default)]
 pub struct Tally {
     /// Files by the number they are refused with; 0 for accepted ones.
-    pub refused: [u64; 15],
+    pub refused: [u64; 16],
     /// Calls made and compared.
     pub calls: u64,
     /// Accepted equation files, those of cases included.
@@ -41,6 +43,10 @@ pub struct Tally {
     pub direct: Solving,
     /// Accepted cases with recorded copies.
     pub copied: u64,
+    /// Accepted cases of version 2.
+    pub named: u64,
+    /// Those of them whose names bring up what `names::BROUGHT_UP` lists.
+    pub brought_up: [u64; BROUGHT_UP.len()],
 }
 
 impl Tally {
@@ -57,6 +63,20 @@ impl Tally {
         self.equations.add(other.equations.searched, other.equations.capped);
         self.direct.add(other.direct.searched, other.direct.capped);
         self.copied += other.copied;
+        self.named += other.named;
+        for (mine, theirs) in self.brought_up.iter_mut().zip(other.brought_up) {
+            *mine += theirs;
+        }
+    }
+
+    /// Counts an accepted case.
+    fn accept(&mut self, case: &Case, recorded: Recorded) {
+        self.refused[0] += 1;
+        self.copied += (recorded.distinct < recorded.records) as u64;
+        self.named += (case.labels.version() == 2) as u64;
+        for (count, shown) in self.brought_up.iter_mut().zip(brought_up(case)) {
+            *count += shown as u64;
+        }
     }
 }
 
@@ -77,17 +97,23 @@ pub struct Comparison<'a> {
     pub tally: Tally,
 }
 
+/// What the reference says of a file of either kind.
+pub enum Truth {
+    Case(CaseTruth),
+    File(FileTruth),
+}
+
 /// What the reference says of an equation file.
-enum FileTruth {
+pub enum FileTruth {
     Refused(u64),
     Accepted { initial: usize, cells: usize, cap: u64, solved: Option<Solved> },
 }
 
 /// What the reference says of a case.
-enum CaseTruth {
+pub enum CaseTruth {
     Refused(u64),
     Accepted {
-        initial: usize,
+        case: Box<Case>,
         recorded: Recorded,
         cap: u64,
         direct: Option<(Vec<bool>, u64)>,
@@ -175,45 +201,50 @@ impl Comparison<'_> {
         Comparison { calls, sizes, budget, random: Random::new(seed), tally: Tally::default() }
     }
 
+    /// All comparisons on a file with what the reference says of it.
+    pub fn held_to(&mut self, bytes: &[u8], truth: &Truth) -> Check {
+        match truth {
+            Truth::Case(truth) => self.case(bytes, truth),
+            Truth::File(truth) => self.file(bytes, truth),
+        }
+    }
+
     /// All comparisons on a case: translate, direct, the equation route, and solve on its equation file.
-    pub fn case(&mut self, bytes: &[u8]) -> Check {
-        let truth = self.case_truth(bytes)?;
-        match &truth {
+    fn case(&mut self, bytes: &[u8], truth: &CaseTruth) -> Check {
+        match truth {
             CaseTruth::Refused(number) => {
                 self.tally.refused[*number as usize] += 1;
                 for (size, limit) in [(0, 0), (200, u64::MAX)] {
                     let marks = size.min(MARK_WORDS);
-                    self.translate(bytes, &truth, size)?;
-                    self.direct(bytes, &truth, marks, limit)?;
-                    self.equation(bytes, &truth, size, size, marks, limit)?;
+                    self.translate(bytes, truth, size)?;
+                    self.direct(bytes, truth, marks, limit)?;
+                    self.equation(bytes, truth, size, size, marks, limit)?;
                 }
                 Ok(())
             }
-            CaseTruth::Accepted { recorded, cap, direct, file, solve, .. } => {
-                self.tally.refused[0] += 1;
-                self.tally.copied += (recorded.distinct < recorded.records) as u64;
+            CaseTruth::Accepted { case, recorded, cap, direct, file, solve } => {
+                self.tally.accept(case, *recorded);
                 for size in sizes(file.len()) {
-                    self.translate(bytes, &truth, size)?;
+                    self.translate(bytes, truth, size)?;
                 }
                 let own = direct.as_ref().map(|(_, rounds)| *rounds);
                 for limit in limits(own, *cap) {
-                    self.direct(bytes, &truth, MARK_WORDS, limit)?;
+                    self.direct(bytes, truth, MARK_WORDS, limit)?;
                 }
                 for marks in sizes(MARK_WORDS) {
-                    self.direct(bytes, &truth, marks, own.unwrap_or(*cap))?;
+                    self.direct(bytes, truth, marks, own.unwrap_or(*cap))?;
                 }
-                self.equation_route(bytes, &truth, file.len(), solve)?;
+                self.equation_route(bytes, truth, file.len(), solve)?;
                 self.solve_all(file, solve)
             }
         }
     }
 
     /// All comparisons on an equation file.
-    pub fn file(&mut self, bytes: &[u8]) -> Check {
-        let truth = self.file_truth(bytes)?;
-        let number = if let FileTruth::Refused(number) = truth { number } else { 0 };
+    fn file(&mut self, bytes: &[u8], truth: &FileTruth) -> Check {
+        let number = if let FileTruth::Refused(number) = truth { *number } else { 0 };
         self.tally.refused[number as usize] += 1;
-        self.solve_all(bytes, &truth)
+        self.solve_all(bytes, truth)
     }
 
     fn solve_all(&mut self, bytes: &[u8], truth: &FileTruth) -> Check {
@@ -259,14 +290,18 @@ impl Comparison<'_> {
         }
     }
 
-    /// What the reference says of a case. The rounds' set, the parity game and the search must agree.
-    fn case_truth(&mut self, bytes: &[u8]) -> Result<CaseTruth, String> {
+    /// What the reference says of a case. Both ways to find the accepted labels must agree, and so must the rounds'
+    /// set, the parity game and the search.
+    pub fn case_truth(&mut self, bytes: &[u8]) -> Result<CaseTruth, String> {
         let case = match read_case(bytes) {
             Ok(case) => case,
             Err(number) => return Ok(CaseTruth::Refused(number)),
         };
         if case.bytes() != bytes {
             return Err("reference: an accepted case is not written as it was read".to_string());
+        }
+        if !names::agreed(&case) {
+            return Err("reference: sorted names and permutations accept different labels".to_string());
         }
         let equations = tables::equations(&case);
         let file = equations.bytes();
@@ -290,11 +325,11 @@ impl Comparison<'_> {
         if !alike(direct.as_ref().map(|(set, _)| set)) || !alike(search.as_ref()) || !alike(solved) {
             return Err("reference: game, search and rounds give different states".to_string());
         }
-        Ok(CaseTruth::Accepted { initial: case.initial, recorded, cap, direct, file, solve })
+        Ok(CaseTruth::Accepted { case: Box::new(case), recorded, cap, direct, file, solve })
     }
 
     /// What the reference says of an equation file. The rounds' sets, the parity game and the search must agree.
-    fn file_truth(&mut self, bytes: &[u8]) -> Result<FileTruth, String> {
+    pub fn file_truth(&mut self, bytes: &[u8]) -> Result<FileTruth, String> {
         let equations = match read_equations(bytes) {
             Ok(equations) => equations,
             Err(number) => return Ok(FileTruth::Refused(number)),
@@ -338,8 +373,8 @@ impl Comparison<'_> {
         let (expected, written) = match truth {
             CaseTruth::Refused(number) => (Numbers::refused(*number), Vec::new()),
             CaseTruth::Accepted { .. } if size < MARK_WORDS => (Numbers::refused(13), Vec::new()),
-            CaseTruth::Accepted { initial, direct: Some((set, rounds)), .. } if *rounds <= limit => {
-                (Numbers::report(set, *initial, *rounds), mark_words(set).to_vec())
+            CaseTruth::Accepted { case, direct: Some((set, rounds)), .. } if *rounds <= limit => {
+                (Numbers::report(set, case.initial, *rounds), mark_words(set).to_vec())
             }
             CaseTruth::Accepted { cap, direct, .. } => {
                 assert!(direct.is_some() || limit <= *cap);

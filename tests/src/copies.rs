@@ -1,5 +1,5 @@
 //! Transition tables with many copies and with none, up to the limits, and how many of their records are distinct, worked
-//! out by hand.
+//! out by hand. In version 2 all labels have the same names, which makes no two records equal.
 
 use crate::formats::*;
 use crate::text::case;
@@ -14,9 +14,13 @@ pub struct Table {
 }
 
 impl Table {
-    /// A case over the table.
-    pub fn case(&self) -> Case {
-        case(STATES, LABELS, &self.triples, "label 0", "mu X or box 0 false dia 0 X")
+    /// Cases over the table: version 1, and version 2 with silent labels only and with two names in both orders.
+    pub fn cases(&self) -> [Case; 3] {
+        let case = case(STATES, LABELS, &self.triples, "label 0", "mu X or box 0 false dia 0 X");
+        let named = |record: fn(usize) -> Names| Labels::Named((0..LABELS).map(record).collect());
+        let silent = Case { labels: named(|_| [0; NAMES]), ..case.clone() };
+        let pairs = Case { labels: named(|label| [[3, 5, 0, 0], [5, 3, 0, 0]][label % 2]), ..case.clone() };
+        [case, silent, pairs]
     }
 }
 

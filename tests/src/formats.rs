@@ -12,9 +12,18 @@ pub const BLOCKS: usize = 6;
 pub const CELLS: usize = 16_640;
 pub const OPERANDS: usize = 133_120;
 
-/// Length of a case's header and of the largest case.
+/// Names in a label record, and the largest name.
+pub const NAMES: usize = 4;
+pub const LARGEST_NAME: usize = 255;
+
+/// The versions of a case file.
+pub const VERSIONS: [usize; 2] = [1, 2];
+/// Length of a case's header in version 1 and in version 2.
 pub const CASE_HEADER: usize = 20;
+pub const NAMED_HEADER: usize = 22;
+/// Length of the largest case in version 1 and in version 2.
 pub const LARGEST_CASE: usize = CASE_HEADER + 6 * TRANSITIONS + 4 * ACTION_NODES + 4 * FORMULA_NODES;
+pub const LARGEST_NAMED_CASE: usize = LARGEST_CASE - CASE_HEADER + NAMED_HEADER + 8 * LABELS;
 /// Length of an equation file's header.
 pub const EQUATION_HEADER: usize = 36;
 
@@ -88,11 +97,47 @@ pub fn node(kind: usize, argument: usize) -> Node {
     Node { kind, argument }
 }
 
+/// A label record: names, padded with zeros at its end. All zeros is the silent step.
+pub type Names = [usize; NAMES];
+
+/// The labels of a case, which say its version.
+#[derive(Clone, Debug, PartialEq, Eq)]
+pub enum Labels {
+    /// Version 1: so many labels, which are their numbers.
+    Numbered(usize),
+    /// Version 2: the record of each label.
+    Named(Vec<Names>),
+}
+
+impl Labels {
+    pub fn version(&self) -> usize {
+        match self {
+            Labels::Numbered(_) => 1,
+            Labels::Named(_) => 2,
+        }
+    }
+
+    pub fn count(&self) -> usize {
+        match self {
+            Labels::Numbered(count) => *count,
+            Labels::Named(records) => records.len(),
+        }
+    }
+
+    /// The label records, of which version 1 has none.
+    pub fn records(&self) -> &[Names] {
+        match self {
+            Labels::Numbered(_) => &[],
+            Labels::Named(records) => records,
+        }
+    }
+}
+
 /// A case: a transition system as recorded, action formulas, a formula.
 #[derive(Clone, Debug, PartialEq, Eq)]
 pub struct Case {
     pub states: usize,
-    pub labels: usize,
+    pub labels: Labels,
     pub initial: usize,
     pub transitions: Vec<Transition>,
     pub actions: Vec<Node>,
@@ -100,12 +145,21 @@ pub struct Case {
 }
 
 impl Case {
-    /// The case file.
+    /// The case file of its labels' version.
     pub fn bytes(&self) -> Vec<u8> {
-        let (m, a, f) = (self.transitions.len(), self.actions.len(), self.formula.len());
-        let actions_at = CASE_HEADER + 6 * m;
+        let (m, l, a, f) = (self.transitions.len(), self.labels.count(), self.actions.len(), self.formula.len());
+        let transitions_at = match self.labels {
+            Labels::Numbered(_) => CASE_HEADER,
+            Labels::Named(_) => NAMED_HEADER + 8 * l,
+        };
+        let actions_at = transitions_at + 6 * m;
         let formula_at = actions_at + 4 * a;
-        let mut numbers = vec![1, self.states, m, self.labels, self.initial, a, f, CASE_HEADER, actions_at, formula_at];
+        let version = self.labels.version();
+        let mut numbers = vec![version, self.states, m, l, self.initial, a, f, transitions_at, actions_at, formula_at];
+        if let Labels::Named(records) = &self.labels {
+            numbers.push(NAMED_HEADER);
+            numbers.extend(records.iter().flatten());
+        }
         for t in &self.transitions {
             numbers.extend([t.source, t.label, t.target]);
         }

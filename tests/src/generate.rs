@@ -1,8 +1,10 @@
 //! Cases and equation files of all sizes, made by chance from a seed.
 
+use crate::damage::{with_number, with_other_name};
 use crate::formats::*;
+use crate::names::{record_of, shuffled};
 use crate::random::Random;
-use crate::reader::read_case;
+use crate::reader::{read_case, read_in_order};
 use crate::rounds;
 
 /// How large a case is.
@@ -47,8 +49,14 @@ fn any_case(random: &mut Random) -> Case {
     case_of(random, size)
 }
 
-/// A case of a given size.
+/// A case of a given size, as often of one version as of the other.
 pub fn case_of(random: &mut Random, size: Size) -> Case {
+    let version = random.pick(&VERSIONS);
+    case_in(random, size, version)
+}
+
+/// A case of a given size and version.
+pub fn case_in(random: &mut Random, size: Size, version: usize) -> Case {
     let states = match size {
         Size::Tiny => random.pick(&[1, 2, 2, 3, 3, 3]),
         Size::Small => random.between(2, 8),
@@ -56,17 +64,13 @@ pub fn case_of(random: &mut Random, size: Size) -> Case {
         Size::Wide => random.pick(&[63, 64, 65, 127, 128, 129, 192, 193, 255, 256]),
         Size::Full => STATES,
     };
-    let labels = match size {
-        Size::Full => LABELS,
-        _ if random.chance(1, 30) => random.pick(&[32, 63, 64]),
-        _ => random.pick(&[1, 2, 2, 3, 4]),
-    };
+    let label_count = label_count(random, size, version);
     let action_nodes = match size {
         Size::Full => ACTION_NODES,
         _ if random.chance(1, 25) => 0,
         _ => random.between(1, 12),
     };
-    let actions = actions(random, labels, action_nodes);
+    let actions = actions(random, label_count, action_nodes);
     let binders = match size {
         Size::Tiny | Size::Small if random.chance(1, 40) => BLOCKS + 1,
         Size::Tiny | Size::Small => random.between(0, BLOCKS),
@@ -75,12 +79,72 @@ pub fn case_of(random: &mut Random, size: Size) -> Case {
     };
     Case {
         states,
-        labels,
         initial: random.below(states),
-        transitions: transitions(random, states, labels, size),
+        transitions: transitions(random, states, label_count, size),
         formula: formula_over(random, actions.len(), binders, size),
         actions,
+        labels: match version {
+            1 => Labels::Numbered(label_count),
+            _ => Labels::Named(records(random, label_count)),
+        },
     }
+}
+
+/// How many labels a case has: most often few; in version 2 more, for many are alike.
+fn label_count(random: &mut Random, size: Size, version: usize) -> usize {
+    match size {
+        Size::Full => LABELS,
+        _ if random.chance(1, 30) => random.pick(&[32, 63, 64]),
+        _ if version == 1 => random.pick(&[1, 2, 2, 3, 4]),
+        _ => random.pick(&[1, 2, 3, 4, 5, 6, 8]),
+    }
+}
+
+/// Label records over few names: fresh ones and silent ones, and those before in another order or almost the same.
+fn records(random: &mut Random, count: usize) -> Vec<Names> {
+    let few = [0; 3].map(|_| random.pick(&[1, 1, 2, 127, 128, 254, 255]));
+    let mut all: Vec<Names> = Vec::new();
+    for i in 0..count {
+        let before = if i > 0 { random.pick(&all) } else { [0; NAMES] };
+        let record = match random.below(8) {
+            0..=2 if i > 0 => shuffled(random, &before),
+            3 | 4 if i > 0 => almost(random, before),
+            5 => [0; NAMES],
+            6 if random.chance(1, 4) => record_of(&[random.between(1, LARGEST_NAME)]),
+            _ => {
+                let length = random.between(1, NAMES);
+                record_of(&[0; NAMES].map(|_| random.pick(&few))[..length])
+            }
+        };
+        all.push(record);
+    }
+    all
+}
+
+/// A record with one name once more or less, or in the place of another, and shuffled.
+fn almost(random: &mut Random, mut record: Names) -> Names {
+    let length = record.iter().filter(|&&name| name != 0).count();
+    match random.below(3) {
+        _ if length == 0 => record[0] = 1,
+        0 if length < NAMES => record[length] = record[random.below(length)],
+        1 => record[length - 1] = 0,
+        _ => record[length - 1] = record[0],
+    }
+    shuffled(random, &record)
+}
+
+/// A case of version 2 with a record that is refused, at least one, and by chance an action node that is refused too.
+pub fn misnamed(random: &mut Random) -> Vec<u8> {
+    let case = case_in(random, Size::Small, 2);
+    let (mut bytes, labels) = (case.bytes(), &case.labels);
+    while read_in_order(&bytes, &[15]).is_ok() {
+        bytes = with_other_name(random, &bytes);
+    }
+    let actions_at = NAMED_HEADER + 8 * labels.count() + 6 * case.transitions.len();
+    if !case.actions.is_empty() && random.chance(1, 3) {
+        bytes = with_number(&bytes, actions_at + 4 * random.below(case.actions.len()), 2, 7);
+    }
+    bytes
 }
 
 /// Recorded transitions: paths, cycles or by chance, with copies and with other labels between equal ends.

@@ -2,6 +2,7 @@
 //! library against it.
 
 pub mod calls;
+pub mod case_rules;
 pub mod compare;
 pub mod copies;
 pub mod damage;
@@ -9,9 +10,13 @@ pub mod faults;
 pub mod formats;
 pub mod game;
 pub mod generate;
+pub mod laws;
 pub mod lent;
 pub mod listing;
 pub mod meaning;
+pub mod misread;
+pub mod names;
+pub mod order;
 pub mod paper;
 pub mod program;
 pub mod random;
@@ -23,3 +28,4 @@ pub mod slips;
 pub mod stream;
 pub mod tables;
 pub mod text;
+pub mod worked;

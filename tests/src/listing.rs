@@ -10,12 +10,23 @@ pub fn case(bytes: &[u8]) -> String {
         Ok(case) => case,
         Err(number) => return refused(bytes, number, 2),
     };
-    let mut text = format!("states {}, labels {}, initial state {}\n", case.states, case.labels, case.initial);
+    let labels = case.labels.count();
+    let mut text = format!("states {}, labels {labels}, initial state {}\n", case.states, case.initial);
+    if let Labels::Named(records) = &case.labels {
+        let records: Vec<String> = records.iter().map(record_text).collect();
+        writeln!(text, "version 2, names {}", records.join(" ")).unwrap();
+    }
     let transitions: Vec<String> =
         case.transitions.iter().map(|t| format!("({},{},{})", t.source, t.label, t.target)).collect();
     writeln!(text, "transitions {}", transitions.join(" ")).unwrap();
     write!(text, "formula {}", formula_text(&case, 0)).unwrap();
     text
+}
+
+/// The names of a label, such as (3,5); those of the silent step are ().
+fn record_text(record: &Names) -> String {
+    let names: Vec<String> = record.iter().filter(|&&name| name != 0).map(usize::to_string).collect();
+    format!("({})", names.join(","))
 }
 
 fn formula_text(case: &Case, at: usize) -> String {

@@ -5,13 +5,17 @@
 mod library;
 mod planted;
 
-use bithrowy_tests::compare::{Check, Comparison, Sizes, Solving, Tally};
+use bithrowy_tests::compare::{Check, Comparison, Sizes, Solving, Tally, Truth};
 use bithrowy_tests::formats::*;
 use bithrowy_tests::generate::{self, Size};
+use bithrowy_tests::names::BROUGHT_UP;
 use bithrowy_tests::random::Random;
-use bithrowy_tests::reader::read_case;
+use bithrowy_tests::reader::{read_case, CASE_CONDITIONS};
+use bithrowy_tests::rules::Broken;
 use bithrowy_tests::slips::Reference;
-use bithrowy_tests::{copies, damage, lent, listing, paper, program, rules, shrink, stream, tables};
+use bithrowy_tests::{
+    case_rules, copies, damage, laws, lent, listing, paper, program, rules, shrink, stream, tables, worked,
+};
 use library::Library;
 use std::path::Path;
 use std::process::exit;
@@ -21,17 +25,22 @@ use std::time::Instant;
 const BUDGET: u64 = 250_000;
 const LARGE_BUDGET: u64 = 60_000_000;
 
-/// Of the files that thousands of seeds give so many are accepted at least. Measured from seven first seeds: 2,550
-/// (damaged cases) and more.
+/// Of the files that thousands of seeds give so many are accepted at least. Measured from three first seeds: 2,586 (damaged
+/// cases) and more.
 const LEAST_ACCEPTED: u64 = 2_000;
-/// Of the accepted ones at least one in so many is solved by search as well, in each route. Measured: one in 3.9 (cases
-/// in direct) to one in 6.1 (damaged cases in the equation route).
+/// Of the accepted ones at least one in so many is solved by search as well, in each route. Measured: one in 4.0 (cases in
+/// direct) to one in 5.7 (damaged cases in the equation route).
 const SEARCHED_ONE_IN: u64 = 8;
-/// And at most one in so many has more rounds than the cap, in each route. Measured: at most one in 270 (damaged equation
-/// files), and none of the largest cases.
+/// And at most one in so many has more rounds than the cap, in each route. Measured: at most one in 258 (damaged cases in
+/// the equation route), and none of the largest cases.
 const CAPPED_ONE_IN: u64 = 100;
 /// Of the accepted cases at least one in so many has recorded copies. Measured: two in three.
 const COPIED_ONE_IN: u64 = 2;
+/// Of the accepted cases at least one in so many is of version 1, and one in so many of version 2. Measured: one in two.
+const VERSION_ONE_IN: u64 = 3;
+/// Of the accepted cases of version 2 at least one in so many brings up each thing that names can. Measured: one in 2.8
+/// (labels that are unused, in cases) to one in 7.2 (silent labels, in damaged cases).
+const BROUGHT_UP_ONE_IN: u64 = 10;
 
 /// What kind of file a test is about.
 #[derive(Clone, Copy, PartialEq, Eq)]
@@ -49,11 +58,17 @@ impl Kind {
         }
     }
 
-    fn compare(self, comparison: &mut Comparison, bytes: &[u8]) -> Check {
+    /// What the reference says of a file.
+    fn truth(self, comparison: &mut Comparison, bytes: &[u8]) -> Result<Truth, String> {
         match self {
-            Kind::Case => comparison.case(bytes),
-            Kind::Equations => comparison.file(bytes),
+            Kind::Case => comparison.case_truth(bytes).map(Truth::Case),
+            Kind::Equations => comparison.file_truth(bytes).map(Truth::File),
         }
+    }
+
+    fn compare(self, comparison: &mut Comparison, bytes: &[u8]) -> Check {
+        let truth = self.truth(comparison, bytes)?;
+        comparison.held_to(bytes, &truth)
     }
 
     /// A well-formed file (a case may have too many blocks).
@@ -148,19 +163,32 @@ impl Group {
         assert!(copied * COPIED_ONE_IN >= accepted, "{}: only {copied} of {accepted} with copies", self.name);
     }
 
+    /// Many of the accepted cases are of each version, and many of version 2 bring up what names can.
+    fn assert_both_versions(&self) {
+        let (named, accepted) = (self.tally.named, self.tally.refused[0]);
+        for count in [named, accepted - named] {
+            assert!(count * VERSION_ONE_IN >= accepted, "{}: {named} of {accepted} of version 2", self.name);
+        }
+        for (count, what) in self.tally.brought_up.iter().zip(BROUGHT_UP) {
+            assert!(count * BROUGHT_UP_ONE_IN >= named, "{}: only {count} of {named} {what}", self.name);
+        }
+    }
+
     /// Prints the group's line. Each file was compared at least twice.
     fn end(self) {
         let tally = self.tally;
         assert!(tally.files() > 0 && tally.calls >= 2 * tally.files(), "{}: nothing compared", self.name);
         let refused: Vec<String> =
-            (1..15).filter(|&k| tally.refused[k] > 0).map(|k| format!("{k}: {}", tally.refused[k])).collect();
+            (1..16).filter(|&k| tally.refused[k] > 0).map(|k| format!("{k}: {}", tally.refused[k])).collect();
         let refused = if refused.is_empty() { "none".to_string() } else { refused.join(", ") };
         let text = |(route, solving): (&str, Solving)| {
             format!("{route}: {} searched, {} above the cap", solving.searched, solving.capped)
         };
         let mut accepted: Vec<String> = self.kind.routes(&tally).into_iter().map(text).collect();
         if self.kind == Kind::Case {
-            accepted.push(format!("with copies: {}", tally.copied));
+            let brought_up = tally.brought_up.iter().zip(BROUGHT_UP).map(|(count, what)| format!("{what}: {count}"));
+            accepted.push(format!("with copies: {}, version 2: {}", tally.copied, tally.named));
+            accepted.extend(brought_up);
         }
         println!(
             "{}: {} files, {} accepted ({}), refused {refused}; {} calls; {:.1} s",
@@ -191,9 +219,10 @@ fn main() {
     report("paper, reference", start, paper::check(&Reference(None)));
     report("paper, library", start, paper::check(&Library));
     report("lent places and guards, each element touched", start, lent::check());
-    each_rule(seed, Kind::Case, "cases, each rule of 1 to 10 and pairs");
+    each_rule(seed, Kind::Case, "cases, each rule of 1 to 10 and 15 in both versions, and pairs");
     each_rule(seed, Kind::Equations, "equation files, each rule of 11 and 12 and pairs");
     cases(seed);
+    report("changes of names that change nothing, library", Instant::now(), laws::check(&Library, seed));
     all_sizes(seed);
     tables_of_copies(seed);
     damaged_cases(seed);
@@ -218,9 +247,12 @@ fn main() {
 fn each_rule(seed: u64, kind: Kind, name: &'static str) {
     let mut group = Group::new(name, kind);
     let (broken, twice) = match kind {
-        Kind::Case => (rules::broken_cases(), rules::twice_broken_cases()),
+        Kind::Case => (case_rules::broken_cases(), case_rules::twice_broken_cases()),
         Kind::Equations => (rules::broken_files(), rules::twice_broken_files()),
     };
+    if kind == Kind::Case {
+        assert_each_condition(&broken);
+    }
     for file in broken {
         let before = group.tally.refused[file.refusal as usize];
         group.compare(seed, &file.bytes);
@@ -233,6 +265,19 @@ fn each_rule(seed: u64, kind: Kind, name: &'static str) {
     group.end();
 }
 
+/// Each condition on cases turns away a file of each version; 15 is of version 2 alone.
+fn assert_each_condition(broken: &[Broken]) {
+    for version in VERSIONS {
+        let of_version =
+            |file: &&Broken| file.bytes.len() >= 2 && damage::number_at(&file.bytes, 0, 2) == version as u64;
+        let refused = |number: u64| broken.iter().filter(of_version).any(|file| file.refusal == number);
+        // A file of an unknown version is refused with 2 and says no version that exists.
+        let missing = CASE_CONDITIONS.into_iter().filter(|&number| number != 2 && !refused(number));
+        let expected = if version == 1 { vec![15] } else { Vec::new() };
+        assert_eq!(missing.collect::<Vec<_>>(), expected, "conditions without a file of version {version}");
+    }
+}
+
 fn cases(seed: u64) {
     let mut group = Group::new("cases", Kind::Case);
     for seed in seed..seed + 25_000 {
@@ -241,13 +286,14 @@ fn cases(seed: u64) {
     assert!(group.tally.refused[0] >= 20_000, "20,000 accepted cases");
     group.assert_many_searched();
     group.assert_many_copied();
+    group.assert_both_versions();
     group.end();
 }
 
 /// All combinations of lent sizes around the needed ones.
 fn all_sizes(seed: u64) {
     let mut group = Group { sizes: Sizes::All, ..Group::new("cases, all lent sizes", Kind::Case) };
-    for run in paper::runs() {
+    for run in [paper::runs(), paper::named_runs(), worked::runs()].concat() {
         group.compare(seed, &run.case.bytes());
     }
     for seed in seed..seed + 150 {
@@ -260,11 +306,12 @@ fn all_sizes(seed: u64) {
 fn tables_of_copies(seed: u64) {
     let mut group = Group::new("cases over tables of copies", Kind::Case);
     for table in copies::tables() {
-        let case = table.case();
-        let recorded = tables::recorded(&case.transitions);
         let by_hand = (table.triples.len() as u64, table.distinct as u64);
-        assert_eq!((recorded.records, recorded.distinct), by_hand, "reference: {}", table.name);
-        group.compare(seed, &case.bytes());
+        for case in table.cases() {
+            let recorded = tables::recorded(&case.transitions);
+            assert_eq!((recorded.records, recorded.distinct), by_hand, "reference: {}", table.name);
+            group.compare(seed, &case.bytes());
+        }
     }
     assert_eq!(group.tally.refused[0], group.tally.files(), "all are accepted");
     group.end();
@@ -282,17 +329,20 @@ fn damaged_cases(seed: u64) {
         }
         group.compare(seed, &bytes);
     }
-    assert!((1..=10).all(|number| group.tally.refused[number] > 0), "a case for each of 1 to 10");
+    let each = CASE_CONDITIONS.iter().all(|&number| group.tally.refused[number as usize] > 0);
+    assert!(each, "a case for each of 1 to 10 and 15");
     group.assert_many_searched();
     group.assert_many_copied();
+    group.assert_both_versions();
     group.end();
 }
 
-/// A file of moderate length: a case, its equation file, or other equations.
+/// A file of moderate length: a case, its equation file, or other equations. Seeds one after another take turns in the
+/// versions.
 fn base(seed: u64, kind: Kind) -> Vec<u8> {
     let mut random = Random::new(seed);
     loop {
-        let case = generate::case_of(&mut random, Size::Tiny);
+        let case = generate::case_in(&mut random, Size::Tiny, VERSIONS[seed as usize % 2]);
         let bytes = match kind {
             Kind::Case => case.bytes(),
             Kind::Equations if random.chance(1, 2) && read_case(&case.bytes()).is_ok() => {
@@ -364,11 +414,15 @@ fn damaged_files(seed: u64) {
 /// Files with all counts at their limits, and one above them.
 fn large(seed: u64) {
     let mut group = Group { budget: LARGE_BUDGET, ..Group::new("largest cases", Kind::Case) };
-    for seed in seed..seed + 12 {
-        let bytes = generate::case_of(&mut Random::new(seed), Size::Full).bytes();
-        assert_eq!(bytes.len(), LARGEST_CASE);
-        group.compare(seed, &bytes);
+    for (version, length) in [(1, LARGEST_CASE), (2, LARGEST_NAMED_CASE)] {
+        for seed in seed..seed + 6 {
+            let bytes = generate::case_in(&mut Random::new(seed), Size::Full, version).bytes();
+            assert_eq!(bytes.len(), length);
+            group.compare(seed, &bytes);
+        }
     }
+    group.compare(seed, &worked::largest().bytes());
+    assert_eq!((group.tally.refused[0], group.tally.named), (13, 7), "all are accepted");
     group.assert_few_capped();
     group.end();
 

@@ -3,14 +3,15 @@
 
 use crate::formats::*;
 use crate::game::{Game, Player, NEUTRAL};
+use crate::names::alike;
 
-/// Does the action formula at a node accept a label?
-pub fn accepts(actions: &[Node], at: usize, label: usize) -> bool {
-    let operand = |i: usize| accepts(actions, operands_of(actions, at, action::operands)[i], label);
-    match actions[at].kind {
+/// Does the action formula at a node of a case accept a label?
+pub fn accepts(case: &Case, at: usize, label: usize) -> bool {
+    let operand = |i: usize| accepts(case, operands_of(&case.actions, at, action::operands)[i], label);
+    match case.actions[at].kind {
         action::FALSE => false,
         action::TRUE => true,
-        action::LABEL => actions[at].argument == label,
+        action::LABEL => alike(&case.labels, case.actions[at].argument, label),
         action::NOT => !operand(0),
         action::AND => operand(0) && operand(1),
         action::OR => operand(0) || operand(1),
@@ -21,7 +22,7 @@ pub fn accepts(actions: &[Node], at: usize, label: usize) -> bool {
 
 /// The labels that a modal node's action formula accepts.
 pub fn accepted_labels(case: &Case, at: usize) -> Vec<bool> {
-    (0..case.labels).map(|label| accepts(&case.actions, case.formula[at].argument, label)).collect()
+    (0..case.labels.count()).map(|label| accepts(case, case.formula[at].argument, label)).collect()
 }
 
 /// The accepted labels of each modal node; an empty list for other nodes.

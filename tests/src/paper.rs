@@ -1,10 +1,12 @@
-//! The paper's runs P1 to P8 and the examples of its table of refusals, with the values given there.
+//! The paper's runs P1 to P8, as version 1 and as version 2, and the examples of its table of refusals, with the values
+//! given there.
 
-use crate::calls::{Calls, Numbers, RouteNumbers};
+use crate::calls::{Calls, Numbers, RouteNumbers, MARK_WORDS};
 use crate::compare::Check;
 use crate::damage::with_number;
 use crate::formats::*;
-use crate::text::case;
+use crate::text::{case, with_own_names};
+use crate::worked;
 
 /// What the program uses: limit, file buffer.
 pub const LIMIT: u64 = 1_000_000;
@@ -16,39 +18,56 @@ type Line = [u64; 4];
 /// Records in the table, distinct ones.
 type Pair = [u64; 2];
 
-/// A run with the answers of the equation route and of direct.
+/// A run with the answers of the equation route and of direct, and the marked states, all below 64, as bits.
+#[derive(Clone)]
 pub struct Run {
     pub name: &'static str,
     pub case: Case,
     pub equation: RouteNumbers,
     pub direct: RouteNumbers,
+    pub marks: u64,
 }
 
-/// P1 to P8. P8's numbers follow from the rules: each of six blocks or binders takes one round. The records are counted in
-/// the runs' tables: in P1 one of three is a copy, in P2 and P3 there are two and no copy, the others have none, and P7 is
-/// refused.
+impl Run {
+    pub fn new(name: &'static str, case: Case, equation: Line, direct: Line, recorded: Pair, marks: u64) -> Run {
+        let (equation, direct) = (answer(equation, recorded), answer(direct, recorded));
+        Run { name, case, equation, direct, marks }
+    }
+
+    /// The run's name and version.
+    pub fn title(&self) -> String {
+        format!("{}, version {}", self.name, self.case.labels.version())
+    }
+}
+
+/// P1 to P8. P8's numbers follow from the rules: each of six blocks or binders takes one round. The records are counted
+/// in the runs' tables: in P1 one of three is a copy, in P2 and P3 there are two and no copy, the others have none, and
+/// P7 is refused. The marks follow from the counts, which are all states or none.
 pub fn runs() -> Vec<Run> {
-    let run = |name, case, equation, direct, recorded| Run {
-        name,
-        case,
-        equation: answer(equation, recorded),
-        direct: answer(direct, recorded),
-    };
+    let run = Run::new;
     let three = [(0, 0, 1), (0, 0, 1), (1, 1, 2)];
     let two = [(0, 0, 1), (1, 1, 0)];
     let labels = "label 0 label 1";
     let single = |acts, words| case(1, 1, &[], acts, words);
     let body = "or dia 0 X dia 1 Y";
+    let (p2, p3) = (format!("nu X mu Y {body}"), format!("mu X nu Y {body}"));
+    let p7 = single("", "and nu A nu B nu C true nu D nu E nu F true");
+    let p8 = single("", "nu A nu B nu C nu D nu E nu F true");
     vec![
-        run("P1", case(3, 2, &three, "true", "mu X box 0 X"), [0, 1, 3, 4], [0, 1, 3, 4], [3, 2]),
-        run("P2", case(2, 2, &two, labels, &format!("nu X mu Y {body}")), [0, 1, 2, 4], [0, 1, 2, 4], [2, 2]),
-        run("P3", case(2, 2, &two, labels, &format!("mu X nu Y {body}")), [0, 0, 0, 4], [0, 0, 0, 4], [2, 2]),
-        run("P4", single("", "true"), [0, 1, 1, 1], [0, 1, 1, 0], [0, 0]),
-        run("P5", single("true", "box 0 false"), [0, 1, 1, 1], [0, 1, 1, 0], [0, 0]),
-        run("P6", single("true", "dia 0 true"), [0, 0, 0, 2], [0, 0, 0, 0], [0, 0]),
-        run("P7", single("", "and nu A nu B nu C true nu D nu E nu F true"), [10, 0, 0, 0], [10, 0, 0, 0], [0, 0]),
-        run("P8", single("", "nu A nu B nu C nu D nu E nu F true"), [0, 1, 1, 6], [0, 1, 1, 6], [0, 0]),
+        run("P1", case(3, 2, &three, "true", "mu X box 0 X"), [0, 1, 3, 4], [0, 1, 3, 4], [3, 2], 7),
+        run("P2", case(2, 2, &two, labels, &p2), [0, 1, 2, 4], [0, 1, 2, 4], [2, 2], 3),
+        run("P3", case(2, 2, &two, labels, &p3), [0, 0, 0, 4], [0, 0, 0, 4], [2, 2], 0),
+        run("P4", single("", "true"), [0, 1, 1, 1], [0, 1, 1, 0], [0, 0], 1),
+        run("P5", single("true", "box 0 false"), [0, 1, 1, 1], [0, 1, 1, 0], [0, 0], 1),
+        run("P6", single("true", "dia 0 true"), [0, 0, 0, 2], [0, 0, 0, 0], [0, 0], 0),
+        run("P7", p7, [10, 0, 0, 0], [10, 0, 0, 0], [0, 0], 0),
+        run("P8", p8, [0, 1, 1, 6], [0, 1, 1, 6], [0, 0], 1),
     ]
+}
+
+/// P1 to P8 as version 2, where each label has a name of its own, with the same answers.
+pub fn named_runs() -> Vec<Run> {
+    runs().into_iter().map(|run| Run { case: with_own_names(run.case.clone()), ..run }).collect()
 }
 
 /// P1's equation file, number by number.
@@ -60,25 +79,59 @@ pub fn p1_file() -> Vec<u8> {
     numbers.iter().flat_map(|x: &u32| x.to_le_bytes()).collect()
 }
 
-/// The table's examples for 1 to 10, in order.
-pub fn refused_cases() -> Vec<Vec<u8>> {
-    let p1 = runs()[0].case.bytes();
-    let small = case(1, 1, &[], "", "true");
-    let with_formula = |nodes: &[(usize, usize)]| {
-        let formula = nodes.iter().map(|&(kind, argument)| node(kind, argument)).collect();
-        Case { formula, ..small.clone() }.bytes()
-    };
+/// A case by the number that it is refused with.
+type Refused = (u64, Vec<u8>);
+
+/// A small case of a version with another formula table.
+fn with_formula(version: usize, nodes: &[(usize, usize)]) -> Vec<u8> {
+    let formula = nodes.iter().map(|&(kind, argument)| node(kind, argument)).collect();
+    of_version(version, Case { formula, ..case(1, 1, &[], "", "true") }).bytes()
+}
+
+/// The case as it is, or as version 2.
+fn of_version(version: usize, case: Case) -> Case {
+    if version == 1 {
+        case
+    } else {
+        with_own_names(case)
+    }
+}
+
+/// The table's examples for 1 to 10, in order, as version 1 or as version 2; the first is empty in both.
+pub fn refused_cases(version: usize) -> Vec<Refused> {
+    let p1 = of_version(version, runs()[0].case.clone()).bytes();
+    let of = |case: Case| of_version(version, case).bytes();
+    let seven = "nu A nu B nu C nu D nu E nu F nu G true";
+    let wrong_offset = if version == 1 { 21 } else { 39 };
     vec![
-        Vec::new(),
-        with_number(&p1, 0, 2, 9),
-        with_number(&p1, 2, 2, 257),
-        with_number(&p1, 14, 2, 21),
-        [&p1[..], &[0]].concat(),
-        case(1, 1, &[(0, 0, 1)], "", "true").bytes(),
-        case(1, 1, &[], "not", "true").bytes(),
-        with_formula(&[(formula::AND, 0), (formula::TRUE, 0)]),
-        with_formula(&[(formula::MU, 0), (formula::VARIABLE, 1)]),
-        case(1, 1, &[], "", "nu A nu B nu C nu D nu E nu F nu G true").bytes(),
+        (1, Vec::new()),
+        (2, with_number(&p1, 0, 2, 9)),
+        (3, with_number(&p1, 2, 2, 257)),
+        (4, with_number(&p1, 14, 2, wrong_offset)),
+        (5, [&p1[..], &[0]].concat()),
+        (6, of(case(1, 1, &[(0, 0, 1)], "", "true"))),
+        (7, of(case(1, 1, &[], "not", "true"))),
+        (8, with_formula(version, &[(formula::AND, 0), (formula::TRUE, 0)])),
+        (9, with_formula(version, &[(formula::MU, 0), (formula::VARIABLE, 1)])),
+        (10, of(case(1, 1, &[], "", seven))),
+    ]
+}
+
+/// What only version 2 has: files of 20 and of 21 bytes, another offset of the label records, a name above 255 and a
+/// name after padding, and 15 between 6 and 7.
+pub fn refused_names() -> Vec<Refused> {
+    let p1 = named_runs()[0].case.bytes();
+    let above = with_number(&p1, 22, 2, 256);
+    let behind = with_number(&p1, 22 + 8 + 4, 2, 1);
+    vec![
+        (1, p1[..20].to_vec()),
+        (1, p1[..21].to_vec()),
+        (4, with_number(&p1, 20, 2, 20)),
+        (15, above.clone()),
+        (15, behind),
+        // With the initial state 3, which gets 6, and with an action node of kind 7, which gets 7.
+        (6, with_number(&above, 8, 2, 3)),
+        (15, with_number(&above, 56, 2, 7)),
     ]
 }
 
@@ -113,27 +166,62 @@ impl Held {
     }
 }
 
-/// Holds calls to all values that the paper gives; answers how many values were compared.
+/// The marks that the equation route and direct leave in words that held others.
+fn marks_left(calls: &dyn Calls, bytes: &[u8]) -> [[u64; MARK_WORDS]; 2] {
+    let (mut file, mut work) = (vec![0; FILE_BUFFER], vec![0; CELLS]);
+    let mut marks = [UNTOUCHED; 2];
+    calls.equation(bytes, &mut file, &mut work, &mut marks[0], LIMIT);
+    calls.direct(bytes, &mut marks[1], LIMIT);
+    marks
+}
+
+/// Mark words before a call.
+const UNTOUCHED: [u64; MARK_WORDS] = [9; MARK_WORDS];
+
+/// Holds calls to all values that the paper gives, and to those worked out by hand; answers how many values were
+/// compared.
 pub fn check(calls: &dyn Calls) -> Result<u64, String> {
     let mut held = Held(0);
-    for run in runs() {
-        held.to(run.name, both_routes(calls, &run.case.bytes()), (run.equation, run.direct))?;
+    for run in [runs(), named_runs(), worked::runs()].concat() {
+        let bytes = run.case.bytes();
+        held.to(&run.title(), both_routes(calls, &bytes), (run.equation, run.direct))?;
+        let marks = if run.equation.refusal == 0 { [run.marks, 0, 0, 0] } else { UNTOUCHED };
+        held.to(&run.title(), marks_left(calls, &bytes), [marks; 2])?;
     }
-    for (i, bytes) in refused_cases().iter().enumerate() {
-        let number = i as u64 + 1;
+    for (number, bytes) in [refused_cases(1), refused_cases(2), refused_names()].concat() {
         let refused = RouteNumbers::refused(number);
-        held.to("a refused case", both_routes(calls, bytes), (refused, refused))?;
-        held.to("translate of a refused case", calls.translate(bytes, &mut []), Numbers::refused(number))?;
+        held.to("a refused case", both_routes(calls, &bytes), (refused, refused))?;
+        held.to("translate of a refused case", calls.translate(&bytes, &mut []), Numbers::refused(number))?;
     }
+    check_files(calls, &mut held)?;
     let p1 = runs()[0].case.bytes();
+    check_refused_runs(calls, &p1, &mut held)?;
+    check_refused_runs(calls, &named_runs()[0].case.bytes(), &mut held)?;
+    check_solve(calls, &p1_file(), &mut held)?;
+    Ok(held.0)
+}
+
+/// The bytes of P1 in both versions, and its equation file, which is the same for both; and the equation file of a case
+/// whose transitions differ in labels that have the same names.
+fn check_files(calls: &dyn Calls, held: &mut Held) -> Check {
+    let (p1, named) = (runs()[0].case.bytes(), named_runs()[0].case.bytes());
     held.to("P1's length", p1.len(), 54)?;
     held.to("P1's offsets", p1[14..20].to_vec(), vec![20, 0, 38, 0, 42, 0])?;
-    let mut file = [0; 160];
-    held.to("P1 translated", calls.translate(&p1, &mut file), Numbers::written(160))?;
-    held.to("P1's equation file", file.to_vec(), p1_file())?;
-    check_refused_runs(calls, &p1, &mut held)?;
-    check_solve(calls, &file, &mut held)?;
-    Ok(held.0)
+    held.to("P1's length, version 2", named.len(), 72)?;
+    let header = [2, 0, 3, 0, 3, 0, 2, 0, 0, 0, 1, 0, 3, 0, 38, 0, 56, 0, 60, 0, 22, 0];
+    held.to("P1's header, version 2", named[..22].to_vec(), header.to_vec())?;
+    let records = [255, 0, 0, 0, 0, 0, 0, 0, 254, 0, 0, 0, 0, 0, 0, 0];
+    held.to("P1's label records", named[22..38].to_vec(), records.to_vec())?;
+    held.to("P1's tables in both versions", &named[38..], &p1[20..])?;
+    for bytes in [p1, named] {
+        let mut file = [0; 160];
+        held.to("P1 translated", calls.translate(&bytes, &mut file), Numbers::written(160))?;
+        held.to("P1's equation file", file.to_vec(), p1_file())?;
+    }
+    let mut file = [0; 124];
+    let translated = calls.translate(&worked::alike_ends().bytes(), &mut file);
+    held.to("alike labels between equal ends, translated", translated, Numbers::written(124))?;
+    held.to("their equation file", file.to_vec(), worked::alike_ends_file())
 }
 
 /// P1 with too small a limit and with memory that is too short: the numbers of its records are answered all the same.

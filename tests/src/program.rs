@@ -1,13 +1,16 @@
 //! The built programs `twosides` and `solvefile`: a file on standard input, lines of numbers on standard output.
 
 use crate::calls::{Calls, MARK_WORDS};
+use crate::damage::with_number;
 use crate::formats::*;
-use crate::generate::{case_of, equations, Size};
-use crate::paper::{p1_file, runs, LIMIT};
+use crate::generate::{case_in, equations, Size};
+use crate::paper::{named_runs, p1_file, runs, LIMIT};
 use crate::random::Random;
+use crate::reader::read_case;
 use crate::slips::Reference;
 use crate::stream::{line, reference_lines};
 use crate::text::case;
+use crate::worked;
 use std::io::{ErrorKind, Write};
 use std::path::Path;
 use std::process::{Command, Stdio};
@@ -48,16 +51,54 @@ const SPENT: &str = "more rounds than the limit in the equation route";
 type Inputs = Vec<(&'static str, Vec<u8>)>;
 
 fn cases() -> Inputs {
-    let mut all: Vec<(&str, Vec<u8>)> = runs().iter().map(|run| (run.name, run.case.bytes())).collect();
-    let p1 = all[0].1.clone();
-    let full = case_of(&mut Random::new(5), Size::Full);
-    assert!(full.bytes().len() == LARGEST_CASE && crate::reader::read_case(&full.bytes()).is_ok());
+    let runs = [runs(), named_runs(), worked::runs()].concat();
+    let mut all: Inputs = runs.iter().map(|run| (run.name, run.case.bytes())).collect();
+    all.extend(numbered_cases());
+    all.extend(named_cases());
+    all
+}
+
+/// A number of zeros by which an input is longer than any case.
+const ZEROS: [u8; 7_000] = [0; 7_000];
+
+/// Cases of version 2 around the ends of the header and of the room for a case.
+fn named_cases() -> Inputs {
+    let p1 = named_runs()[0].case.bytes();
+    let full = worked::largest().bytes();
+    assert!(full.len() == LARGEST_NAMED_CASE && full.len() == 13_590 && read_case(&full).is_ok());
+    let any = case_in(&mut Random::new(5), Size::Full, 2).bytes();
+    assert!(any.len() == LARGEST_NAMED_CASE && read_case(&any).is_ok());
+    let long = [&full[..], &ZEROS].concat();
+    vec![
+        ("version 2, 20 bytes", p1[..20].to_vec()),
+        ("version 2, 21 bytes", p1[..21].to_vec()),
+        ("version 2, a header only", p1[..22].to_vec()),
+        ("version 2, a byte too short", p1[..p1.len() - 1].to_vec()),
+        ("version 2, a byte too long", [&p1[..], &[0]].concat()),
+        ("version 3, 20 bytes", with_number(&p1, 0, 2, 3)[..20].to_vec()),
+        ("version 3", with_number(&p1, 0, 2, 3)),
+        ("a name above 255", with_number(&p1, 22, 2, 256)),
+        ("a name after padding", with_number(&p1, 28, 2, 1)),
+        ("the largest case of version 2", full.clone()),
+        ("a largest case of version 2 by chance", any),
+        ("a wrong name in the largest case's last record", with_number(&full, 22 + 8 * LABELS - 2, 2, 9)),
+        ("a byte less than the largest case of version 2", full[..full.len() - 1].to_vec()),
+        ("a byte more than the largest case of version 2", long[..LARGEST_NAMED_CASE + 1].to_vec()),
+        ("two bytes more than the largest case of version 2", long[..LARGEST_NAMED_CASE + 2].to_vec()),
+        ("longer than any case, version 2", long),
+    ]
+}
+
+fn numbered_cases() -> Inputs {
+    let p1 = runs()[0].case.bytes();
+    let full = case_in(&mut Random::new(5), Size::Full, 1);
+    assert!(full.bytes().len() == LARGEST_CASE && read_case(&full.bytes()).is_ok());
     let large = case(256, 1, &[(0, 0, 1), (0, 0, 1), (1, 0, 2)], "true", &("box 0 ".repeat(24) + "false"));
     let mut path: Vec<(usize, usize, usize)> = (0..15).map(|s| (s, 0, s + 1)).collect();
     path.extend([(7, 0, 8), (0, 0, 1), (7, 0, 8)]);
     let spent = case(16, 1, &path, "true", &("and ".repeat(4) + &"mu X box 0 X ".repeat(5)));
-    let long = [&full.bytes()[..], &[0; 7_000]].concat();
-    all.extend([
+    let long = [&full.bytes()[..], &ZEROS].concat();
+    vec![
         ("empty", Vec::new()),
         ("a byte too long", [&p1[..], &[0]].concat()),
         ("a byte too short", p1[..53].to_vec()),
@@ -68,8 +109,7 @@ fn cases() -> Inputs {
         ("a byte more than the largest case", long[..LARGEST_CASE + 1].to_vec()),
         ("longer than any case", long),
         ("a megabyte of zeros", vec![0; 1_000_000]),
-    ]);
-    all
+    ]
 }
 
 fn files() -> Inputs {
@@ -105,7 +145,7 @@ fn compare(binary: &Path, inputs: Inputs, expected: fn(&[u8]) -> String) -> Resu
     let mut compared = 0;
     for (name, input) in inputs {
         let expected = expected(&input);
-        let pieces = if input.len() < 100 { vec![input.len(), 7] } else { vec![input.len()] };
+        let pieces = if input.len() < 75 { vec![input.len(), 7] } else { vec![input.len()] };
         for piece in pieces {
             let got = output(binary, &input, piece).map_err(|text| format!("{name}: {text}"))?;
             if got != expected {

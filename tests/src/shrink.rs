@@ -2,6 +2,7 @@
 
 use crate::formats::*;
 use crate::reader::{read_case, read_equations};
+use std::collections::BTreeSet;
 
 /// How many smaller files are tried at most.
 const MOST_TRIED: usize = 20_000;
@@ -23,7 +24,7 @@ pub fn smallest(bytes: &[u8], smaller: fn(&[u8]) -> Vec<Vec<u8>>, fails: &mut dy
     best
 }
 
-/// Cases a step smaller: transitions, nodes, states, labels or action formulas dropped.
+/// Cases a step smaller: transitions, nodes, states, labels, names or action formulas dropped.
 pub fn smaller_cases(bytes: &[u8]) -> Vec<Vec<u8>> {
     let Ok(case) = read_case(bytes) else { return shorter(bytes, 2) };
     let mut all = Vec::new();
@@ -32,12 +33,69 @@ pub fn smaller_cases(bytes: &[u8]) -> Vec<Vec<u8>> {
         change(&mut next);
         all.push(next);
     };
+    smaller_models(&case, &mut add);
+    smaller_labels(&case, &mut add);
+    smaller_formulas(&case, &mut add);
+    smaller_actions(&case, &mut add);
+    let size = |c: &Case| c.bytes().len() + c.states + c.labels.count() + names_size(c);
+    let before = size(&case);
+    all.iter().filter(|next| read_case(&next.bytes()).is_ok() && size(next) < before).map(Case::bytes).collect()
+}
+
+/// A change that may make a case smaller is handed to this.
+type Add<'a> = dyn FnMut(&dyn Fn(&mut Case)) + 'a;
+
+/// How many names a case has, and how large they are.
+fn names_size(case: &Case) -> usize {
+    case.labels.records().iter().flatten().map(|&name| (name > 0) as usize + name).sum()
+}
+
+fn smaller_models(case: &Case, add: &mut Add) {
     let m = case.transitions.len();
     for part in [m / 2, m / 4, 1].into_iter().filter(|&part| part > 0) {
         for start in (0..m).step_by(part) {
             add(&|next| drop(next.transitions.drain(start..(start + part).min(m))));
         }
     }
+    if case.states > 1 {
+        for gone in 0..case.states {
+            add(&|next| drop_state(next, gone));
+        }
+    }
+}
+
+fn smaller_labels(case: &Case, add: &mut Add) {
+    add(&|next| next.labels = Labels::Numbered(next.labels.count()));
+    for gone in 0..case.labels.count().saturating_sub(1) {
+        add(&|next| drop_label(next, gone));
+    }
+    add(&|next| next.labels = ranked(&next.labels));
+    for (i, record) in case.labels.records().iter().enumerate() {
+        for place in (0..NAMES).filter(|&place| record[place] != 0) {
+            add(&|next| drop_name(&mut next.labels, i, place));
+        }
+    }
+}
+
+/// The labels with the smallest names: each is replaced by its place among the different ones, from 1.
+fn ranked(labels: &Labels) -> Labels {
+    let different: BTreeSet<usize> = labels.records().iter().flatten().copied().filter(|&name| name != 0).collect();
+    let rank = |name: usize| different.range(..name).count() + (name != 0) as usize;
+    match labels {
+        Labels::Numbered(count) => Labels::Numbered(*count),
+        Labels::Named(records) => Labels::Named(records.iter().map(|record| record.map(rank)).collect()),
+    }
+}
+
+/// Takes a name out of a record; those behind it move up.
+fn drop_name(labels: &mut Labels, label: usize, place: usize) {
+    if let Labels::Named(records) = labels {
+        records[label][place..].rotate_left(1);
+        records[label][NAMES - 1] = 0;
+    }
+}
+
+fn smaller_formulas(case: &Case, add: &mut Add) {
     for i in 0..case.formula.len() {
         let end = subtree_end(&case.formula, i, formula::operands).unwrap();
         for operand in operands_of(&case.formula, i, formula::operands) {
@@ -51,14 +109,9 @@ pub fn smaller_cases(bytes: &[u8]) -> Vec<Vec<u8>> {
             });
         }
     }
-    if case.states > 1 {
-        for gone in 0..case.states {
-            add(&|next| drop_state(next, gone));
-        }
-    }
-    for gone in 0..case.labels.saturating_sub(1) {
-        add(&|next| drop_label(next, gone));
-    }
+}
+
+fn smaller_actions(case: &Case, add: &mut Add) {
     for i in 0..case.actions.len() {
         add(&|next| {
             next.actions = vec![node(action::TRUE, 0)];
@@ -77,9 +130,6 @@ pub fn smaller_cases(bytes: &[u8]) -> Vec<Vec<u8>> {
             });
         }
     }
-    let size = |c: &Case| c.bytes().len() + c.states + c.labels;
-    let before = size(&case);
-    all.iter().filter(|next| read_case(&next.bytes()).is_ok() && size(next) < before).map(Case::bytes).collect()
 }
 
 /// Puts a part of a subtree in its place and renumbers the binders of the variables behind.
@@ -113,8 +163,11 @@ fn drop_state(case: &mut Case, gone: usize) {
 
 /// Makes a label one with the last, which takes its number.
 fn drop_label(case: &mut Case, gone: usize) {
-    case.labels -= 1;
-    let last = case.labels;
+    let last = case.labels.count() - 1;
+    match &mut case.labels {
+        Labels::Numbered(count) => *count -= 1,
+        Labels::Named(records) => drop(records.swap_remove(gone)),
+    }
     for t in case.transitions.iter_mut().filter(|t| t.label == last) {
         t.label = gone;
     }

@@ -1,10 +1,12 @@
-//! The paper's "Slips seen in such programs", and slips in the numbers of records, as wrong versions of the calls. The
-//! comparison must notice each of them.
+//! The paper's "Slips seen in such programs", and slips in the numbers of records and in the names of labels, as wrong
+//! versions of the calls. The comparison must notice each of them.
 
 use crate::calls::{mark_words, Calls, Numbers, Recorded, RouteNumbers, MARK_WORDS};
 use crate::formats::*;
 use crate::meaning::{accepted_by_node, cell_values};
-use crate::reader::{read_case, read_equations};
+use crate::misread;
+use crate::names::alike;
+use crate::reader::{read_equations, read_in_order};
 use crate::rounds::{self, Counter, Solved, Spent};
 use crate::tables;
 
@@ -26,9 +28,29 @@ pub enum Slip {
     NumbersSwapped,
     /// No numbers of records when the rounds exceed the limit.
     LostWhenSpent,
+    /// Merging transitions with equal ends whose different labels have the same names.
+    AlikeMerged,
+    /// Names compared in order.
+    NamesInOrder,
+    /// Names compared as a set.
+    NamesAsSet,
+    /// A silent label accepted by no label node.
+    SilentRefused,
+    /// Version 1 with version 2's acceptance: its labels, which have no names, are all silent.
+    NumberedSilent,
+    /// The same, with names read where version 2 has them, whatever stands there.
+    NumberedNamed,
+    /// 15 looked at after 7.
+    NamesAfterActions,
+    /// 15 looked at only in labels that a transition or an action node has.
+    UnusedUnchecked,
+    /// Only names above 255 are refused, and names behind a zero are not.
+    BehindUnchecked,
+    /// The numbers of records answered after 15, as if only numbers up to 10 refused a case.
+    TallyAfterNames,
 }
 
-pub const SLIPS: [Slip; 8] = [
+pub const SLIPS: [Slip; 18] = [
     Slip::CopiesKept,
     Slip::LabelsMerged,
     Slip::InnerKept,
@@ -37,7 +59,30 @@ pub const SLIPS: [Slip; 8] = [
     Slip::CopiesAnywhere,
     Slip::NumbersSwapped,
     Slip::LostWhenSpent,
+    Slip::AlikeMerged,
+    Slip::NamesInOrder,
+    Slip::NamesAsSet,
+    Slip::SilentRefused,
+    Slip::NumberedSilent,
+    Slip::NumberedNamed,
+    Slip::NamesAfterActions,
+    Slip::UnusedUnchecked,
+    Slip::BehindUnchecked,
+    Slip::TallyAfterNames,
 ];
+
+impl Slip {
+    /// Is it in how cases with wrong records are refused, and in nothing else?
+    pub fn in_wrong_records(self) -> bool {
+        use Slip::{BehindUnchecked, NamesAfterActions, TallyAfterNames, UnusedUnchecked};
+        matches!(self, NamesAfterActions | UnusedUnchecked | BehindUnchecked | TallyAfterNames)
+    }
+
+    /// Is it in the solver? The others are in what comes before it, or in what the routes answer beside it.
+    pub fn in_solver(self) -> bool {
+        self == Slip::InnerKept
+    }
+}
 
 /// The calls by the reference, with a slip or with none.
 pub struct Reference(pub Option<Slip>);
@@ -50,6 +95,7 @@ impl Reference {
         match self.0 {
             Some(Slip::CopiesKept) => tables::equations_over(case, &case.transitions),
             Some(Slip::LabelsMerged) => tables::equations_over(case, &merged(&case.transitions)),
+            Some(Slip::AlikeMerged) => tables::equations_over(case, &alike_merged(case)),
             Some(Slip::InsideOut) => inside_out(tables::equations(case)),
             Some(Slip::EmptyBoxFalse) => empty_boxes_false(case, tables::equations(case)),
             _ => tables::equations(case),
@@ -100,9 +146,21 @@ impl Reference {
         let distinct = tables::distinct(&case.transitions).len() as u64;
         match self.0 {
             Some(Slip::CopiesAnywhere) => Recorded { records, distinct: without_copies(&case.transitions) },
+            Some(Slip::AlikeMerged) => Recorded { records, distinct: alike_merged(case).len() as u64 },
             Some(Slip::NumbersSwapped) => Recorded { records: distinct, distinct: records },
             Some(Slip::LostWhenSpent) if answer.refusal == 14 => Recorded::default(),
             _ => Recorded { records, distinct },
+        }
+    }
+
+    /// What a route answers on a case that is not accepted.
+    fn refused(&self, bytes: &[u8], number: u64) -> RouteNumbers {
+        match read_in_order(bytes, &[6]) {
+            Ok(case) if number == 15 && self.0 == Some(Slip::TallyAfterNames) => {
+                let answer = Numbers::refused(number);
+                RouteNumbers::with(answer, self.recorded(&case, answer))
+            }
+            _ => RouteNumbers::refused(number),
         }
     }
 }
@@ -118,6 +176,19 @@ fn merged(transitions: &[Transition]) -> Vec<Transition> {
     let mut kept: Vec<Transition> = Vec::new();
     for t in transitions {
         if !kept.iter().any(|k| (k.source, k.target) == (t.source, t.target)) {
+            kept.push(*t);
+        }
+    }
+    kept
+}
+
+/// Only the first of the transitions with equal ends and alike labels.
+fn alike_merged(case: &Case) -> Vec<Transition> {
+    let mut kept: Vec<Transition> = Vec::new();
+    for t in &case.transitions {
+        let same =
+            |k: &Transition| (k.source, k.target) == (t.source, t.target) && alike(&case.labels, k.label, t.label);
+        if !kept.iter().any(same) {
             kept.push(*t);
         }
     }
@@ -230,7 +301,7 @@ impl WrongDirect<'_> {
 
 impl Calls for Reference {
     fn translate(&self, case: &[u8], file: &mut [u8]) -> Numbers {
-        match read_case(case) {
+        match misread::read(self.0, case) {
             Err(number) => Numbers::refused(number),
             Ok(case) => {
                 let bytes = self.equations(&case).bytes();
@@ -265,9 +336,9 @@ impl Calls for Reference {
         }
     }
 
-    fn direct(&self, case: &[u8], marks: &mut [u64], limit: u64) -> RouteNumbers {
-        match read_case(case) {
-            Err(number) => RouteNumbers::refused(number),
+    fn direct(&self, bytes: &[u8], marks: &mut [u64], limit: u64) -> RouteNumbers {
+        match misread::read(self.0, bytes) {
+            Err(number) => self.refused(bytes, number),
             Ok(case) => {
                 let answer = self.direct_answer(&case, marks, limit);
                 RouteNumbers::with(answer, self.recorded(&case, answer))
@@ -275,10 +346,10 @@ impl Calls for Reference {
         }
     }
 
-    fn equation(&self, case: &[u8], file: &mut [u8], work: &mut [u8], marks: &mut [u64], limit: u64) -> RouteNumbers {
-        let translated = self.translate(case, file);
-        match read_case(case) {
-            Err(number) => RouteNumbers::refused(number),
+    fn equation(&self, bytes: &[u8], file: &mut [u8], work: &mut [u8], marks: &mut [u64], limit: u64) -> RouteNumbers {
+        let translated = self.translate(bytes, file);
+        match misread::read(self.0, bytes) {
+            Err(number) => self.refused(bytes, number),
             Ok(case) => {
                 let length = translated.length as usize;
                 let written = translated.refusal == 0;

@@ -3,11 +3,12 @@
 use crate::calls::RouteNumbers;
 use crate::formats::*;
 use crate::meaning;
-use crate::paper::{both_routes, refused_cases, runs};
+use crate::paper::{both_routes, named_runs, refused_cases, refused_names, runs, Run};
 use crate::reader::read_case;
 use crate::slips::Reference;
 use crate::tables;
-use crate::text::case;
+use crate::text::{case, named, with_own_names};
+use crate::worked;
 use std::path::Path;
 
 type Triple = (usize, usize, usize);
@@ -46,12 +47,23 @@ fn beside(count: usize, sign: &str, body: &str) -> String {
     "and ".repeat(count - 1) + &one.repeat(count)
 }
 
-/// P1 to P8, one damaged case for each of 1 to 10, and further cases.
+/// P1 to P8, one damaged case for each of 1 to 10, and further cases; then the same for version 2, with the cases
+/// worked out by hand and damaged ones for 15.
 pub fn cases() -> Vec<Vec<u8>> {
-    let mut all: Vec<Vec<u8>> = runs().iter().map(|run| run.case.bytes()).collect();
-    all.extend(refused_cases());
-    all.extend(further().iter().map(Case::bytes));
-    all
+    let of_runs = |runs: Vec<Run>| -> Vec<Vec<u8>> { runs.iter().map(|run| run.case.bytes()).collect() };
+    let refused = |cases: Vec<(u64, Vec<u8>)>| -> Vec<Vec<u8>> { cases.into_iter().map(|(_, bytes)| bytes).collect() };
+    let written = |cases: Vec<Case>| -> Vec<Vec<u8>> { cases.iter().map(Case::bytes).collect() };
+    [
+        of_runs(runs()),
+        refused(refused_cases(1)),
+        written(further()),
+        of_runs(named_runs()),
+        of_runs(worked::runs()),
+        refused(refused_cases(2)),
+        refused(refused_names()),
+        written(further_named()),
+    ]
+    .concat()
 }
 
 fn further() -> Vec<Case> {
@@ -108,6 +120,42 @@ fn further() -> Vec<Case> {
     all.push(case(16, 1, &path(16), "true", &beside(5, "mu", "box 0 X")));
     let within: String = ["A", "B", "C", "D", "E", "F"].map(|name| format!("mu {name} and box 0 {name} ")).concat();
     all.push(case(10, 1, &path(10), "true", &(within + "true")));
+    all
+}
+
+/// Further cases of version 2.
+fn further_named() -> Vec<Case> {
+    let mixed = [(0, 0, 1), (1, 1, 2), (2, 0, 0), (2, 1, 3), (3, 2, 3), (3, 0, 1), (1, 2, 1), (0, 1, 0)];
+    let labels = "label 0 label 1 label 2";
+    // Focus and blur in both orders, and click.
+    let together: [&[usize]; 3] = [&[1, 2], &[2, 1], &[3]];
+    let mut all = Vec::new();
+    // Nested and alternating binders, over names of their own and over names of which two are the same.
+    for depth in 1..=BLOCKS {
+        let plain = case(4, 3, &mixed, labels, &alternating(depth % 2 == 0, depth));
+        all.extend([with_own_names(plain.clone()), named(plain, &together)]);
+    }
+    // Every action kind; boxes into the middle of an action formula.
+    let acts = "implies label 0 not or label 1 label 2 and true not false";
+    for at in 0..10 {
+        let plain = case(4, 3, &mixed, acts, &format!("or box {at} false dia {at} dia {at} true"));
+        all.push(named(plain, &[&[7, 7, 1], &[7, 1], &[1, 7, 7]]));
+    }
+    // Copies, and records that differ in labels with the same names.
+    let copies = [(0, 0, 1), (1, 1, 2), (0, 1, 1), (1, 1, 2), (0, 2, 1)];
+    all.push(named(case(3, 3, &copies, "label 0", "mu X or box 0 false dia 0 X"), &together));
+    // All 256 states; an equation file longer than the buffer.
+    all.push(named(case(256, 1, &cycle(256), "label 0", "nu X dia 0 X"), &[&[255, 255, 255, 255]]));
+    all.push(named(case(256, 1, &path(256), "label 0", &("box 0 ".repeat(24) + "false")), &[&[]]));
+    // 64 labels: with one transition, with a wrong record at the end, and in the largest case.
+    let mut last_wrong = worked::sixty_four_labels();
+    all.push(Case {
+        labels: Labels::Named(last_wrong.clone()),
+        ..case(1, LABELS, &[(0, 63, 0)], "label 56", "dia 0 true")
+    });
+    last_wrong[LABELS - 1] = [0, 0, 0, 1];
+    all.push(Case { labels: Labels::Named(last_wrong), ..case(1, LABELS, &[], "", "true") });
+    all.push(worked::largest());
     all
 }
 

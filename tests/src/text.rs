@@ -1,6 +1,7 @@
 //! Tables of nodes from words in prefix order, such as `nu X mu Y or dia 0 X dia 1 Y`.
 
 use crate::formats::*;
+use crate::names::record_of;
 
 /// A formula table: false, true, and, or, `box A`, `dia A` (A an action node's number), `mu X`, `nu X`, and X for the
 /// variable of the innermost binder X.
@@ -67,14 +68,26 @@ pub fn transitions(triples: &[(usize, usize, usize)]) -> Vec<Transition> {
     triples.iter().map(|&(source, label, target)| Transition { source, label, target }).collect()
 }
 
-/// A case with initial state 0.
+/// A case of version 1 with initial state 0.
 pub fn case(states: usize, labels: usize, triples: &[(usize, usize, usize)], acts: &str, words: &str) -> Case {
     Case {
         states,
-        labels,
+        labels: Labels::Numbered(labels),
         initial: 0,
         transitions: transitions(triples),
         actions: actions(acts),
         formula: formula(words),
     }
+}
+
+/// The case as version 2, with the names of each of its labels.
+pub fn named(case: Case, names: &[&[usize]]) -> Case {
+    assert_eq!(names.len(), case.labels.count(), "a record for each label");
+    Case { labels: Labels::Named(names.iter().map(|names| record_of(names)).collect()), ..case }
+}
+
+/// The case as version 2, in which each label has one name that no other has.
+pub fn with_own_names(case: Case) -> Case {
+    let records = (0..case.labels.count()).map(|label| record_of(&[LARGEST_NAME - label])).collect();
+    Case { labels: Labels::Named(records), ..case }
 }

@@ -1,4 +1,4 @@
-//! Case files: their tables and conditions 1 to 10.
+//! Case files of both versions: their tables, conditions 1 to 10 and 15, and the labels that action formulas accept.
 
 use super::{sets, solver};
 
@@ -6,12 +6,20 @@ pub const LABELS: usize = 64;
 pub const TRANSITIONS: usize = 2048;
 pub const ACTIONS: usize = 128;
 pub const NODES: usize = 64;
-pub const HEADER: usize = 20;
+
+/// The length of the header in version 1 and in version 2.
+const HEADER: usize = 20;
+const NAMED_HEADER: usize = 22;
+
+/// The length of a label record, which has four names.
+const RECORD: usize = 8;
 
 /// The length of the largest case.
-pub const LARGEST: usize = HEADER + 6 * TRANSITIONS + 4 * ACTIONS + 4 * NODES;
+pub const LARGEST: usize = NAMED_HEADER + RECORD * LABELS + 6 * TRANSITIONS + 4 * ACTIONS + 4 * NODES;
 
 pub struct Header {
+    /// Version 2, whose labels have names.
+    pub named: bool,
     pub states: usize,
     pub transitions: usize,
     pub labels: usize,
@@ -42,6 +50,7 @@ pub fn number_at(part: &[u8], at: usize) -> usize {
 
 pub fn header(case: &[u8]) -> Header {
     Header {
+        named: number_at(case, 0) == 2,
         states: number_at(case, 2),
         transitions: number_at(case, 4),
         labels: number_at(case, 6),
@@ -72,18 +81,49 @@ fn bad_count(h: &Header) -> bool {
         || !(1..=NODES).contains(&h.nodes)
 }
 
-fn bad_offset(h: &Header) -> bool {
-    h.first != HEADER || h.second != h.first + 6 * h.transitions || h.third != h.second + 4 * h.actions
+/// Where the transitions start.
+fn tables_from(h: &Header) -> usize {
+    if h.named {
+        NAMED_HEADER + RECORD * h.labels
+    } else {
+        HEADER
+    }
+}
+
+fn bad_offset(case: &[u8], h: &Header) -> bool {
+    h.named && number_at(case, HEADER) != NAMED_HEADER
+        || h.first != tables_from(h)
+        || h.second != h.first + 6 * h.transitions
+        || h.third != h.second + 4 * h.actions
 }
 
 fn bad_length(case: &[u8], h: &Header) -> bool {
-    case.len() != HEADER + 6 * h.transitions + 4 * h.actions + 4 * h.nodes
+    case.len() != tables_from(h) + 6 * h.transitions + 4 * h.actions + 4 * h.nodes
 }
 
 fn bad_model(case: &[u8], h: &Header) -> bool {
     let part = &case[h.first..];
     let holds = |t: Transition| t.source < h.states && t.label < h.labels && t.target < h.states;
     h.initial >= h.states || !(0..h.transitions).all(|i| holds(transition_at(part, i)))
+}
+
+/// The label records, of which version 1 has none.
+fn label_records<'a>(case: &'a [u8], h: &Header) -> &'a [u8] {
+    if h.named {
+        &case[NAMED_HEADER..NAMED_HEADER + RECORD * h.labels]
+    } else {
+        &[]
+    }
+}
+
+/// Whether each name is at most 255 and each zero is followed by zeros.
+fn names_hold(record: &[u8]) -> bool {
+    let names = [0, 2, 4, 6].map(|at| number_at(record, at));
+    names.iter().all(|&name| name <= 255) && names.windows(2).all(|pair| pair[0] != 0 || pair[1] == 0)
+}
+
+fn bad_names(case: &[u8], h: &Header) -> bool {
+    !label_records(case, h).chunks_exact(RECORD).all(names_hold)
 }
 
 fn action_arity(kind: usize) -> usize {
@@ -179,19 +219,24 @@ fn too_deep(part: &[u8], f: usize) -> bool {
     binders(part, f) + added > solver::BLOCKS
 }
 
-/// The first of conditions 1 to 10 that holds of a case.
+/// Whether a case is shorter than the header of the version that it says.
+fn too_short(case: &[u8]) -> bool {
+    case.len() < HEADER || case.len() < NAMED_HEADER && number_at(case, 0) == 2
+}
+
+/// The first condition that holds of a case: 1 to 6, 15, 7 to 10.
 pub fn refusal(case: &[u8]) -> Option<u8> {
-    if case.len() < HEADER {
+    if too_short(case) {
         return Some(1);
     }
-    if number_at(case, 0) != 1 {
+    if !(1..=2).contains(&number_at(case, 0)) {
         return Some(2);
     }
     let h = header(case);
     if bad_count(&h) {
         return Some(3);
     }
-    if bad_offset(&h) {
+    if bad_offset(case, &h) {
         return Some(4);
     }
     if bad_length(case, &h) {
@@ -199,6 +244,9 @@ pub fn refusal(case: &[u8]) -> Option<u8> {
     }
     if bad_model(case, &h) {
         return Some(6);
+    }
+    if bad_names(case, &h) {
+        return Some(15);
     }
     if bad_actions(case, &h) {
         return Some(7);
@@ -216,12 +264,65 @@ pub fn refusal(case: &[u8]) -> Option<u8> {
     None
 }
 
-/// The labels that the action formula at node j accepts, as a mask. The nodes are read from the last one down, and the masks of the
+/// For each label a mask.
+type Masks = [u64; LABELS];
+
+/// The names of a record of an accepted case, in ascending order, as one number.
+fn names_key(record: &[u8]) -> u32 {
+    let mut names = [record[0], record[2], record[4], record[6]];
+    for (i, j) in [(0, 1), (2, 3), (0, 2), (1, 3), (1, 2)] {
+        (names[i], names[j]) = (names[i].min(names[j]), names[i].max(names[j]));
+    }
+    u32::from_le_bytes(names)
+}
+
+/// The labels that a label node of each label accepts: in version 1 the label itself, in version 2 those with the same names.
+fn alike_labels(case: &[u8], h: &Header) -> Masks {
+    if h.named {
+        with_same_names(label_records(case, h))
+    } else {
+        std::array::from_fn(|label| 1 << label)
+    }
+}
+
+/// The same in version 2, with a table of the labels whose names are found first, which has two places for each label: such a label
+/// stands at the first free place from the one that its names' hash gives.
+fn with_same_names(records: &[u8]) -> Masks {
+    const PLACES: usize = 2 * LABELS;
+    const FREE: u8 = u8::MAX;
+    let mut found = [FREE; PLACES];
+    let mut keys = [0u32; LABELS];
+    let mut firsts = [0u8; LABELS];
+    let mut masks = [0; LABELS];
+    let labels = records.len() / RECORD;
+    for (label, record) in records.chunks_exact(RECORD).enumerate() {
+        let key = names_key(record);
+        let mut place = (key.wrapping_mul(0x9e37_79b1) >> 16) as usize % PLACES;
+        while found[place] != FREE && keys[found[place] as usize] != key {
+            place = (place + 1) % PLACES;
+        }
+        if found[place] == FREE {
+            found[place] = label as u8;
+            keys[label] = key;
+        }
+        firsts[label] = found[place];
+        masks[found[place] as usize] |= 1 << label;
+    }
+    for label in 0..labels {
+        masks[label] = masks[firsts[label] as usize];
+    }
+    masks
+}
+
+/// The labels that the action formula at each node of an accepted case accepts, as masks. The nodes are read from the last one down, and the masks of the
 /// formulas that start at node i or after it stand from `at` on.
-pub fn accepted_labels(part: &[u8], a: usize, j: usize) -> u64 {
+pub fn action_masks(case: &[u8], h: &Header) -> [u64; ACTIONS] {
+    let part = &case[h.second..];
+    let alike = alike_labels(case, h);
+    let mut all = [0u64; ACTIONS];
     let mut masks = [0u64; ACTIONS];
     let mut at = ACTIONS;
-    for i in (j..a).rev() {
+    for i in (0..h.actions).rev() {
         let node = node_at(part, i);
         let x = masks.get(at).copied().unwrap_or(0);
         let y = masks.get(at + 1).copied().unwrap_or(0);
@@ -229,14 +330,15 @@ pub fn accepted_labels(part: &[u8], a: usize, j: usize) -> u64 {
         masks[at] = match node.kind {
             0 => 0,
             1 => !0,
-            2 => 1 << node.arg,
+            2 => alike[node.arg],
             3 => !x,
             4 => x & y,
             5 => x | y,
             _ => !x | y,
         };
+        all[i] = masks[at];
     }
-    masks[at]
+    all
 }
 
 /// Calls `first` for each of the m records of an accepted case that no record before it equals, in order.

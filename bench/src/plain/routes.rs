@@ -1,6 +1,6 @@
 //! The two routes from a case to its marks.
 
-use super::cases::{self, accepted_labels, is_binder, node_at, transition_at, Header, NODES};
+use super::cases::{self, action_masks, is_binder, node_at, transition_at, Header, NODES};
 use super::sets::{self, Set, WORDS};
 use super::solver::{self, Report, BLOCKS};
 use super::translate::{self, First};
@@ -104,15 +104,15 @@ fn evaluated(case: &[u8], h: &Header, marks: &mut [u64], limit: u64) -> Result<R
     if marks.len() < WORDS {
         return Err(13);
     }
-    let actions = &case[h.second..];
     let nodes = &case[h.third..];
     let mut labels = [0u64; NODES];
     let mut blocks = [0u8; NODES];
+    let masks = action_masks(case, h);
     let mut count = 0;
     for i in 0..h.nodes {
         let x = node_at(nodes, i);
         if x.kind == 4 || x.kind == 5 {
-            labels[i] = accepted_labels(actions, h.actions, x.arg);
+            labels[i] = masks[x.arg];
         }
         blocks[i] = count;
         count += is_binder(&x) as u8;

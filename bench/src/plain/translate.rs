@@ -1,7 +1,7 @@
 //! Writing the equation file of a case.
 
 use super::cases::{
-    self, accepted_labels, binders, is_binder, node_at, subtree_end, transition_at, Header, TRANSITIONS,
+    self, action_masks, binders, is_binder, node_at, subtree_end, transition_at, Header, ACTIONS, TRANSITIONS,
 };
 
 const SHAPES: usize = cases::NODES + 1;
@@ -49,7 +49,17 @@ fn is_modal(kind: usize) -> bool {
     kind == 4 || kind == 5
 }
 
-fn shape_at(actions: &[u8], a: usize, part: &[u8], f: usize, added: usize, i: usize) -> Shape {
+/// What shapes are made of: the formula table and its count, the labels that the action formulas accept, and how many nodes are added
+/// before the root.
+struct Tables<'a> {
+    formula: &'a [u8],
+    f: usize,
+    masks: [u64; ACTIONS],
+    added: usize,
+}
+
+fn shape_at(tables: &Tables, i: usize) -> Shape {
+    let Tables { formula: part, f, ref masks, added } = *tables;
     let x = node_at(part, i);
     Shape {
         kind: x.kind,
@@ -59,7 +69,7 @@ fn shape_at(actions: &[u8], a: usize, part: &[u8], f: usize, added: usize, i: us
             7 | 8 => binders(part, i) + added,
             _ => 0,
         },
-        labels: if is_modal(x.kind) { accepted_labels(actions, a, x.arg) } else { 0 },
+        labels: if is_modal(x.kind) { masks[x.arg] } else { 0 },
     }
 }
 
@@ -185,12 +195,12 @@ pub fn translate(case: &[u8], out: &mut [u8]) -> Result<usize, u8> {
 
 /// The same for an accepted case whose first appearances are found.
 pub fn write(case: &[u8], h: &Header, first: &First, out: &mut [u8]) -> Result<usize, u8> {
-    let actions = &case[h.second..];
     let formula = &case[h.third..];
     let added = if is_binder(&node_at(formula, 0)) { 0 } else { 1 };
+    let tables = Tables { formula, f: h.nodes, masks: action_masks(case, h), added };
     let mut shapes = [Shape { kind: 8, second: 0, block: 0, labels: 0 }; SHAPES];
     for i in 0..h.nodes {
-        shapes[added + i] = shape_at(actions, h.actions, formula, h.nodes, added, i);
+        shapes[added + i] = shape_at(&tables, i);
     }
     let source = Source {
         records: &case[h.first..],

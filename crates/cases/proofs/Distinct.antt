@@ -14,10 +14,10 @@ use borrow.Author.Tests.{eq-eqb, ne-eqb}
 use lib.Dec.{T, eqb}
 use lib.ListN.{length, take, length-append}
 use lib.Seq.{append-snoc, getD-append-seam, take-append-seam}
-use Rattle.sets.specs.Lists.{numbersFrom, forSome}
+use Rattle.sets.specs.Lists.{numbersFrom, forSome, keep}
 use Rattle.sets.proofs.Lists.{or-left, or-right}
 use Rattle.cases.specs.File.{Transition}
-use Rattle.cases.specs.Case.{sameTransition, copies, transitionAt, copiesBefore, keep, distinct, fresh}
+use Rattle.cases.specs.Case.{sameTransition, copies, transitionAt, copiesBefore, distinct, fresh}
 use Rattle.cases.specs.internal.Scope.{Within}
 use Rattle.cases.proofs.TableTrees.{holds}
 use Rattle.cases.proofs.MeaningLaws.{same-equal, same-self}

@@ -10,12 +10,12 @@ use native.Mathlib.Omega.{arith}
 use lib.Dec.{eqb}
 use lib.ListN.{length, getD, set, drop, length-set, length-map}
 use lib.Seq.{getD-set-same, getD-set-other}
-use Rattle.sets.specs.Lists.{numbersFrom}
+use Rattle.sets.specs.Lists.{numbersFrom, keep}
 use Rattle.sets.specs.Words.{bit}
 use Rattle.sets.proofs.Lists.{length-range, length-table, table-at}
 use Rattle.solver.proofs.Shown.{bit-back}
 use Rattle.cases.specs.File.{transitionIn}
-use Rattle.cases.specs.Case.{keep, distinct, copiesBefore, transitionAt}
+use Rattle.cases.specs.Case.{distinct, copiesBefore, transitionAt}
 use Rattle.cases.specs.internal.Checks.{transitionsIn}
 use Rattle.cases.proofs.Checking.{range-done, range-next}
 use Rattle.cases.proofs.Copies.{copies-any}

@@ -1,28 +1,29 @@
 -- Conditions 1 to 5: what the tests of the code come to, and what follows where none holds.
-use mathlib.Core.Path.{_≡_, refl}
-use mathlib.Core.Bool.{Bool, true, false, not, _&&_, true≢false}
+use mathlib.Core.Path.{_≡_, refl, ap}
+use mathlib.Core.Bool.{Bool, true, false, cond, not, _&&_, true≢false}
 use mathlib.Core.List.{List, [], _∷_}
 use Prim.Native.Nat.{ℕ, _≤_, _<_}
 use native.Mathlib.Omega.{arith}
 use borrow.Author.Tests.{le-ltb, lt-ltb, eq-eqb, ne-eqb, eqb-true, not-false, ltb-false}
 use lib.Dec.{T, eqb, eqb→eq}
 use lib.ListN.{length}
-use Rattle.sets.specs.Lists.{every}
+use Rattle.sets.specs.Lists.{every, forSome}
 use Rattle.sets.specs.Words.{stateLimit}
 use Rattle.sets.specs.Refusals.{firstOf}
 use Rattle.sets.proofs.Refusals.{holds-here, holds-later, none-holds, none-here, bounds}
-use Rattle.cases.specs.File.{Header, headerSize, version, headerOf, transitionsStart, actionsStart, formulaStart, fileEnd, labelLimit, transitionLimit, actionLimit, nodeLimit}
-use Rattle.cases.specs.Conditions.{tooSmall, otherVersion, badCount, badOffset, badLength, layoutConditions}
-use Rattle.cases.specs.internal.Checks.{CountsFit, Laid}
+use Rattle.cases.specs.File.{Header, headerSize, version, headerOf, labelsStart, transitionsStart, actionsStart, formulaStart, fileEnd, labelLimit, transitionLimit, actionLimit, nodeLimit}
+use Rattle.cases.specs.Conditions.{tooSmall, otherVersion, versions, badCount, badOffset, badLength, layoutConditions}
+use Rattle.cases.specs.internal.Checks.{commonHeader, CountsFit, Laid}
 
 -- ---- 3
 
 -- tests that all hold
-three : (a b c : Bool) → not (a && b && c) ≡ false → T a × T b × T c
-three true true true h = (tt, tt, tt)
-three true true false h = absurd (true≢false h)
-three true false c h = absurd (true≢false h)
-three false b c h = absurd (true≢false h)
+four : (a b c d : Bool) → not (a && b && c && d) ≡ false → T a × T b × T c × T d
+four true true true true h = (tt, tt, tt, tt)
+four true true true false h = absurd (true≢false h)
+four true true false d h = absurd (true≢false h)
+four true false c d h = absurd (true≢false h)
+four false b c d h = absurd (true≢false h)
 
 five : (a b c d e : Bool) → not (every (λ test. test) (a ∷ b ∷ c ∷ d ∷ e ∷ [])) ≡ false → T a × T b × T c × T d × T e
 unfolding every
@@ -54,45 +55,68 @@ module _ (h : Header) where
 
   -- ---- 4
 
-  pub transitions-differ : ¬ (h .«transitions_at» ≡ transitionsStart) → true ≡ badOffset h
+  pub labels-differ : ¬ (h .«labels_at» ≡ labelsStart h) → true ≡ badOffset h
   unfolding badOffset
-  transitions-differ d = simp (ne-eqb (h .«transitions_at») transitionsStart d)
+  labels-differ d = simp (ne-eqb (h .«labels_at») (labelsStart h) d)
 
-  module _ (transitions : h .«transitions_at» ≡ transitionsStart) where
-    pub actions-differ : ¬ (h .«actions_at» ≡ actionsStart h) → true ≡ badOffset h
+  module _ (labels : h .«labels_at» ≡ labelsStart h) where
+    pub transitions-differ : ¬ (h .«transitions_at» ≡ transitionsStart h) → true ≡ badOffset h
     unfolding badOffset
-    actions-differ d = simp (eq-eqb (h .«transitions_at») transitionsStart transitions, ne-eqb (h .«actions_at») (actionsStart h) d)
+    transitions-differ d = simp (eq-eqb (h .«labels_at») (labelsStart h) labels, ne-eqb (h .«transitions_at») (transitionsStart h) d)
 
-    pub formula-decides : h .«actions_at» ≡ actionsStart h → not (eqb (h .«formula_at») (formulaStart h)) ≡ badOffset h
-    unfolding badOffset
-    formula-decides actions = simp (eq-eqb (h .«transitions_at») transitionsStart transitions, eq-eqb (h .«actions_at») (actionsStart h) actions)
+    module _ (transitions : h .«transitions_at» ≡ transitionsStart h) where
+      pub actions-differ : ¬ (h .«actions_at» ≡ actionsStart h) → true ≡ badOffset h
+      unfolding badOffset
+      actions-differ d = simp (
+        eq-eqb (h .«labels_at») (labelsStart h) labels,
+        eq-eqb (h .«transitions_at») (transitionsStart h) transitions,
+        ne-eqb (h .«actions_at») (actionsStart h) d,
+      )
 
-  offsets-hold : badOffset h ≡ false → (h .«transitions_at» ≡ transitionsStart) × (h .«actions_at» ≡ actionsStart h) × (h .«formula_at» ≡ formulaStart h)
+      pub formula-decides : h .«actions_at» ≡ actionsStart h → not (eqb (h .«formula_at») (formulaStart h)) ≡ badOffset h
+      unfolding badOffset
+      formula-decides actions = simp (
+        eq-eqb (h .«labels_at») (labelsStart h) labels,
+        eq-eqb (h .«transitions_at») (transitionsStart h) transitions,
+        eq-eqb (h .«actions_at») (actionsStart h) actions,
+      )
+
+  offsets-hold : badOffset h ≡ false
+      → (h .«labels_at» ≡ labelsStart h) × (h .«transitions_at» ≡ transitionsStart h) × (h .«actions_at» ≡ actionsStart h) × (h .«formula_at» ≡ formulaStart h)
   unfolding badOffset
   offsets-hold e =
-      let t = three (eqb (h .«transitions_at») transitionsStart) (eqb (h .«actions_at») (actionsStart h)) (eqb (h .«formula_at») (formulaStart h)) e in
-      (eqb→eq _ _ (t .0), eqb→eq _ _ (t .1), eqb→eq _ _ (t .2))
+      let t = four (eqb (h .«labels_at») (labelsStart h)) (eqb (h .«transitions_at») (transitionsStart h)) (eqb (h .«actions_at») (actionsStart h)) (eqb (h .«formula_at») (formulaStart h)) e in
+      (eqb→eq _ _ (t .0), eqb→eq _ _ (t .1), eqb→eq _ _ (t .2), eqb→eq _ _ (t .3))
 
 -- ---- the first that holds, one by one
 
+-- a header has what all versions have
+pub header-least : (v : ℕ) → commonHeader ≤ headerSize v
+unfolding headerSize
+header-least v = go (eqb v 2)
+  where
+    go : (r : Bool) → commonHeader ≤ cond r 22 20
+    go true = omega arith
+    go false = omega arith
+
 module _ (b : List ℕ) where
-  pub small-refuses : length b < headerSize → 1 ≡ firstOf (layoutConditions b)
+  pub small-refuses : length b < headerSize (version b) → 1 ≡ firstOf (layoutConditions b)
   unfolding layoutConditions tooSmall
   small-refuses h = holds-here _ _ _ (lt-ltb _ _ h)
 
-  module _ (whole : headerSize ≤ length b) where
+  module _ (whole : headerSize (version b) ≤ length b) where
     has-header : tooSmall b ≡ false
     unfolding tooSmall
     has-header = le-ltb _ _ whole
 
-    pub version-refuses : ¬ (version b ≡ 1) → 2 ≡ firstOf (layoutConditions b)
+    pub version-refuses : forSome (eqb (version b)) versions ≡ false → 2 ≡ firstOf (layoutConditions b)
     unfolding layoutConditions otherVersion
-    version-refuses d = holds-later _ _ _ has-header (holds-here _ _ _ (rw (ne-eqb (version b) 1 d) refl))
+    version-refuses e = holds-later _ _ _ has-header (holds-here _ _ _ (ap not e))
 
-    module _ (one : version b ≡ 1) {h : Header} (is : h ≡ headerOf b) where
-      version-is : otherVersion b ≡ false
+    module _ (one : forSome (eqb (version b)) versions ≡ true) {h : Header} (is : h ≡ headerOf b) where
+      version-is : otherVersion versions b ≡ false
       unfolding otherVersion
-      version-is = rw (eq-eqb (version b) 1 one) refl
+      version-is = ap not one
 
       pub count-refuses : badCount h ≡ true → 3 ≡ firstOf (layoutConditions b)
       unfolding layoutConditions
@@ -119,7 +143,7 @@ module _ (b : List ℕ) where
 
 -- ---- none of 1 to 5
 
-small-not : (b : List ℕ) → tooSmall b ≡ false → headerSize ≤ length b
+small-not : (b : List ℕ) → tooSmall b ≡ false → headerSize (version b) ≤ length b
 unfolding tooSmall
 small-not b h = ltb-false _ _ h
 
@@ -141,9 +165,10 @@ laid-header b z =
       read = refl;
       header = small-not b (small .0);
       counts = counts-hold (headerOf b) (count .0);
-      transitions = at .0;
-      actions = at .1;
-      formula = at .2;
+      labels = at .0;
+      transitions = at .1;
+      actions = at .2;
+      formula = at .3;
       ends = length-holds b (ends .0);
     }
 

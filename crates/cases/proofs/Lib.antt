@@ -9,6 +9,7 @@ pub mod Copies
 pub mod Distinct
 pub mod Links
 pub mod FirstAppearances
+pub mod LabelLaws
 pub mod Masks
 pub mod Checking
 pub mod PrefixRules
@@ -18,4 +19,5 @@ pub mod FormulaRules
 pub mod Openings
 pub mod ClosedMeaning
 pub mod Accepting
+pub mod AlikeLaws
 pub mod Tallies

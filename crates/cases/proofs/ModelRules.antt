@@ -1,4 +1,4 @@
--- Conditions 6 and 7: what the tests of the code come to; and the parts of a case that can be read.
+-- Conditions 6, 15 and 7: what the tests of the code come to; and the parts of a case that can be read.
 use mathlib.Core.Path.{_≡_}
 use mathlib.Core.Bool.{Bool, true, false, not}
 use mathlib.Core.List.{List, map}
@@ -8,9 +8,9 @@ use borrow.Author.Tests.{le-ltb, lt-ltb}
 use lib.ListN.{length, drop, length-drop}
 use Rattle.sets.specs.Lists.{numbersFrom, every}
 use Rattle.cases.specs.Prefix.{arityIn, actionArities, wholeFormulas}
-use Rattle.cases.specs.File.{Header, headerOf, transitionIn, transitionTable, actionTable, actionLimit, nodeLimit}
-use Rattle.cases.specs.Conditions.{badModel, badActions, transitionOk, actionOk}
-use Rattle.cases.specs.internal.Checks.{transitionsIn, nodesIn, NodesFit, Laid}
+use Rattle.cases.specs.File.{Header, headerOf, labelRecords, labelTable, transitionIn, transitionTable, actionTable, actionLimit, nodeLimit}
+use Rattle.cases.specs.Conditions.{badModel, badLabels, badActions, transitionOk, labelOk, actionOk}
+use Rattle.cases.specs.internal.Checks.{labelsIn, transitionsIn, nodesIn, LabelPart, NodesFit, Laid}
 use Rattle.cases.proofs.Checking.{all-map}
 
 -- the tables of a case are those of its parts
@@ -33,6 +33,12 @@ module _ {b : List ℕ} {h : Header} (l : Laid b h) where
   unfolding badModel transitionTable transitionsIn
   transitions-decide g r e = simp (lt-ltb (headerOf b .initial) (headerOf b .states) (rw (l .read) at g), e, l .read)
 
+  -- ---- 15
+
+  pub labels-decide : (k : ℕ) → k ≡ labelRecords h → (r : Bool) → r ≡ every labelOk (labelsIn (drop (h .«labels_at») b) k) → not r ≡ badLabels b
+  unfolding badLabels labelTable labelsIn
+  labels-decide k is r e = simp (e, is, l .read)
+
   -- ---- 7
 
   -- a node's kind or argument is wrong
@@ -49,6 +55,9 @@ module _ {b : List ℕ} {h : Header} (l : Laid b h) where
   whole-decides e r w = simp (rw (l .read) at e, w, l .read)
 
   -- ---- the parts hold their tables
+
+  pub labels-inside : LabelPart (drop (h .«labels_at») b) h
+  labels-inside = record { few = l .counts .few-labels; inside = simp length-drop (omega arith) }
 
   pub transitions-inside : 6 * h .transitions ≤ length (drop (h .«transitions_at») b)
   transitions-inside = simp length-drop (omega arith)

@@ -9,7 +9,7 @@ use Rattle.sets.specs.Lists.{every}
 use Rattle.sets.specs.Refusals.{numbersOf, firstOf, NoneHolds, FirstHolds}
 use Rattle.sets.proofs.Refusals.{none-of-first, one-of-first, answered-member, answered-first, answered-none}
 use Rattle.cases.specs.declared.Cause.{Cause}
-use Rattle.cases.specs.declared.Cause.the-variants.{Small, Version, Count, Offset, Length, Model, Actions, Formula, Variable, Depth}
+use Rattle.cases.specs.declared.Cause.the-variants.{Small, Version, Count, Offset, Length, Model, Labels, Actions, Formula, Variable, Depth}
 use Rattle.cases.specs.declared.Opened.{Opened}
 use Rattle.cases.specs.declared.Opened.the-variants.{Accepted, Refused}
 use Rattle.cases.specs.File.{Header, headerOf, formulaTable}
@@ -25,6 +25,7 @@ some-number Count e = omega arith
 some-number Offset e = omega arith
 some-number Length e = omega arith
 some-number Model e = omega arith
+some-number Labels e = omega arith
 some-number Actions e = omega arith
 some-number Formula e = omega arith
 some-number Variable e = omega arith

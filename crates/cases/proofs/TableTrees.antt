@@ -52,12 +52,12 @@ each-action-kind P p0 p1 p2 p3 p4 p5 p6 (suc (suc (suc (suc (suc (suc zero))))))
 each-action-kind P p0 p1 p2 p3 p4 p5 p6 (suc (suc (suc (suc (suc (suc (suc k))))))) h = absurd (omega arith)
 
 -- action nodes are placed by their operators
-unfoldable pub placing-actions : Placing placeAction actionArities 6
-placing-actions = record {
-  operator = λ i x. actionOperator (x .arg) (x .kind);
-  places = λ i x. each-action-kind (λ k. placeAction i (record { kind = k; arg = x .arg }) ≡ replace (actionOperator (x .arg) k))
+unfoldable pub placing-actions : (alike : ℕ → List Bool) → Placing (placeAction alike) actionArities 6
+placing-actions alike = record {
+  operator = λ i x. actionOperator alike (x .arg) (x .kind);
+  places = λ i x. each-action-kind (λ k. placeAction alike i (record { kind = k; arg = x .arg }) ≡ replace (actionOperator alike (x .arg) k))
       refl refl refl refl refl refl refl (x .kind);
-  takes = λ i x. each-action-kind (λ k. operands (actionOperator (x .arg) k) ≡ getD actionArities k 0)
+  takes = λ i x. each-action-kind (λ k. operands (actionOperator alike (x .arg) k) ≡ getD actionArities k 0)
       refl refl refl refl refl refl refl (x .kind);
 }
 
@@ -72,11 +72,12 @@ placing-formulas action = record {
 }
 
 -- The action formula at its node i, by the node's kind k.
-pub action-at : (t : List Node) → ActionTable t → (i k : ℕ) → i < length t → nodeAt t i .kind ≡ k
-    → actionAt t i ≡ made (actionOperator (nodeAt t i .arg) k) (actionAt t (i + 1)) (actionAt t (endOf (map (arityIn actionArities) t) (i + 1)))
+pub action-at : (alike : ℕ → List Bool) (t : List Node) → ActionTable t → (i k : ℕ) → i < length t → nodeAt t i .kind ≡ k
+    → actionAt alike t i
+    ≡ made (actionOperator alike (nodeAt t i .arg) k) (actionAt alike t (i + 1)) (actionAt alike t (endOf (map (arityIn actionArities) t) (i + 1)))
 unfolding actionAt placing-actions
-action-at t table i k h e =
-    rw (← e) (node-tree Action.False placeAction actionArities 6 placing-actions t (table .kinds) 0 (table .whole) i h)
+action-at alike t table i k h e =
+    rw (← e) (node-tree Action.False (placeAction alike) actionArities 6 (placing-actions alike) t (table .kinds) 0 (table .whole) i h)
 
 -- The formula at its node i, by the node's kind k.
 pub formula-at : (action : ℕ → Action) (t : List Node) → FormulaTable t → (i k : ℕ) → i < length t → nodeAt t i .kind ≡ k

@@ -1,13 +1,16 @@
 -- A case: a model and a formula; and the distinct transitions.
+use mathlib.Core.Path.{_≡_}
 use mathlib.Core.Bool.{Bool, cond, _&&_}
 use mathlib.Core.List.{List, [], _∷_, _++_, map}
 use Prim.Native.Nat.{ℕ, _+_}
 use lib.Dec.{eqb}
 use lib.ListN.{length, getD, take}
-use Rattle.sets.specs.Lists.{numbersFrom}
+use Rattle.sets.specs.Lists.{numbersFrom, keep}
+use Rattle.cases.specs.Action.{Action}
 use Rattle.cases.specs.Formula.{Formula}
 use Rattle.cases.specs.Prefix.{actionAt, formulaAt}
-use Rattle.cases.specs.File.{Transition, headerOf, transitionTable, actionTable, formulaTable}
+use Rattle.cases.specs.File.{Transition, headerOf, labelTable, transitionTable, actionTable, formulaTable}
+use Rattle.cases.specs.Labels.{alikeLabels}
 
 pub record Case : Type 0 where
   pub states : ℕ
@@ -16,6 +19,10 @@ pub record Case : Type 0 where
   pub transitions : List Transition
   pub formula : Formula
 
+-- the action formula at action node j; by the version a label node accepts the labels that are alike to its own
+abbrev pub caseAction : List ℕ → ℕ → Action
+caseAction b = actionAt (alikeLabels (headerOf b) (labelTable b)) (actionTable b)
+
 -- the case of any bytes: the formula is the one at the formula table's first node
 unfoldable pub caseOf : List ℕ → Case
 caseOf b = record {
@@ -23,8 +30,17 @@ caseOf b = record {
   labels = headerOf b .labels;
   initial = headerOf b .initial;
   transitions = transitionTable b;
-  formula = formulaAt (actionAt (actionTable b)) (formulaTable b) 0;
+  formula = formulaAt (caseAction b) (formulaTable b) 0;
 }
+
+-- Two files have the same counts and the same tables, but for their versions and label records.
+pub record SameTables (b b′ : List ℕ) : Type 0 where
+  pub states : headerOf b .states ≡ headerOf b′ .states
+  pub labels : headerOf b .labels ≡ headerOf b′ .labels
+  pub initial : headerOf b .initial ≡ headerOf b′ .initial
+  pub transitions : transitionTable b ≡ transitionTable b′
+  pub actions : actionTable b ≡ actionTable b′
+  pub formula : formulaTable b ≡ formulaTable b′
 
 -- whether two records are equal
 unfoldable pub sameTransition : Transition → Transition → Bool
@@ -41,11 +57,6 @@ transitionAt ts i = getD ts i (record { source = 0; label = 0; target = 0 })
 -- How many equal records stand before record i. The first of its kind is the one with 0.
 unfoldable pub copiesBefore : List Transition → ℕ → ℕ
 copiesBefore ts i = copies (transitionAt ts i) (take i ts)
-
--- those elements of a list for which p holds
-unfoldable pub keep : {A : Type 0} → (A → Bool) → List A → List A
-keep p [] = []
-keep p (x ∷ xs) = cond (p x) (x ∷ keep p xs) (keep p xs)
 
 -- Equal records are one transition; distinct ones stand in order of first appearance.
 unfoldable pub distinct : List Transition → List Transition

@@ -5,21 +5,26 @@ use mathlib.Core.List.{List, [], _∷_, _++_, map}
 use Prim.Native.Nat.{ℕ, _+_}
 use lib.Dec.{eqb, ltb, leb}
 use lib.ListN.{length, getD}
-use Rattle.sets.specs.Lists.{numbersFrom, every}
+use Rattle.sets.specs.Lists.{numbersFrom, every, forSome}
 use Rattle.sets.specs.Words.{stateLimit}
 use Rattle.solver.specs.File.{blockLimit}
 use Rattle.sets.specs.Refusals.{between, Conditions, firstOf}
 use Rattle.cases.specs.Prefix.{Node, arityIn, actionArities, formulaArities, wholeFormulas, exactly, endOf}
-use Rattle.cases.specs.File.{Header, headerSize, headerOf, version, labelLimit, transitionLimit, actionLimit, nodeLimit}
-use Rattle.cases.specs.File.{transitionsStart, actionsStart, formulaStart, fileEnd, Transition, transitionTable, actionTable, formulaTable}
+use Rattle.cases.specs.File.{Header, headerSize, headerOf, version, labelLimit, nameLimit, transitionLimit, actionLimit, nodeLimit}
+use Rattle.cases.specs.File.{labelsStart, transitionsStart, actionsStart, formulaStart, fileEnd, Label, Transition, labelTable, transitionTable, actionTable, formulaTable}
+use Rattle.cases.specs.Labels.{numbersOf}
 
--- 1: fewer bytes than a header has
+-- 1: fewer bytes than a header of its version has
 unfoldable pub tooSmall : List ℕ → Bool
-tooSmall b = ltb (length b) headerSize
+tooSmall b = ltb (length b) (headerSize (version b))
 
--- 2: the version is not 1
-unfoldable pub otherVersion : List ℕ → Bool
-otherVersion b = not (eqb (version b) 1)
+-- 2: the version is none of those that are taken
+unfoldable pub otherVersion : List ℕ → List ℕ → Bool
+otherVersion taken b = not (forSome (eqb (version b)) taken)
+
+-- the versions that a call which takes a case takes
+abbrev pub versions : List ℕ
+versions = 1 ∷ 2 ∷ []
 
 -- 3: a count outside its range
 unfoldable pub badCount : Header → Bool
@@ -34,7 +39,7 @@ badCount h = not (every (λ test. test)
 -- 4: an offset differs
 unfoldable pub badOffset : Header → Bool
 badOffset h =
-    not (eqb (h .«transitions_at») transitionsStart && eqb (h .«actions_at») (actionsStart h) && eqb (h .«formula_at») (formulaStart h))
+    not (eqb (h .«labels_at») (labelsStart h) && eqb (h .«transitions_at») (transitionsStart h) && eqb (h .«actions_at») (actionsStart h) && eqb (h .«formula_at») (formulaStart h))
 
 -- 5: the length differs
 unfoldable pub badLength : List ℕ → Bool
@@ -46,6 +51,17 @@ transitionOk n l t = ltb (t .source) n && ltb (t .label) l && ltb (t .target) n
 
 unfoldable pub badModel : List ℕ → Bool
 badModel b = not (ltb (headerOf b .initial) (headerOf b .states) && every (transitionOk (headerOf b .states) (headerOf b .labels)) (transitionTable b))
+
+-- 15: a label record with a name above the limit, or with a name behind a 0
+unfoldable pub padded : List ℕ → Bool
+padded [] = true
+padded (k ∷ ks) = cond (eqb k 0) (every (λ x. eqb x 0) ks) (padded ks)
+
+abbrev pub labelOk : Label → Bool
+labelOk r = every (λ k. leb k nameLimit) (numbersOf r) && padded (numbersOf r)
+
+unfoldable pub badLabels : List ℕ → Bool
+badLabels b = not (every labelOk (labelTable b))
 
 -- 7: an action node's kind or argument, or no whole formulas. The argument of a label (2) is a label, of any other kind 0.
 abbrev pub actionOk : ℕ → Node → Bool
@@ -88,13 +104,14 @@ blockTotal table = cond (isBinder (nodeAt table 0)) 0 1 + binderCount table
 unfoldable pub tooDeep : List Node → Bool
 tooDeep table = ltb blockLimit (blockTotal table)
 
--- Conditions 1 to 5 are of the layout, 6 and 7 of the model and the action table, 8 to 10 of a formula table by the number of action nodes.
+-- Conditions 1 to 5 are of the layout, 6, 15 and 7 of the model, the label records and the action table, 8 to 10 of a formula table by the number of
+-- action nodes.
 unfoldable pub layoutConditions : List ℕ → Conditions
 layoutConditions b =
-    (1, tooSmall b) ∷ (2, otherVersion b) ∷ (3, badCount (headerOf b)) ∷ (4, badOffset (headerOf b)) ∷ (5, badLength b) ∷ []
+    (1, tooSmall b) ∷ (2, otherVersion versions b) ∷ (3, badCount (headerOf b)) ∷ (4, badOffset (headerOf b)) ∷ (5, badLength b) ∷ []
 
 unfoldable pub modelConditions : List ℕ → Conditions
-modelConditions b = (6, badModel b) ∷ (7, badActions b) ∷ []
+modelConditions b = (6, badModel b) ∷ (15, badLabels b) ∷ (7, badActions b) ∷ []
 
 unfoldable pub formulaConditions : ℕ → List Node → Conditions
 formulaConditions a table = (8, badFormula a table) ∷ (9, badVariable table) ∷ (10, tooDeep table) ∷ []

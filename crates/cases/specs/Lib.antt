@@ -3,6 +3,7 @@ pub mod Action
 pub mod Formula
 pub mod Prefix
 pub mod File
+pub mod Labels
 pub mod Case
 pub mod Conditions
 pub mod Tally

@@ -23,9 +23,9 @@ intersection n x y = setOf n (λ s. has x s && has y s)
 abbrev pub union : ℕ → States → States → States
 union n x y = setOf n (λ s. has x s || has y s)
 
--- a transition from s with an accepted label; a label node accepts its own label only
+-- a transition from s with an accepted label
 abbrev pub from : ℕ → Action → Transition → Bool
-from s α t = eqb (t .source) s && accepts eqb α (t .label)
+from s α t = eqb (t .source) s && accepts α (t .label)
 
 module _ (n : ℕ) (ts : List Transition) where
   -- every transition from s with an accepted label ends in v

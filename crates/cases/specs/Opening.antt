@@ -2,7 +2,7 @@
 use mathlib.Core.Path.{_≡_}
 use Prim.Native.Nat.{ℕ}
 use Rattle.cases.specs.declared.Cause.{Cause}
-use Rattle.cases.specs.declared.Cause.the-variants.{Small, Version, Count, Offset, Length, Model, Actions, Formula, Variable, Depth}
+use Rattle.cases.specs.declared.Cause.the-variants.{Small, Version, Count, Offset, Length, Model, Labels, Actions, Formula, Variable, Depth}
 use Rattle.cases.specs.declared.Opened.{Opened}
 use Rattle.cases.specs.declared.Opened.the-variants.{Accepted, Refused}
 use Rattle.cases.specs.File.{Header}
@@ -15,6 +15,7 @@ caseNumber Count = 3
 caseNumber Offset = 4
 caseNumber Length = 5
 caseNumber Model = 6
+caseNumber Labels = 15
 caseNumber Actions = 7
 caseNumber Formula = 8
 caseNumber Variable = 9

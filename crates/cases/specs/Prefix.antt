@@ -72,11 +72,11 @@ module _ {A : Type 0} where
   trees place i [] = some []
   trees place i (x ∷ xs) = onto (trees place (suc i) xs) (place i x)
 
--- an action node by its kind
-abbrev pub placeAction : ℕ → Node → List Action → Option (List Action)
-placeAction i x =
+-- an action node by its kind, where `alikeTo j` is the set of the labels that are alike to label j
+abbrev pub placeAction : (ℕ → List Bool) → ℕ → Node → List Action → Option (List Action)
+placeAction alikeTo i x =
     getD
-    (leaf Action.False ∷ leaf Action.True ∷ leaf (Action.Label (x .arg)) ∷ unaryOp Action.Not ∷ binaryOp Action.And ∷ binaryOp Action.Or ∷ binaryOp Action.Implies ∷ [])
+    (leaf Action.False ∷ leaf Action.True ∷ leaf (Action.Label (alikeTo (x .arg))) ∷ unaryOp Action.Not ∷ binaryOp Action.And ∷ binaryOp Action.Or ∷ binaryOp Action.Implies ∷ [])
     (x .kind) (λ st. none)
 
 -- a formula node by its kind, where `action j` is the action formula at action node j
@@ -89,8 +89,8 @@ placeFormula action i x =
     (x .kind) (λ st. none)
 
 -- the action formula at action node j, and the formula at node i
-unfoldable pub actionAt : List Node → ℕ → Action
-actionAt table j = topOr Action.False (trees placeAction j (drop j table))
+unfoldable pub actionAt : (ℕ → List Bool) → List Node → ℕ → Action
+actionAt alikeTo table j = topOr Action.False (trees (placeAction alikeTo) j (drop j table))
 
 unfoldable pub formulaAt : (ℕ → Action) → List Node → ℕ → Formula
 formulaAt action table i = topOr Formula.False (trees (placeFormula action) i (drop i table))

@@ -1,2 +1,3 @@
 -- Worked values, computed by the checker.
 pub mod Cases
+pub mod Together

@@ -9,19 +9,23 @@ use crate::file::actions_start;
 use crate::file::file_end;
 use crate::file::formula_start;
 use crate::file::header;
+use crate::file::header_size;
 use crate::file::node_at;
 use crate::file::transition_at;
+use crate::file::transitions_start;
 use crate::file::version;
+use crate::labels::bad_labels;
 ghost use mathlib.Core.Path.{_≡_};
 ghost use mathlib.Core.Bool.{cond, not};
 ghost use mathlib.Core.List.{map};
 ghost use Prim.Native.Nat.{_-_, _*_, _≤_, _<_};
+ghost use lib.Dec.{eqb};
 ghost use lib.ListN.{length, getD, drop};
-ghost use Rattle.sets.specs.Lists.{numbersFrom, every};
+ghost use Rattle.sets.specs.Lists.{numbersFrom, every, forSome};
 ghost use Rattle.sets.specs.Refusals.{between, firstOf};
 ghost use Rattle.cases.specs.Prefix.{arityIn, actionArities, formulaArities, wholeFormulas, exactly, endOf};
 ghost use Rattle.cases.specs.File.{headerOf, actionLimit, nodeLimit};
-ghost use Rattle.cases.specs.Conditions.{badCount, badOffset, badLength, badModel, badActions, badFormula, badVariable, tooDeep, transitionOk, actionOk, nodeOk, boundOk, isBinder, binderCount};
+ghost use Rattle.cases.specs.Conditions.{versions, badCount, badOffset, badLength, badModel, badActions, badFormula, badVariable, tooDeep, transitionOk, actionOk, nodeOk, boundOk, isBinder, binderCount};
 ghost use Rattle.cases.specs.Conditions.{layoutConditions, modelConditions, formulaConditions, caseRefusal};
 ghost use Rattle.cases.specs.Opening.{caseNumber, Opens};
 ghost use Rattle.cases.specs.internal.Checks.{transitionsIn, nodesIn, fits, CountsFit, Laid, NodesFit};
@@ -60,7 +64,10 @@ fn bad_offset(h: Header) -> bool
     requires { ⌜ CountsFit h ⌝ }
     ensures { λ r. ⌜ r ≡ badOffset h ⌝ }
 {
-    if h.transitions_at != HEADER {
+    if h.labels_at != header_size(h.version) {
+        return true;
+    }
+    if h.transitions_at != transitions_start(h) {
         return true;
     }
     if h.actions_at != actions_start(h) {
@@ -77,6 +84,13 @@ fn bad_length(case: &[u8], h: Header) -> bool
     case.len() != file_end(h)
 }
 
+// Whether a version is one of those that are taken.
+fn is_taken(version: usize) -> bool
+    ensures { λ r. ⌜ r ≡ forSome (eqb version) versions ⌝ }
+{
+    version == 1 || version == 2
+}
+
 // The layout: the header, or the first of conditions 1 to 5 that holds.
 fn check_layout(case: &[u8]) -> Opened
     ensures { λ r. ⌜ Opens (firstOf (layoutConditions (now (case .entry)))) (headerOf (now (case .entry))) r ⌝ }
@@ -84,10 +98,14 @@ fn check_layout(case: &[u8]) -> Opened
     if case.len() < HEADER {
         return Opened::Refused(Cause::Small);
     }
-    if version(case) != 1 {
+    let v = version(case);
+    if case.len() < header_size(v) {
+        return Opened::Refused(Cause::Small);
+    }
+    if !is_taken(v) {
         return Opened::Refused(Cause::Version);
     }
-    let h = header(case);
+    let h = header(case, v);
     if bad_count(h) {
         return Opened::Refused(Cause::Count);
     }
@@ -250,13 +268,16 @@ fn bad_actions(case: &[u8], h: Header) -> bool
     !actions_whole(&case[actions..], h.actions)
 }
 
-// The model and the action table: the header, or the first of conditions 6 and 7 that holds.
+// The model, the label records and the action table: the header, or the first of conditions 6, 15 and 7 that holds.
 fn check_model(case: &[u8], h: Header) -> Opened
     requires { ⌜ Laid (now case) h ⌝ }
     ensures { λ r. ⌜ Opens (firstOf (modelConditions (now (case .entry)))) h r ⌝ }
 {
     if bad_model(case, h) {
         return Opened::Refused(Cause::Model);
+    }
+    if bad_labels(case, h) {
+        return Opened::Refused(Cause::Labels);
     }
     if bad_actions(case, h) {
         return Opened::Refused(Cause::Actions);
@@ -467,6 +488,7 @@ pub fn number_of(cause: Cause) -> u8
         Cause::Offset => 4,
         Cause::Length => 5,
         Cause::Model => 6,
+        Cause::Labels => 15,
         Cause::Actions => 7,
         Cause::Formula => 8,
         Cause::Variable => 9,

@@ -1,15 +1,18 @@
 // Reading a case. Each table is read as the part of the file that starts at its offset.
 use crate::Header;
+use crate::Label;
 use crate::Node;
 use crate::Transition;
 ghost use mathlib.Core.Path.{_≡_};
 ghost use Prim.Native.Nat.{_+_, _*_, _^_, _<_, _≤_};
 ghost use lib.ListN.{length};
-ghost use Rattle.cases.specs.File.{u16, headerSize, version, headerOf, actionsStart, formulaStart, fileEnd, transitionIn, nodeIn};
-ghost use Rattle.cases.specs.internal.Checks.{CountsFit};
+ghost use Rattle.cases.specs.File.{u16, version as File·version, hasLabelTable, headerSize, headerOf, labelRecords, transitionsStart, actionsStart, formulaStart, fileEnd, labelIn, transitionIn, nodeIn, labelLimit, transitionLimit, actionLimit};
+ghost use Rattle.cases.specs.internal.Checks.{commonHeader, longestHeader, CountsFit};
 
-// How many bytes the header has.
+// How many bytes the header has that all versions have, and how many the longest one has.
 pub const HEADER: usize = 20;
+
+pub const LONGEST_HEADER: usize = 22;
 
 fn wide(x: u8) -> usize
     ensures { λ r. ⌜ (r ≡ x) × (r < 256) ⌝ }
@@ -27,42 +30,90 @@ pub fn number_at(part: &[u8], at: usize) -> usize
 
 // The version.
 pub fn version(case: &[u8]) -> usize
-    requires { ⌜ headerSize ≤ length (now case) ⌝ }
-    ensures { λ r. ⌜ r ≡ version (now (case .entry)) ⌝ }
+    requires { ⌜ 2 ≤ length (now case) ⌝ }
+    ensures { λ r. ⌜ r ≡ File·version (now (case .entry)) ⌝ }
 {
     number_at(case, 0)
 }
 
-// The other numbers of the header.
-pub fn header(case: &[u8]) -> Header
-    requires { ⌜ headerSize ≤ length (now case) ⌝ }
+// Whether a version has label records. But for condition 2, what depends on the version depends on this.
+pub fn has_label_table(version: usize) -> bool
+    ensures { λ r. ⌜ r ≡ hasLabelTable version ⌝ }
+{
+    version == 2
+}
+
+// How many bytes the header of a version has.
+pub fn header_size(version: usize) -> usize
+    ensures { λ r. ⌜ (r ≡ headerSize version) × (commonHeader ≤ r) × (r ≤ longestHeader) ⌝ }
+{
+    if has_label_table(version) {
+        return LONGEST_HEADER;
+    }
+    HEADER
+}
+
+// The offset of the label records; the header's end in a version that has none.
+fn labels_offset(case: &[u8], version: usize) -> usize
+    requires { ⌜ (version ≡ File·version (now case)) × (headerSize version ≤ length (now case)) ⌝ }
+    ensures { λ r. ⌜ r ≡ headerOf (now (case .entry)) .«labels_at» ⌝ }
+{
+    if has_label_table(version) {
+        return number_at(case, HEADER);
+    }
+    header_size(version)
+}
+
+// The numbers of the header.
+pub fn header(case: &[u8], version: usize) -> Header
+    requires { ⌜ (version ≡ File·version (now case)) × (commonHeader ≤ length (now case)) × (headerSize version ≤ length (now case)) ⌝ }
     ensures { λ r. ⌜ r ≡ headerOf (now (case .entry)) ⌝ }
 {
     Header {
+        version: version,
         states: number_at(case, 2),
         transitions: number_at(case, 4),
         labels: number_at(case, 6),
         initial: number_at(case, 8),
         actions: number_at(case, 10),
         nodes: number_at(case, 12),
+        labels_at: labels_offset(case, version),
         transitions_at: number_at(case, 14),
         actions_at: number_at(case, 16),
         formula_at: number_at(case, 18),
     }
 }
 
-// Where the action nodes have to stand, by the counts.
+// How many label records there are.
+pub fn label_records(h: Header) -> usize
+    ensures { λ r. ⌜ (r ≡ labelRecords h) × (r ≤ h .labels) ⌝ }
+{
+    if has_label_table(h.version) {
+        return h.labels;
+    }
+    0
+}
+
+// Where the transitions have to stand, by the version and the counts.
+pub fn transitions_start(h: Header) -> usize
+    requires { ⌜ CountsFit h ⌝ }
+    ensures { λ r. ⌜ (r ≡ transitionsStart h) × (r ≤ longestHeader + 8 * labelLimit) ⌝ }
+{
+    header_size(h.version) + 8 * label_records(h)
+}
+
+// Where the action nodes have to stand.
 pub fn actions_start(h: Header) -> usize
     requires { ⌜ CountsFit h ⌝ }
-    ensures { λ r. ⌜ r ≡ actionsStart h ⌝ }
+    ensures { λ r. ⌜ (r ≡ actionsStart h) × (r ≤ longestHeader + 8 * labelLimit + 6 * transitionLimit) ⌝ }
 {
-    HEADER + 6 * h.transitions
+    transitions_start(h) + 6 * h.transitions
 }
 
 // Where the formula nodes have to stand.
 pub fn formula_start(h: Header) -> usize
     requires { ⌜ CountsFit h ⌝ }
-    ensures { λ r. ⌜ r ≡ formulaStart h ⌝ }
+    ensures { λ r. ⌜ (r ≡ formulaStart h) × (r ≤ longestHeader + 8 * labelLimit + 6 * transitionLimit + 4 * actionLimit) ⌝ }
 {
     actions_start(h) + 4 * h.actions
 }
@@ -73,6 +124,20 @@ pub fn file_end(h: Header) -> usize
     ensures { λ r. ⌜ r ≡ fileEnd h ⌝ }
 {
     formula_start(h) + 4 * h.nodes
+}
+
+// Record j of the label part.
+pub fn label_at(part: &[u8], j: usize) -> Label
+    requires { ⌜ 8 * j + 8 ≤ length (now part) ⌝ }
+    ensures { λ r. ⌜ r ≡ labelIn (now (part .entry)) j ⌝ }
+{
+    let at = 8 * j;
+    Label {
+        first: number_at(part, at),
+        second: number_at(part, at + 2),
+        third: number_at(part, at + 4),
+        fourth: number_at(part, at + 6),
+    }
 }
 
 // Transition i of the transition part.

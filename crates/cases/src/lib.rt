@@ -2,9 +2,10 @@
 mod actions;
 mod conditions;
 mod file;
+mod labels;
 mod transitions;
 
-pub use actions::accepted_labels;
+pub use actions::action_masks;
 pub use conditions::binders;
 pub use conditions::is_binder;
 pub use conditions::number_of;
@@ -17,26 +18,43 @@ pub use transitions::first_appearances;
 
 pub const LABELS: usize = 64;
 
+// The largest name of an event in a label.
+pub const NAMES: usize = 255;
+
 pub const TRANSITIONS: usize = 2048;
 
 pub const ACTIONS: usize = 128;
 
 pub const NODES: usize = 64;
 
-// The length of the largest case.
-pub const LARGEST: usize = file::HEADER + 6 * TRANSITIONS + 4 * ACTIONS + 4 * NODES;
+// The length of the largest case: one with label records.
+pub const LARGEST: usize = file::LONGEST_HEADER
+    + 8 * LABELS
+    + 6 * TRANSITIONS
+    + 4 * ACTIONS
+    + 4 * NODES;
 
-// The counts of a case, its initial state, and the offsets of its tables.
+// The version of a case, its counts, its initial state, and the offsets of its tables.
 pub struct Header {
+    pub version: usize,
     pub states: usize,
     pub transitions: usize,
     pub labels: usize,
     pub initial: usize,
     pub actions: usize,
     pub nodes: usize,
+    pub labels_at: usize,
     pub transitions_at: usize,
     pub actions_at: usize,
     pub formula_at: usize,
+}
+
+// A label: four names, or fewer and a 0 in place of each that is missing.
+pub struct Label {
+    pub first: usize,
+    pub second: usize,
+    pub third: usize,
+    pub fourth: usize,
 }
 
 // A transition: source, label, target.
@@ -66,6 +84,7 @@ pub enum Cause {
     Offset,
     Length,
     Model,
+    Labels,
     Actions,
     Formula,
     Variable,

@@ -25,7 +25,8 @@ use Rattle.cases.specs.Conditions.{nodeAt, isBinder, binderCount}
 use Rattle.cases.specs.internal.Checks.{transitionsIn, nodesIn}
 use Rattle.cases.proofs.Spans.{end-one}
 use Rattle.routes.specs.Direct.{Direct}
-use Rattle.routes.specs.internal.Evaluating.{returned, Masks, Shown, Asks, KindAt, Evaluated}
+use Rattle.cases.specs.internal.Masks.{ActionMasks}
+use Rattle.routes.specs.internal.Evaluating.{returned, Shown, Asks, KindAt, Evaluated}
 use Rattle.routes.specs.declared.Value.{Value}
 use Rattle.routes.proofs.DirectLaws.{direct-sized}
 use Rattle.routes.proofs.NodeLaws.{Binder, apart, by-kind, inside, in-arities, operand, block-of, arity, ruled-by}
@@ -67,20 +68,20 @@ abbrev pub Holding : ℕ → List ℕ → States → Type 0
 Holding n held v = (length v ≡ n) × (held ≡ words wordCount v)
 
 -- At the loop's head, with the words `held` after `before` rounds: what is left of the binder's run. The inner rows are the rows but for its own.
-pub record Going (h : Header) (records formula labels : List ℕ) (rows : List (List ℕ)) (at kind used limit block : ℕ)
+pub record Going (h : Header) (records formula masks : List ℕ) (rows : List (List ℕ)) (at kind used limit block : ℕ)
     (held : List ℕ) (before : ℕ) (inner : List (List ℕ)) : Type 0 where
   pub others : (row : List ℕ) → set inner block row ≡ set rows block row
   pub low : used ≤ before
   pub high : before ≤ limit
   pub left : (action : ℕ → Action) (ρ : Valuation) (v : States) (r : ℕ)
-      → Masks action (nodesIn formula (h .nodes)) labels → Shown (h .states) (nodesIn formula (h .nodes)) rows ρ
+      → ActionMasks action (h .actions) masks → Shown (h .states) (nodesIn formula (h .nodes)) rows ρ
       → Loop (body h records formula at action ρ) (start (h .states) (eqb kind 8)) v r
       → Left (body h records formula at action ρ) (Holding (h .states) held) v before (used + r)
 
 -- it begins
-pub begins : {h : Header} {records formula labels : List ℕ} {rows : List (List ℕ)} {at kind used limit block : ℕ} → used ≤ limit
+pub begins : {h : Header} {records formula masks : List ℕ} {rows : List (List ℕ)} {at kind used limit block : ℕ} → used ≤ limit
     → {held : List ℕ} → held ≡ words wordCount (start (h .states) (eqb kind 8))
-    → Going h records formula labels rows at kind used limit block held used rows
+    → Going h records formula masks rows at kind used limit block held used rows
 begins {h} {kind = kind} l e = record {
   others = λ row. refl;
   low = omega arith;
@@ -89,7 +90,7 @@ begins {h} {kind = kind} l e = record {
       record { now = start (h .states) (eqb kind 8); known = (length-replicate (h .states) (eqb kind 8), e); rest = r; run = run; sum = refl };
 }
 
-module _ {h : Header} {records formula labels blocks : List ℕ} {at used limit : ℕ} (q : Asks h records formula labels blocks at used limit)
+module _ {h : Header} {records formula masks blocks : List ℕ} {at used limit : ℕ} (q : Asks h records formula masks blocks at used limit)
     {kind : ℕ} (k : KindAt formula (h .nodes) at kind 7 8) where
   abbrev n : ℕ
   n = h .states
@@ -115,7 +116,7 @@ module _ {h : Header} {records formula labels blocks : List ℕ} {at used limit 
   }
 
   -- its body is evaluated next
-  pub binder-body : {before : ℕ} → before ≤ limit → Asks h records formula labels blocks (at + 1) before limit
+  pub binder-body : {before : ℕ} → before ≤ limit → Asks h records formula masks blocks (at + 1) before limit
   binder-body l = operand q (omega (arith, one-operand)) l
 
   -- its set is that where the loop over its body stops
@@ -126,8 +127,8 @@ module _ {h : Header} {records formula labels blocks : List ℕ} {at used limit 
       ruled-by q k action ρ v r (λ m. Loop (body h records formula at action ρ) (start n (eqb m 8)) v r) refl (λ d. d) (λ d. d)
 
   module _ {block : ℕ} (b : block ≡ getD blocks at 0) {rows : List (List ℕ)} {held : List ℕ} {before : ℕ} {inner : List (List ℕ)}
-      (g : Going h records formula labels rows at kind used limit block held before inner) {one : Value}
-      (turned : Evaluated h records formula labels (set inner block held) (at + 1) before limit one) where
+      (g : Going h records formula masks rows at kind used limit block held before inner) {one : Value}
+      (turned : Evaluated h records formula masks (set inner block held) (at + 1) before limit one) where
     -- the rows of the turn show the set held
     shows : (action : ℕ → Action) (ρ : Valuation) {u : States} {total : ℕ} → Shown n t rows ρ
         → (l : Left (body h records formula at action ρ) (Holding n held) u before total) → Shown n t (set inner block held) (update ρ at (l .now))
@@ -135,7 +136,7 @@ module _ {h : Header} {records formula labels blocks : List ℕ} {at used limit 
         rw (g .others held) (shown-update s at own-binder (block-of q own-binder b) (l .now) (l .known .0) (l .known .1))
 
     -- the rounds are spent in the body,
-    pub body-spent : one .spent ≡ true → Evaluated h records formula labels rows at used limit one
+    pub body-spent : one .spent ≡ true → Evaluated h records formula masks rows at used limit one
     body-spent e = all-spent e (λ action ρ v r d.
         let l = g .left action ρ v r (d .0) (d .1) (binder-rule action ρ v r (d .2)) in
         let x = turn (l .run) in
@@ -144,14 +145,14 @@ module _ {h : Header} {records formula labels blocks : List ℕ} {at used limit 
     module _ (e : one .spent ≡ false) where
       -- or none is left for this one,
       pub round-spent : limit ≤ one .rounds → {next : ℕ}
-          → Evaluated h records formula labels rows at used limit (returned (one .set) next (one .rounds) true)
+          → Evaluated h records formula masks rows at used limit (returned (one .set) next (one .rounds) true)
       round-spent m = all-spent refl (λ action ρ v r d.
           let l = g .left action ρ v r (d .0) (d .1) (binder-rule action ρ v r (d .2)) in
           let x = turn (l .run) in
           omega (arith, turned .right e action (update ρ at (l .now)) (x .next) (x .took) (d .0, shows action ρ (d .1) l, x .step .1) .0, x .less, l .sum))
 
       -- or the body's set is there.
-      found : (action : ℕ → Action) (ρ : Valuation) {u : States} {total : ℕ} → Masks action t labels → Shown n t rows ρ
+      found : (action : ℕ → Action) (ρ : Valuation) {u : States} {total : ℕ} → ActionMasks action (h .actions) masks → Shown n t rows ρ
           → (l : Left (body h records formula at action ρ) (Holding n held) u before total) (a w : States) (r : ℕ) → body h records formula at action ρ (l .now) a w r
           → (length w ≡ n) × (one .set ≡ words wordCount w) × (r ≡ one .rounds - before)
       found action ρ m s l a w r d =
@@ -164,7 +165,7 @@ module _ {h : Header} {records formula labels blocks : List ℕ} {at used limit 
 
       -- It is the set held: the loop stops.
       pub stopped : one .rounds < limit → one .set ≡ held
-          → Evaluated h records formula labels rows at used limit (returned (one .set) (one .next) (one .rounds + 1) false)
+          → Evaluated h records formula masks rows at used limit (returned (one .set) (one .next) (one .rounds + 1) false)
       stopped m is = record {
         over = λ o. absurd (false-true o);
         low = λ o. omega (arith, g .low, turned .low e);
@@ -181,7 +182,7 @@ module _ {h : Header} {records formula labels blocks : List ℕ} {at used limit 
 
       -- It is another: the loop goes on from there.
       pub replaced : one .rounds < limit → ¬ (one .set ≡ held)
-          → Going h records formula labels rows at kind used limit block (one .set) (one .rounds + 1) (set inner block held)
+          → Going h records formula masks rows at kind used limit block (one .set) (one .rounds + 1) (set inner block held)
       replaced m other = record {
         others = λ row. set-set inner block held row ∙ g .others row;
         low = omega (arith, g .low, turned .low e);

@@ -6,9 +6,8 @@ use Rattle.solver.specs.File.{sizesOf}
 use Rattle.cases.specs.Action.{Action}
 use Rattle.cases.specs.internal.Scope.{binders}
 use Rattle.cases.specs.declared.Node.{Node}
-use Rattle.cases.specs.Prefix.{actionAt}
-use Rattle.cases.specs.File.{actionTable, formulaTable}
-use Rattle.cases.specs.Case.{caseOf}
+use Rattle.cases.specs.File.{formulaTable}
+use Rattle.cases.specs.Case.{caseAction, caseOf}
 use Rattle.cases.specs.Conditions as conditions
 use Rattle.cases.specs.Conditions.{Accepted}
 use Rattle.cases.specs.internal.Tables.{FormulaTable}
@@ -24,6 +23,6 @@ pub blocks-formula : (b : List ℕ) → Accepted b → binders (caseOf b .formul
 unfolding caseOf conditions.blockTotal
 blocks-formula b ok =
     let t : List Node = formulaTable b in
-    let action : ℕ → Action = actionAt (actionTable b) in
+    let action : ℕ → Action = caseAction b in
     let table : FormulaTable t = formula-table _ t (passed b ok .formula) in
     omega (arith, block-count-back (caseOf b) (fit b ok), length-blocks (caseOf b) (fit b ok), blocks-all action t table, binders-all action t table)

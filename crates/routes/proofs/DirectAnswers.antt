@@ -96,15 +96,15 @@ run-sized : (c : Case) → length (runOf direct c .0) ≡ c .states
 unfolding runOf
 run-sized c = worked-sized (c .states) (c .transitions) (c .formula) (allEmpty (c .states)) (λ k. length-replicate (c .states) false)
 
-pub states-few : {h : Header} {records actions formula : List ℕ} → CaseParts h records actions formula → h .states ≤ stateLimit
+pub states-few : {h : Header} {labels records actions formula : List ℕ} → CaseParts h labels records actions formula → h .states ≤ stateLimit
 states-few parts = parts .model .few-states
 
-pub initial-few : {h : Header} {records actions formula : List ℕ} → CaseParts h records actions formula → h .initial < stateLimit
+pub initial-few : {h : Header} {labels records actions formula : List ℕ} → CaseParts h labels records actions formula → h .initial < stateLimit
 initial-few parts = omega (arith, parts .initial, parts .model .few-states)
 
-module _ {h : Header} {records actions formula : List ℕ} (parts : CaseParts h records actions formula) (marks : List ℕ) (limit : ℕ) where
+module _ {h : Header} {labels records actions formula : List ℕ} (parts : CaseParts h labels records actions formula) (marks : List ℕ) (limit : ℕ) where
   abbrev c : Case
-  c = caseIn h records actions formula
+  c = caseIn h labels records actions formula
 
   pub too-short : {o : Outcome} → o ≡ refused 13 → length marks < wordCount → RanBy (conditions c marks limit) direct c marks o marks
   too-short is h = ran-refused is (number-13 c marks limit h) (λ z. omega arith)

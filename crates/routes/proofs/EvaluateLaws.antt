@@ -25,18 +25,19 @@ use Rattle.routes.specs.Direct.{FromTwo, FromOne, Direct}
 use Rattle.routes.specs.internal.Evaluating.{returned, modalIn, Asks, KindAt, Rule, Evaluated}
 use Rattle.routes.specs.declared.Value.{Value}
 use Rattle.routes.proofs.DirectLaws.{direct-sized}
+use Rattle.routes.proofs.TableLaws.{modal-arg}
 use Rattle.routes.proofs.NodeLaws.{by-kind, whole, inside, in-arities, node-read, kind-at, asks, operand, arity, ruled, ruled-by, Binder, binder-of, block-of}
 
 -- the answer where the rounds are spent
-pub all-spent : {h : Header} {records formula labels : List ℕ} {rows : List (List ℕ)} {at used limit : ℕ} {o : Value} → o .spent ≡ true
-    → ((action : ℕ → Action) (ρ : Valuation) (v : States) (r : ℕ) → Rule h records formula labels rows at used limit action ρ v r → limit < used + r)
-    → Evaluated h records formula labels rows at used limit o
+pub all-spent : {h : Header} {records formula masks : List ℕ} {rows : List (List ℕ)} {at used limit : ℕ} {o : Value} → o .spent ≡ true
+    → ((action : ℕ → Action) (ρ : Valuation) (v : States) (r : ℕ) → Rule h records formula masks rows at used limit action ρ v r → limit < used + r)
+    → Evaluated h records formula masks rows at used limit o
 all-spent {o = o} e f = record { over = λ s. f; low = λ s. never s; high = λ s. never s; ends = λ s. never s; right = λ s. never s }
   where
     never : {A : Type 0} → o .spent ≡ false → A
     never s = absurd (false-true (sym s ∙ e))
 
-module _ {h : Header} {records formula labels blocks : List ℕ} {at used limit : ℕ} (q : Asks h records formula labels blocks at used limit) where
+module _ {h : Header} {records formula masks blocks : List ℕ} {at used limit : ℕ} (q : Asks h records formula masks blocks at used limit) where
   abbrev n : ℕ
   n = h .states
 
@@ -52,7 +53,7 @@ module _ {h : Header} {records formula labels blocks : List ℕ} {at used limit 
   module _ {rows : List (List ℕ)} where
     -- false and true
     pub constant-done : {kind : ℕ} → KindAt formula (h .nodes) at kind 0 1 → {set : List ℕ} → set ≡ words wordCount (start n (eqb kind 1))
-        → Evaluated h records formula labels rows at used limit (returned set (at + 1) used false)
+        → Evaluated h records formula masks rows at used limit (returned set (at + 1) used false)
     unfolding Direct
     constant-done k e = record {
       over = λ s. absurd (false-true s);
@@ -66,7 +67,7 @@ module _ {h : Header} {records formula labels blocks : List ℕ} {at used limit 
 
     -- a variable
     pub variable-done : {x : Node} → x ≡ nodeIn formula at → x .kind ≡ 6 → {k : ℕ} → k ≡ getD blocks (x .arg) 0
-        → Evaluated h records formula labels rows at used limit (returned (getD rows k []) (at + 1) used false)
+        → Evaluated h records formula masks rows at used limit (returned (getD rows k []) (at + 1) used false)
     unfolding Direct
     variable-done {x} e is {k} b = record {
       over = λ s. absurd (false-true s);
@@ -105,19 +106,19 @@ module _ {h : Header} {records formula labels blocks : List ℕ} {at used limit 
         refl (λ d. d) (λ d. d)
 
     -- the left operand is evaluated next
-    pub pair-first : Asks h records formula labels blocks (at + 1) used limit
+    pub pair-first : Asks h records formula masks blocks (at + 1) used limit
     pair-first = operand q (omega (arith, two-operands)) (q .within)
 
-    module _ {rows : List (List ℕ)} {one : Value} (first : Evaluated h records formula labels rows (at + 1) used limit one) where
+    module _ {rows : List (List ℕ)} {one : Value} (first : Evaluated h records formula masks rows (at + 1) used limit one) where
       -- the left one spends the rounds
-      pub pair-spent : one .spent ≡ true → Evaluated h records formula labels rows at used limit one
+      pub pair-spent : one .spent ≡ true → Evaluated h records formula masks rows at used limit one
       pair-spent e = all-spent e (λ action ρ v r d.
           let x = pair-rule action ρ v r (d .2) in
           omega (arith, first .over e action ρ (x .left) (x .before) (d .0, d .1, x .first), x .sum))
 
       module _ (e : one .spent ≡ false) where
         -- then the right one
-        pub pair-second : Asks h records formula labels blocks (one .next) (one .rounds) limit
+        pub pair-second : Asks h records formula masks blocks (one .next) (one .rounds) limit
         pair-second = asks q (rw (first .ends e) (second-node 1 ks (whole q) at (in-arities q) two-operands)) (first .high e)
 
         -- it stands after the left one
@@ -129,9 +130,9 @@ module _ {h : Header} {records formula labels blocks : List ℕ} {at used limit 
             → Direct n ts (formulaAt action t (one .next)) ρ v r
         second-rule action ρ v r d = rw (first .ends e) d
 
-        module _ {two : Value} (second : Evaluated h records formula labels rows (one .next) (one .rounds) limit two) where
+        module _ {two : Value} (second : Evaluated h records formula masks rows (one .next) (one .rounds) limit two) where
           -- which spends them
-          pub pair-spent-2 : two .spent ≡ true → Evaluated h records formula labels rows at used limit two
+          pub pair-spent-2 : two .spent ≡ true → Evaluated h records formula masks rows at used limit two
           pair-spent-2 s = all-spent s (λ action ρ v r d.
               let x = pair-rule action ρ v r (d .2) in
               omega (
@@ -145,7 +146,7 @@ module _ {h : Header} {records formula labels blocks : List ℕ} {at used limit 
           pub pair-done : two .spent ≡ false → {set : List ℕ}
               → ((n : ℕ) (v w : States) → length v ≡ n → length w ≡ n → one .set ≡ words wordCount v → two .set ≡ words wordCount w
               → set ≡ words wordCount (map (λ s. cond (eqb kind 3) (has v s || has w s) (has v s && has w s)) (numbersFrom 0 n)))
-              → Evaluated h records formula labels rows at used limit (returned set (two .next) (two .rounds) false)
+              → Evaluated h records formula masks rows at used limit (returned set (two .next) (two .rounds) false)
           pair-done s {set} both = record {
             over = λ o. absurd (false-true o);
             low = λ o. omega (arith, first .low e, second .low s);
@@ -178,32 +179,38 @@ module _ {h : Header} {records formula labels blocks : List ℕ} {at used limit 
         refl (λ d. d) (λ d. d)
 
     -- the operand is evaluated next
-    pub modal-first : Asks h records formula labels blocks (at + 1) used limit
+    pub modal-first : Asks h records formula masks blocks (at + 1) used limit
     modal-first = operand q (omega (arith, one-operand)) (q .within)
 
-    module _ {rows : List (List ℕ)} {one : Value} (first : Evaluated h records formula labels rows (at + 1) used limit one) where
+    -- its argument is an action node
+    pub modal-inside : {x : Node} → x ≡ nodeIn formula at → x .arg < h .actions
+    modal-inside {x} e =
+        let same = ap (λ (w : Node). w .kind) (node-read q e) in
+        modal-arg formula (q .node) e (h .actions) (q .parts .nodes) (omega (arith, same, k .are, k .from)) (omega (arith, same, k .are, k .to))
+
+    module _ {rows : List (List ℕ)} {one : Value} (first : Evaluated h records formula masks rows (at + 1) used limit one) where
       -- it spends the rounds
-      pub modal-spent : one .spent ≡ true → Evaluated h records formula labels rows at used limit one
+      pub modal-spent : one .spent ≡ true → Evaluated h records formula masks rows at used limit one
       modal-spent e = all-spent e (λ action ρ v r d.
           let x = modal-rule action ρ v r (d .2) in
           first .over e action ρ (x .operand) r (d .0, d .1, x .first))
 
       -- or its set is there, and the states are found
-      pub modal-done : one .spent ≡ false → {set : List ℕ}
-          → ((α : Action) (v : States) → getD labels at 0 ≡ maskOf α → length v ≡ n → one .set ≡ words wordCount v
+      pub modal-done : one .spent ≡ false → {y : Node} → y ≡ nodeIn formula at → {set : List ℕ}
+          → ((α : Action) (v : States) → getD masks (y .arg) 0 ≡ maskOf α → length v ≡ n → one .set ≡ words wordCount v
           → set ≡ words wordCount (setOf n (modalIn (eqb kind 5) n ts α v)))
-          → Evaluated h records formula labels rows at used limit (returned set (one .next) (one .rounds) false)
-      modal-done e {set} found = record {
+          → Evaluated h records formula masks rows at used limit (returned set (one .next) (one .rounds) false)
+      modal-done e {y} is {set} found = record {
         over = λ o. absurd (false-true o);
         low = λ o. first .low e;
         high = λ o. first .high e;
         ends = λ o. first .ends e ∙ sym (end-one ks at (in-arities q) one-operand);
         right = λ o action ρ v r d.
             let x = modal-rule action ρ v r (d .2) in
-            let y = first .right e action ρ (x .operand) r (d .0, d .1, x .first) in
-            let mask = d .0 .mask at (inside q) (omega (arith, k .are, k .from), omega (arith, k .are, k .to)) in (
-              y .0,
-              found (action (nodeAt t at .arg)) (x .operand) mask (direct-sized n ts _ ρ (d .1 .sized) (x .operand) r (x .first)) (y .1)
+            let z = first .right e action ρ (x .operand) r (d .0, d .1, x .first) in
+            let mask = ap (λ (w : Node). maskOf (action (w .arg))) (sym (node-read q is)) in (
+              z .0,
+              found (action (nodeAt t at .arg)) (x .operand) (d .0 .mask (y .arg) (modal-inside is) ∙ mask) (direct-sized n ts _ ρ (d .1 .sized) (x .operand) r (x .first)) (z .1)
                   ∙ ap (words wordCount) (sym (x .set)),
             );
       }

@@ -30,10 +30,10 @@ use Rattle.routes.specs.internal.Evaluating.{Records}
 
 -- the transition has an accepted label, and its target is in the set exactly if `inside`
 abbrev pub leadsTo : Action → States → Bool → Transition → Bool
-leadsTo α v inside t = accepts eqb α (t .label) && Bool·beq (has v (t .target)) inside
+leadsTo α v inside t = accepts α (t .label) && Bool·beq (has v (t .target)) inside
 
 -- bit x of the mask, as the code reads it, says whether label x is accepted
-bit-accepts : (labels : ℕ) (α : Action) (x : ℕ) → labels ≡ maskOf α → x < labelLimit → eqb (labels / 2 ^ x % 2) 1 ≡ accepts eqb α x
+bit-accepts : (labels : ℕ) (α : Action) (x : ℕ) → labels ≡ maskOf α → x < labelLimit → eqb (labels / 2 ^ x % 2) 1 ≡ accepts α x
 bit-accepts labels α x e h = sym (mark-low labels x h) ∙ ap (λ (k : ℕ). marked (k ∷ []) x) e ∙ mask-bit α x h
 
 module _ (t : Transition) (labels : ℕ) (inside : Bool) (α : Action) (v : States) (low : t .label < labelLimit) (e : labels ≡ maskOf α) where
@@ -123,7 +123,7 @@ module _ (n : ℕ) (α : Action) (v : States) where
       rw (map-range-more (transitionIn part) i, ← e)
       (ap (λ (f : ℕ → Bool). setOf n f) (fun-ext λ s.
       any-more (leadsFrom α v inside s) ts t
-      ∙ ap (λ b. b || before s) (and-assoc (eqb (t .source) s) (accepts eqb α (t .label)) (Bool·beq (has v (t .target)) inside)))
+      ∙ ap (λ b. b || before s) (and-assoc (eqb (t .source) s) (accepts α (t .label)) (Bool·beq (has v (t .target)) inside)))
       ∙ set-if n before (t .source) h (leadsTo α v inside t))
     where
       ts : List Transition

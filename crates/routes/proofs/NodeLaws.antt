@@ -55,7 +55,7 @@ apart t i j b c e = go (ltb i j) refl (ltb j i) refl
     go false l false g = omega (arith, ltb-false i j l, ltb-false j i g)
 
 -- ---- a node to evaluate
-module _ {h : Header} {records formula labels blocks : List ℕ} {at used limit : ℕ} (q : Asks h records formula labels blocks at used limit) where
+module _ {h : Header} {records formula masks blocks : List ℕ} {at used limit : ℕ} (q : Asks h records formula masks blocks at used limit) where
   abbrev t : List Node
   t = nodesIn formula (h .nodes)
 
@@ -96,11 +96,11 @@ module _ {h : Header} {records formula labels blocks : List ℕ} {at used limit 
   kind-known {x} e = subst (λ (y : Node). y .kind ≤ 8) (node-read e) (formed .kinds at inside)
 
   -- another node of the table is asked for, after so many rounds
-  pub asks : {to after : ℕ} → to < length ks → after ≤ limit → Asks h records formula labels blocks to after limit
+  pub asks : {to after : ℕ} → to < length ks → after ≤ limit → Asks h records formula masks blocks to after limit
   asks {to} l w = record { parts = q .parts; node = rw (length-map t (arityIn formulaArities), length-nodes formula (h .nodes)) at l; within = w }
 
   -- its first operand, if it has one
-  pub operand : {after : ℕ} → 1 ≤ getD ks at 0 → after ≤ limit → Asks h records formula labels blocks (at + 1) after limit
+  pub operand : {after : ℕ} → 1 ≤ getD ks at 0 → after ≤ limit → Asks h records formula masks blocks (at + 1) after limit
   operand l w = asks (first-node 1 ks whole at in-arities l) w
 
   -- a variable is bound by an earlier node

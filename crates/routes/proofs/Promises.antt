@@ -10,6 +10,7 @@ use Prim.Native.Nat.{ℕ, suc, _≤_, _<_}
 use native.Mathlib.Omega.{arith}
 use native.Mathlib.Decide.{ℕ-discrete}
 use borrow.Author.Tests.{ltb-true, lt-ltb}
+use lib.Dec.{T}
 use lib.ListN.{length, take, drop}
 use Rattle.sets.specs.Lists.{every}
 use Rattle.sets.specs.States.{States, Valuation, Sized}
@@ -23,7 +24,10 @@ use Rattle.solver.specs.Solution.{powers, StandardSolution}
 use Rattle.solver.specs.Outcome.{solveRefusal, Scratch}
 use Rattle.solver.proofs.Starts.{own-values}
 use Rattle.translate.proofs.Promises.{well-formed}
-use Rattle.cases.specs.Case.{Case, caseOf}
+use Rattle.cases.specs.File.{version, headerOf, labelTable}
+use Rattle.cases.specs.Labels.{sameNames, labelNames}
+use Rattle.cases.specs.Case.{Case, caseOf, SameTables}
+use Rattle.cases.proofs.AlikeLaws.{different-case, permuted-case}
 use Rattle.cases.specs.declared.Tally.{Tally}
 use Rattle.cases.specs.Tally.{tallied, noTally}
 use Rattle.cases.proofs.Tallies.{tally-accepted, tally-refused, tallied-order}
@@ -31,10 +35,12 @@ use Rattle.cases.proofs.Distinct.{length-distinct, distinct-all}
 use Rattle.cases.specs.Conditions.{layoutConditions, modelConditions, formulaConditions, caseConditions, caseRefusal, Accepted}
 use Rattle.cases.specs.Meaning.{MeansIn}
 use Rattle.cases.proofs.MeaningLaws.{means-sized}
+use Rattle.translate.specs.Bytes.{fileOf}
 use Rattle.translate.specs.Translating.{file, translateRefusal, fileAfter}
 use Rattle.translate.proofs.Translations.{unrefused}
 use Rattle.routes.specs.Route.{Route, equation, Lent, OwnRounds, runOf, exceeds, runConditions, routeConditions, Enough, workAfter, Ran, EquationRan}
 use Rattle.routes.proofs.RouteLaws.{translate-then-solve, case-refused, case-accepted, number-ran, reported, written, refused-with, kept, given, spent-over, spent-accepted, spent-number, gives-number}
+use Rattle.routes.proofs.DirectAnswers.{ran-first}
 use Rattle.routes.proofs.Outcomes.{meaning-of, one-meaning, own-exists, own-one, runs-alike, run-means, run-bound}
 
 -- ---- Demand 3, of an accepted case with enough memory
@@ -115,7 +121,7 @@ module _ {R : Route} {b : List ℕ} {l : Lent} {limit : ℕ} {o : Outcome} {t : 
       (λ g. inl (runOf R (caseOf b) .0, runOf R (caseOf b) .1, reported (ran .by) g))
       (λ d. inr (_, answered-member _ (number-ran (ran .by)) d, refused-with (ran .by) d ∙ ap refused (sym (number-ran (ran .by)))))
 
-  -- The number is that of the first condition that holds, of 1 to 10, then 13, then 14; a report says that none does.
+  -- The number is that of the first condition that holds, of the case's own, then 13, then 14; a report says that none does.
   pub first-condition : (k : ℕ) → ¬ (k ≡ 0) → o .refusal ≡ k ↔ FirstHolds (routeConditions R b l limit) k
   first-condition = answered-first (routeConditions R b l limit) (number-ran (ran .by))
 
@@ -140,7 +146,7 @@ module _ {R : Route} {b : List ℕ} {l : Lent} {limit : ℕ} {o : Outcome} {t : 
 
 -- ---- How many records were copies, of any bytes
 
--- none of 1 to 10 is 0, 13 or 14
+-- no number of a case's own conditions is 0, 13 or 14
 own-numbers : (b : List ℕ) (k : ℕ) → List·Memᴰ k (0 ∷ 13 ∷ 14 ∷ []) → ¬ List·Memᴰ k (numbersOf (caseConditions b))
 unfolding caseConditions layoutConditions modelConditions formulaConditions every
 own-numbers b k (List·Memᴰ·head e) m = absent 0 (caseConditions b) tt (rw e at m)
@@ -153,7 +159,7 @@ unfolding runConditions
 run-numbers R c l limit = by-cases (ℕ-discrete (firstOf (runConditions R c l limit)) 0) List·Memᴰ·head (λ d. List·Memᴰ·tail (member (runConditions R c l limit) d))
 
 module _ {R : Route} {b : List ℕ} {l : Lent} {limit : ℕ} {o : Outcome} {t : Tally} {marks′ : List ℕ} (ran : Ran R b l limit o t marks′) where
-  -- A case is accepted exactly if a route answers none of the numbers 1 to 10 of it.
+  -- A case is accepted exactly if a route answers none of the numbers of its own conditions.
   pub accepted-iff : Accepted b ↔ ¬ List·Memᴰ (o .refusal) (numbersOf (caseConditions b))
   unfolding caseRefusal
   accepted-iff = (
@@ -196,6 +202,32 @@ module _ {R : Route} {b : List ℕ} {l : Lent} {limit : ℕ} {o : Outcome} {t : 
     any-order {b′ = b′} ran′ accepted′ p =
         tally-table ∙ tallied-order (caseOf b .transitions) (caseOf b′ .transitions) p
         ∙ sym (ran′ .tally-is ∙ tally-accepted b′ accepted′)
+
+-- ---- Events that fire together
+
+-- Two accepted cases that are the same case: whatever the route, the lent memory and the limit, answer, tally and marks are the same.
+module _ {R : Route} {b b′ : List ℕ} {l : Lent} {limit : ℕ} {o o′ : Outcome} {t t′ : Tally} {marks′ marks″ : List ℕ} (ran : Ran R b l limit o t marks′)
+    (ran′ : Ran R b′ l limit o′ t′ marks″) (accepted : Accepted b) (accepted′ : Accepted b′) where
+  pub same-runs : caseOf b ≡ caseOf b′ → (o ≡ o′) × (t ≡ t′) × (marks′ ≡ marks″) × (file b ≡ file b′)
+  same-runs e =
+      let one = ran-first (case-accepted R b l limit accepted) (ran .by) in
+      let two = ran-first (case-accepted R b′ l limit accepted′) (ran′ .by) in (
+        one .answers ∙ rw e (sym (two .answers)),
+        tally-table ran accepted ∙ rw e (sym (tally-table ran′ accepted′)),
+        one .marks-are ∙ rw e (sym (two .marks-are)),
+        ap fileOf e,
+      )
+
+  -- A version 2 case whose label records are all different as multisets answers as the version 1 case with the same tables does,
+  pub different-names : SameTables b b′ → version b ≡ 2 → version b′ ≡ 1
+      → ((j x : ℕ) → j < headerOf b .labels → x < headerOf b .labels → T (sameNames (labelNames (labelTable b) j) (labelNames (labelTable b) x)) → j ≡ x)
+      → (o ≡ o′) × (t ≡ t′) × (marks′ ≡ marks″) × (file b ≡ file b′)
+  different-names s two one d = same-runs (different-case b b′ accepted s two one d)
+
+  -- and the order of the names in a record does not matter.
+  pub permuted-names : SameTables b b′ → version b ≡ version b′ → ((j : ℕ) → Perm (labelNames (labelTable b) j) (labelNames (labelTable b′) j))
+      → (o ≡ o′) × (t ≡ t′) × (marks′ ≡ marks″) × (file b ≡ file b′)
+  permuted-names s v p = same-runs (permuted-case b b′ accepted s v p)
 
 -- The equation route's file and working bytes.
 module _ {b : List ℕ} {l : Lent} {limit : ℕ} {o : Outcome} {t : Tally} {file′ work′ marks′ : List ℕ} (e : EquationRan b l limit o t file′ work′ marks′) where

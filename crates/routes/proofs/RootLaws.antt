@@ -15,25 +15,26 @@ use Rattle.sets.specs.States.{allEmpty}
 use Rattle.cases.specs.Action.{Action}
 use Rattle.cases.specs.declared.Header.{Header}
 use Rattle.cases.specs.declared.Node.{Node}
-use Rattle.cases.specs.Prefix.{actionAt, formulaAt}
-use Rattle.cases.specs.File.{headerOf, transitionTable, actionTable, formulaTable, nodeLimit}
+use Rattle.cases.specs.Prefix.{formulaAt}
+use Rattle.cases.specs.File.{headerOf, labelTable, transitionTable, actionTable, formulaTable, nodeLimit}
 use Rattle.cases.specs.Case.{caseOf}
 use Rattle.cases.specs.declared.Tally.{Tally}
 use Rattle.cases.specs.Tally.{tallyOf}
 use Rattle.cases.specs.Conditions.{binderCount, blockTotal, tooDeep, Accepted}
 use Rattle.sets.specs.Refusals.{Outcome}
-use Rattle.cases.specs.internal.Checks.{transitionsIn, nodesIn}
+use Rattle.cases.specs.internal.Checks.{labelsIn, transitionsIn, nodesIn}
+use Rattle.cases.specs.internal.Masks.{actionIn, ActionMasks}
 use Rattle.cases.proofs.Accepting.{Passed, passed}
 use Rattle.cases.proofs.TableTrees.{formula-table, root}
 use Rattle.cases.proofs.Masks.{whole-actions}
-use Rattle.cases.proofs.ModelRules.{transitions-inside, actions-inside, nodes-inside}
+use Rattle.cases.proofs.ModelRules.{labels-inside, transitions-inside, actions-inside, nodes-inside}
 use Rattle.cases.proofs.Tallies.{model-holds, partAt}
 use Rattle.cases.proofs.FormulaRules.{length-nodes}
 use Rattle.routes.specs.declared.Value.{Value}
 use Rattle.routes.specs.computed.Worked.{worked}
 use Rattle.routes.specs.Route.{direct, runOf, marksOnly, runConditions, RanBy, Ran}
 use Rattle.routes.specs.internal.Answering.{Rooted}
-use Rattle.routes.specs.internal.Evaluating.{Records, FormulaPart, caseIn, CaseParts, Masks, BinderBlocks, Shown, Asks, Rule, Evaluated}
+use Rattle.routes.specs.internal.Evaluating.{Records, FormulaPart, caseIn, CaseParts, BinderBlocks, Shown, Asks, Rule, Evaluated}
 use Rattle.routes.proofs.DirectLaws.{direct-exists}
 use Rattle.routes.proofs.TableLaws.{binders-before}
 use Rattle.routes.proofs.RouteLaws.{case-accepted}
@@ -56,15 +57,15 @@ none-shown n t few = record {
       getD-replicate blockLimit (binderCount (take i t)) (replicate wordCount 0) [] low ∙ words-none wordCount n;
 }
 
-module _ {h : Header} {records formula labels : List ℕ} (limit : ℕ) (nodes : FormulaPart formula (h .nodes) (h .actions)) where
+module _ {h : Header} {records formula masks : List ℕ} (limit : ℕ) (nodes : FormulaPart formula (h .nodes) (h .actions)) where
   -- what the evaluator is handed at the root
-  pub root-asked : {blocks : List ℕ} → Records records (h .transitions) (h .states) (h .labels) → length labels ≡ nodeLimit
-      → length blocks ≡ nodeLimit → BinderBlocks (nodesIn formula (h .nodes)) blocks → Asks h records formula labels blocks 0 0 limit
+  pub root-asked : {blocks : List ℕ} → Records records (h .transitions) (h .states) (h .labels) → h .actions ≤ length masks
+      → length blocks ≡ nodeLimit → BinderBlocks (nodesIn formula (h .nodes)) blocks → Asks h records formula masks blocks 0 0 limit
   root-asked model l b numbered = record {
     parts = record {
       model = model;
       nodes = nodes;
-      labels-room = omega (arith, nodes .holds .few);
+      masks-room = l;
       blocks-room = omega (arith, nodes .holds .few);
       numbered = numbered;
     };
@@ -73,17 +74,17 @@ module _ {h : Header} {records formula labels : List ℕ} (limit : ℕ) (nodes :
   }
 
   -- what it answers there
-  root-worked : {action : ℕ → Action} {o : Value} → Masks action (nodesIn formula (h .nodes)) labels
-      → Evaluated h records formula labels (replicate blockLimit (replicate wordCount 0)) 0 0 limit o
+  root-worked : {action : ℕ → Action} {o : Value} → ActionMasks action (h .actions) masks
+      → Evaluated h records formula masks (replicate blockLimit (replicate wordCount 0)) 0 0 limit o
       → Rooted (worked (h .states) (transitionsIn records (h .transitions)) (formulaAt action (nodesIn formula (h .nodes)) 0) (allEmpty (h .states)))
       limit o
-  root-worked {action} {o} masks e =
+  root-worked {action} {o} are e =
       let n : ℕ = h .states in
       let t : List Node = nodesIn formula (h .nodes) in
       let w : Worked = worked n (transitionsIn records (h .transitions)) (formulaAt action t 0) (allEmpty n) in
       let shown = none-shown n t (nodes .shallow) in
-      let given : Rule h records formula labels (replicate blockLimit (replicate wordCount 0)) 0 0 limit action (allEmpty n) (w .0) (w .1) =
-      (masks, shown, direct-exists n (transitionsIn records (h .transitions)) (formulaAt action t 0) (allEmpty n) (shown .sized)) in
+      let given : Rule h records formula masks (replicate blockLimit (replicate wordCount 0)) 0 0 limit action (allEmpty n) (w .0) (w .1) =
+      (are, shown, direct-exists n (transitionsIn records (h .transitions)) (formulaAt action t 0) (allEmpty n) (shown .sized)) in
       let right : o .spent ≡ false → (o .rounds ≡ 0 + w .1) × (o .set ≡ words wordCount (w .0)) =
       λ z. e .right z action (allEmpty n) (w .0) (w .1) given in
       record {
@@ -94,12 +95,12 @@ module _ {h : Header} {records formula labels : List ℕ} (limit : ℕ) (nodes :
       }
 
 -- and so of the case that the parts give
-pub root-answer : {h : Header} {records actions formula labels : List ℕ} {limit : ℕ} {o : Value} → CaseParts h records actions formula
-    → Masks (actionAt (nodesIn actions (h .actions))) (nodesIn formula (h .nodes)) labels
-    → Evaluated h records formula labels (replicate blockLimit (replicate wordCount 0)) 0 0 limit o
-    → Rooted (runOf direct (caseIn h records actions formula)) limit o
+pub root-answer : {h : Header} {labels records actions formula masks : List ℕ} {limit : ℕ} {o : Value} → CaseParts h labels records actions formula
+    → ActionMasks (actionIn h labels actions) (h .actions) masks
+    → Evaluated h records formula masks (replicate blockLimit (replicate wordCount 0)) 0 0 limit o
+    → Rooted (runOf direct (caseIn h labels records actions formula)) limit o
 unfolding runOf caseIn
-root-answer {limit = limit} parts masks e = root-worked limit (parts .formula-part) masks e
+root-answer {limit = limit} parts are e = root-worked limit (parts .formula-part) are e
 
 -- ---- an accepted case
 
@@ -110,7 +111,7 @@ few-binders t e = omega (arith, ltb-false blockLimit (blockTotal t) e)
 
 module _ (b : List ℕ) (accepted : Accepted b) where
   -- The parts of an accepted case at the offsets of its header are as the evaluator asks,
-  header-parts : CaseParts (headerOf b) (partAt b (headerOf b .«transitions_at»)) (partAt b (headerOf b .«actions_at»)) (partAt b (headerOf b .«formula_at»))
+  header-parts : CaseParts (headerOf b) (partAt b (headerOf b .«labels_at»)) (partAt b (headerOf b .«transitions_at»)) (partAt b (headerOf b .«actions_at»)) (partAt b (headerOf b .«formula_at»))
   unfolding transitionTable actionTable formulaTable transitionsIn nodesIn
   header-parts =
       let good : Passed b = passed b accepted in
@@ -123,10 +124,9 @@ module _ (b : List ℕ) (accepted : Accepted b) where
           few-labels = l .counts .few-labels;
         });
         initial = model-holds b (good .model) .0;
-        action-part = rw (part-to-end b (headerOf b .«actions_at»)) (record {
-          holds = actions-inside l;
-          whole = whole-actions b (good .actions) (l .counts .few-labels);
-        });
+        label-part = rw (part-to-end b (headerOf b .«labels_at»)) (labels-inside l);
+        action-part = rw (part-to-end b (headerOf b .«actions_at»)) (actions-inside l);
+        whole-actions = rw (part-to-end b (headerOf b .«actions_at»)) (whole-actions b (good .actions));
         formula-part = rw (part-to-end b (headerOf b .«formula_at»)) (record {
           holds = nodes-inside l;
           formed = good .formula;
@@ -136,17 +136,17 @@ module _ (b : List ℕ) (accepted : Accepted b) where
       }
 
   -- and their case is the case of the bytes.
-  header-case : caseIn (headerOf b) (partAt b (headerOf b .«transitions_at»)) (partAt b (headerOf b .«actions_at»)) (partAt b (headerOf b .«formula_at»)) ≡ caseOf b
-  unfolding caseIn caseOf transitionTable actionTable formulaTable transitionsIn nodesIn
-  header-case = rw (part-to-end b (headerOf b .«transitions_at»), part-to-end b (headerOf b .«actions_at»), part-to-end b (headerOf b .«formula_at»))
+  header-case : caseIn (headerOf b) (partAt b (headerOf b .«labels_at»)) (partAt b (headerOf b .«transitions_at»)) (partAt b (headerOf b .«actions_at»)) (partAt b (headerOf b .«formula_at»)) ≡ caseOf b
+  unfolding caseIn caseOf labelTable transitionTable actionTable formulaTable labelsIn transitionsIn nodesIn
+  header-case = rw (part-to-end b (headerOf b .«labels_at»), part-to-end b (headerOf b .«transitions_at»), part-to-end b (headerOf b .«actions_at»), part-to-end b (headerOf b .«formula_at»))
 
   module _ {h : Header} (is : h ≡ headerOf b) where
-    pub case-parts : CaseParts h (partAt b (h .«transitions_at»)) (partAt b (h .«actions_at»)) (partAt b (h .«formula_at»))
+    pub case-parts : CaseParts h (partAt b (h .«labels_at»)) (partAt b (h .«transitions_at»)) (partAt b (h .«actions_at»)) (partAt b (h .«formula_at»))
     case-parts = rw is header-parts
 
     -- So what direct promises from the parts it promises of the case.
     pub case-ran : {marks : List ℕ} {limit : ℕ} {o : Outcome} {after : List ℕ}
-        → RanBy (runConditions direct (caseIn h (partAt b (h .«transitions_at»)) (partAt b (h .«actions_at»)) (partAt b (h .«formula_at»))) (marksOnly marks) limit) direct
-        (caseIn h (partAt b (h .«transitions_at»)) (partAt b (h .«actions_at»)) (partAt b (h .«formula_at»))) marks o after
+        → RanBy (runConditions direct (caseIn h (partAt b (h .«labels_at»)) (partAt b (h .«transitions_at»)) (partAt b (h .«actions_at»)) (partAt b (h .«formula_at»))) (marksOnly marks) limit) direct
+        (caseIn h (partAt b (h .«labels_at»)) (partAt b (h .«transitions_at»)) (partAt b (h .«actions_at»)) (partAt b (h .«formula_at»))) marks o after
         → {t : Tally} → t ≡ tallyOf b → Ran direct b (marksOnly marks) limit o t after
     case-ran {marks} {limit} r {t} tally-is = record { tally-is = tally-is; by = ran-first (sym (case-accepted direct b (marksOnly marks) limit accepted)) (rw (is, header-case) at r) }

@@ -50,7 +50,7 @@ module _ {cs : Conditions} {R : Route} {c : Case} {marks : List ℕ} {o : Outcom
 -- ---- conditions 13 and 14 behind those of the case
 
 module _ (b : List ℕ) where
-  -- 1 to 10 are numbers other than 0, 13 and 14
+  -- the case's own are numbers other than 0, 13 and 14
   pub case-numbered : Without 0 (caseConditions b)
   unfolding caseConditions layoutConditions modelConditions formulaConditions every
   case-numbered = tt
@@ -124,7 +124,7 @@ module _ (R : Route) (b : List ℕ) (l : Lent) (limit : ℕ) where
     unfolding routeConditions runConditions caseRefusal
     gives-number = (λ z. given z .2, λ h. answered-0 b (tooShort R c l) (exceeds R c limit) .1 (accepted, enough, within .0 h))
 
-  -- 1 to 10 come first
+  -- the case's own come first
   pub case-refused : ¬ Accepted b → firstOf conditions ≡ caseRefusal b
   unfolding routeConditions caseRefusal
   case-refused d = one-of-first (caseConditions b) _ d

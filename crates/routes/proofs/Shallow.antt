@@ -9,16 +9,16 @@ use lib.Arith.{digits-lt}
 use lib.Dec.{T, ltb, ltb→lt}
 use lib.ListN.{length, getD, drop, replicate, getD-replicate}
 use lib.Seq.{getD-take, getD-drop, ext-getD}
-use Rattle.sets.specs.Lists.{every, forSome}
+use Rattle.sets.specs.Lists.{every, forSome, keep}
 use Rattle.sets.specs.States.{States, has, Valuation}
-use Rattle.sets.proofs.Lists.{table-at, kept-equal, all-kept, any-kept}
+use Rattle.sets.proofs.Lists.{table-at, all-of-kept, kept-equal, all-kept, any-kept}
 use Rattle.solver.specs.Cells.{Cell, value, Values, part}
 use Rattle.solver.specs.computed.Solved.{evaluate}
 use Rattle.solver.proofs.Values.{evaluate-values, length-part}
 use Rattle.cases.specs.Formula.{Formula, False, True, And, Or, Box, Diamond, Variable, Fix, nodes, Stands}
 use Rattle.cases.specs.declared.Transition.{Transition}
-use Rattle.cases.specs.Case.{keep}
 use Rattle.cases.specs.Meaning.{setOf, from, boxIn, diamondIn}
+use Rattle.cases.proofs.Checking.{all-map}
 use Rattle.translate.specs.Cells.{targets, cellOf, cellsFrom}
 use Rattle.translate.proofs.Unfold.{and-operands, or-operands, box-operand, diamond-operand, length-cells, cell-at, cells-ordered}
 
@@ -37,14 +37,7 @@ module _ (n : ℕ) (ts : List Transition) (block : ℕ → ℕ) where
 
 -- all and any of what is made of the elements that are kept
 all-picked : {A : Type 0} (q : A → Bool) (f : A → ℕ) (u : ℕ → Bool) (xs : List A) → every u (map f (keep q xs)) ≡ every (λ x. not (q x) || u (f x)) xs
-unfolding every keep
-all-picked q f u [] = refl
-all-picked q f u (x ∷ xs) = go (q x) (all-picked q f u xs)
-  where
-    go : (b : Bool) → every u (map f (keep q xs)) ≡ every (λ y. not (q y) || u (f y)) xs
-        → every u (map f (cond b (x ∷ keep q xs) (keep q xs))) ≡ ((not b || u (f x)) && every (λ y. not (q y) || u (f y)) xs)
-    go true e = ap (λ b. u (f x) && b) e
-    go false e = e
+all-picked q f u xs = all-map u f (keep q xs) ∙ all-of-kept (λ x. u (f x)) q xs
 
 any-picked : {A : Type 0} (q : A → Bool) (f : A → ℕ) (u : ℕ → Bool) (xs : List A) → forSome u (map f (keep q xs)) ≡ forSome (λ x. q x && u (f x)) xs
 unfolding forSome keep

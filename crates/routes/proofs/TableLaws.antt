@@ -1,4 +1,4 @@
--- What is worked out once for each node: numbers stored one after the other, the mask of a box or diamond, and the blocks of the binders.
+-- What is worked out once for each node: numbers stored one after the other, and the blocks of the binders.
 use mathlib.Core.Path.{_≡_, refl, ap, _∙_}
 use mathlib.Core.Logic.{_⊎_, inl, inr}
 use mathlib.Core.Bool.{Bool, true, cond}
@@ -10,16 +10,14 @@ use native.Mathlib.Omega.{arith}
 use lib.Dec.{T, ltb→lt}
 use lib.ListN.{length, getD, set, take, length-set}
 use lib.Seq.{getD-set-same, getD-set-other, take-length}
-use Rattle.cases.specs.Action.{Action}
 use Rattle.cases.specs.declared.Node.{Node}
 use Rattle.cases.specs.File.{nodeIn, nodeLimit}
-use Rattle.cases.specs.internal.Masks.{maskOf}
 use Rattle.cases.specs.Conditions.{nodeAt, nodeOk, isBinder, binderCount}
 use Rattle.cases.specs.internal.Checks.{nodesIn}
 use Rattle.cases.proofs.FormulaRules.{length-nodes}
 use Rattle.translate.proofs.ShapeFields.{node-read}
 use Rattle.translate.proofs.CaseSources.{nodes-pass}
-use Rattle.routes.specs.internal.Evaluating.{isModal, FormulaPart, Masks, BinderBlocks}
+use Rattle.routes.specs.internal.Evaluating.{FormulaPart, BinderBlocks}
 
 -- ---- a number for each node
 
@@ -44,16 +42,7 @@ module _ {P : ℕ → ℕ → Type 0} {xs : List ℕ} where
       go j (inl e) = rw (e, getD-set-same xs i x 0 (omega (arith, s .long))) p
       go j (inr l) = rw (getD-set-other xs i j x 0 (λ z. omega arith)) (s .so-far j l)
 
--- ---- masks
-
--- what is asked of the mask of node i
-abbrev pub MaskAt : (ℕ → Action) → List Node → ℕ → ℕ → Type 0
-MaskAt action t i x = isModal (nodeAt t i) → x ≡ maskOf (action (nodeAt t i .arg))
-
--- masks of all nodes
-pub masks-done : (action : ℕ → Action) (part : List ℕ) (f i : ℕ) {xs : List ℕ} → SetBefore (MaskAt action (nodesIn part f)) xs i → f ≤ i
-    → Masks action (nodesIn part f) xs
-masks-done action part f i s h = record { mask = λ j l. s .so-far j (omega (arith, length-nodes part f)) }
+-- ---- nodes
 
 -- node i of a formula part, as it is read
 module _ (part : List ℕ) {f i : ℕ} (h : i < f) {x : Node} (e : x ≡ nodeIn part i) where
@@ -71,10 +60,6 @@ module _ (part : List ℕ) {f i : ℕ} (h : i < f) {x : Node} (e : x ≡ nodeIn 
       go : (4 ≡ x .kind) ⊎ (4 < x .kind) → x .arg < a
       go (inl k) = ltb→lt (x .arg) a (rw (← k) at ok)
       go (inr k) = let five : 5 ≡ x .kind = omega arith in ltb→lt (x .arg) a (rw (← five) at ok)
-
-  -- its mask
-  pub mask-read : (action : ℕ → Action) {r : ℕ} → r ≡ maskOf (action (x .arg)) → MaskAt action (nodesIn part f) i r
-  mask-read action is _ = rw (node-read part f i h x e) is
 
   -- whether it is a binder
   pub binder-read : (b : Bool) → b ≡ isBinder x → _≡_ {A = ℕ} (cond b 1 0) (cond (isBinder (nodeAt (nodesIn part f) i)) 1 0)

@@ -86,7 +86,7 @@ exceeds R c limit = ltb limit (runOf R c .1)
 unfoldable pub runConditions : Route → Case → Lent → ℕ → Conditions
 runConditions R c l limit = (13, tooShort R c l) ∷ (14, exceeds R c limit) ∷ []
 
--- Of a case's bytes 1 to 10 come first; a route asks neither 11 nor 12.
+-- A case's own conditions come first; a route asks neither 11 nor 12.
 unfoldable pub routeConditions : Route → List ℕ → Lent → ℕ → Conditions
 routeConditions R b l limit = caseConditions b ++ runConditions R (caseOf b) l limit
 

@@ -1,3 +1,4 @@
 -- Worked values, computed by the checker.
 pub mod Paper
 pub mod Further
+pub mod Together

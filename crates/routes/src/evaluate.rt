@@ -2,13 +2,12 @@
 use crate::Value;
 use crate::modal::modal_set;
 use crate::tables::blocks_of;
-use crate::tables::masks_of;
 use cases::Header;
+use cases::action_masks;
 use cases::node_at;
 use sets::WORDS;
 use solver::BLOCKS;
 ghost use mathlib.Core.Path.{_≡_};
-ghost use Prim.Native.Nat.{_<_};
 ghost use Rattle.routes.specs.Route.{direct, runOf};
 ghost use Rattle.routes.specs.internal.Answering.{Rooted};
 ghost use Rattle.routes.specs.internal.Evaluating.{returned, caseIn, CaseParts, Asks, KindAt, Evaluated};
@@ -31,7 +30,8 @@ fn value_of(set: [u64; WORDS], next: usize, rounds: u64, spent: bool) -> Value
     }
 }
 
-// The set of node `at`, after `used` rounds. Beside the parts of the case it is handed, for each node, the labels accepted as a mask and its block.
+// The set of node `at`, after `used` rounds. Beside the parts of the case it is handed, for each action formula, the labels accepted as a mask,
+// and for each node its block.
 fn evaluate(
     h: Header,
     records: &[u8],
@@ -115,6 +115,7 @@ fn modal(
     requires { ⌜ Asks h (now records) (now nodes) (now masks) (now block) at used limit × KindAt (now nodes) (h .nodes) at kind 4 5 ⌝ }
     ensures { λ r. ⌜ Evaluated h (now (records .entry)) (now (nodes .entry)) (now (masks .entry)) (now (sets .entry)) at used limit r ⌝ }
 {
+    let action = node_at(nodes, at).arg;
     let one = evaluate(h, records, nodes, masks, block, sets, at + 1, used, limit);
     if one.spent {
         return one;
@@ -125,7 +126,7 @@ fn modal(
         h.transitions,
         h.states,
         h.labels,
-        masks[at],
+        masks[action],
         operand,
         kind == 5,
     );
@@ -172,12 +173,19 @@ fn binder(
 }
 
 // The set of a formula's root. It is handed the counts, and the parts of the case that start at its tables.
-pub fn evaluate_root(h: Header, records: &[u8], actions: &[u8], formula: &[u8], limit: u64) -> Value
-    requires { ⌜ CaseParts h (now records) (now actions) (now formula) ⌝ }
-    ensures { λ r. ⌜ Rooted (runOf direct (caseIn h (now (records .entry)) (now (actions .entry)) (now (formula .entry)))) limit r ⌝ }
+pub fn evaluate_root(
+    h: Header,
+    labels: &[u8],
+    records: &[u8],
+    actions: &[u8],
+    formula: &[u8],
+    limit: u64,
+) -> Value
+    requires { ⌜ CaseParts h (now labels) (now records) (now actions) (now formula) ⌝ }
+    ensures { λ r. ⌜ Rooted (runOf direct (caseIn h (now (labels .entry)) (now (records .entry)) (now (actions .entry)) (now (formula .entry)))) limit r ⌝ }
 {
-    let labels = masks_of(actions, h.actions, formula, h.nodes);
+    let masks = action_masks(labels, h, actions);
     let blocks = blocks_of(formula, h.nodes);
     let sets = [[0u64; WORDS]; BLOCKS];
-    evaluate(h, records, formula, &labels, &blocks, &sets, 0, 0, limit)
+    evaluate(h, records, formula, &masks, &blocks, &sets, 0, 0, limit)
 }

@@ -83,21 +83,22 @@ fn report_of(h: Header, set: [u64; WORDS], rounds: u64) -> Report
 // Direct on the header of a case and the parts of its file that start at its tables.
 pub fn direct_parts(
     h: Header,
+    labels: &[u8],
     records: &[u8],
     actions: &[u8],
     formula: &[u8],
     marks: &mut [u64],
     limit: u64,
 ) -> Answer
-    requires { ⌜ CaseParts h (now records) (now actions) (now formula) ⌝ }
+    requires { ⌜ CaseParts h (now labels) (now records) (now actions) (now formula) ⌝ }
     ensures { λ r. ⌜ RanBy
-        (runConditions Route·direct (caseIn h (now (records .entry)) (now (actions .entry)) (now (formula .entry))) (marksOnly (now (marks .entry))) limit)
-        Route·direct (caseIn h (now (records .entry)) (now (actions .entry)) (now (formula .entry))) (now (marks .entry)) (routeAnswer r) (now (marks .exit)) ⌝ }
+        (runConditions Route·direct (caseIn h (now (labels .entry)) (now (records .entry)) (now (actions .entry)) (now (formula .entry))) (marksOnly (now (marks .entry))) limit)
+        Route·direct (caseIn h (now (labels .entry)) (now (records .entry)) (now (actions .entry)) (now (formula .entry))) (now (marks .entry)) (routeAnswer r) (now (marks .exit)) ⌝ }
 {
     if marks.len() < WORDS {
         return Answer::Refused(Cause::Run(solver::Cause::Memory));
     }
-    let value = evaluate_root(h, records, actions, formula, limit);
+    let value = evaluate_root(h, labels, records, actions, formula, limit);
     if value.spent {
         return Answer::Refused(Cause::Run(solver::Cause::Spent));
     }
@@ -113,11 +114,13 @@ fn direct_opened(case: &[u8], h: Header, marks: &mut [u64], limit: u64) -> Talli
 {
     let mut first = [0u8; TRANSITIONS];
     let tally = first_appearances(case, h, &mut first);
+    let labels = h.labels_at;
     let records = h.transitions_at;
     let actions = h.actions_at;
     let formula = h.formula_at;
     let answer = direct_parts(
         h,
+        &case[labels..],
         &case[records..],
         &case[actions..],
         &case[formula..],

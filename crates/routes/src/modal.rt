@@ -5,7 +5,6 @@ use sets::WORDS;
 ghost use mathlib.Core.Path.{_≡_};
 ghost use mathlib.Core.Bool.{true, cond, _&&_, Bool·beq};
 ghost use Prim.Native.Nat.{_<_, _≤_};
-ghost use lib.Dec.{eqb};
 ghost use lib.ListN.{length, set as ListN·set};
 ghost use Rattle.sets.specs.States.{States, has};
 ghost use Rattle.sets.specs.Lists.{forSome};
@@ -21,7 +20,7 @@ ghost use Rattle.routes.specs.internal.Evaluating.{modalIn, Records};
 fn leads(t: Transition, labels: u64, set: &[u64; WORDS], inside: bool) -> bool
     requires { ⌜ (t .label < labelLimit) × (t .target < stateLimit) ⌝ }
     ensures { λ r. ⌜ ((α : Action) (v : States) → labels ≡ maskOf α → length v ≤ stateLimit → now (set .entry) ≡ words wordCount v
-        → r ≡ (accepts eqb α (t .label) && Bool·beq (has v (t .target)) inside)) ⌝ }
+        → r ≡ (accepts α (t .label) && Bool·beq (has v (t .target)) inside)) ⌝ }
 {
     if (labels >> t.label) % 2 != 1 {
         return false;
@@ -40,7 +39,7 @@ fn with_source(
     requires { ⌜ (t .source < stateLimit) × (t .label < labelLimit) × (t .target < stateLimit) ⌝ }
     ensures { λ _. ⌜ ((α : Action) (v w : States) → labels ≡ maskOf α → length v ≤ stateLimit → now (set .entry) ≡ words wordCount v
         → t .source < length w → now (found .entry) ≡ words wordCount w
-        → now (found .exit) ≡ words wordCount (cond (accepts eqb α (t .label) && Bool·beq (has v (t .target)) inside)
+        → now (found .exit) ≡ words wordCount (cond (accepts α (t .label) && Bool·beq (has v (t .target)) inside)
         (ListN·set w (t .source) true) w)) ⌝ }
 {
     if leads(t, labels, set, inside) {

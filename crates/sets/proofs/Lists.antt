@@ -1,7 +1,7 @@
 -- Laws of truth values, range, all and any.
-use mathlib.Core.Path.{_≡_, refl, ap, ap₂, _∙_}
-use mathlib.Core.Bool.{Bool, true, false, _&&_, _||_}
-use mathlib.Core.List.{List, [], _∷_, map}
+use mathlib.Core.Path.{_≡_, refl, sym, ap, ap₂, _∙_}
+use mathlib.Core.Bool.{Bool, true, false, cond, not, _&&_, _||_, and-assoc}
+use mathlib.Core.List.{List, [], _∷_, _++_, map}
 use Prim.Native.Nat.{ℕ, zero, suc, _+_, _≤_, _<_}
 use native.Mathlib.Nat.{zero-add}
 use native.Mathlib.Numerals.{add-one}
@@ -9,7 +9,7 @@ use native.Mathlib.Omega.{arith}
 use lib.Dec.{T, ltb, ltb→lt}
 use lib.ListN.{length, getD, take, drop, length-map, drop-of-length-le}
 use lib.Seq.{drop-cons}
-use Rattle.sets.specs.Lists.{numbersFrom, every, forSome, sum}
+use Rattle.sets.specs.Lists.{numbersFrom, every, forSome, keep, sum}
 
 -- range i k has k numbers
 pub length-range : (i k : ℕ) → length (numbersFrom i k) ≡ k
@@ -143,6 +143,23 @@ pub all-true : {A : Type 0} (xs : List A) → T (every (λ x. true) xs)
 unfolding every
 all-true [] = tt
 all-true (x ∷ xs) = all-true xs
+
+-- all of two lists, one behind the other
+pub all-of-both : {A : Type 0} (p : A → Bool) (xs ys : List A) → every p (xs ++ ys) ≡ (every p xs && every p ys)
+unfolding every
+all-of-both p [] ys = refl
+all-of-both p (x ∷ xs) ys = rw (all-of-both p xs ys) (sym (and-assoc (p x) (every p xs) (every p ys)))
+
+-- all of the elements that are kept
+pub all-of-kept : {A : Type 0} (p q : A → Bool) (xs : List A) → every p (keep q xs) ≡ every (λ x. not (q x) || p x) xs
+unfolding every keep
+all-of-kept p q [] = refl
+all-of-kept p q (x ∷ xs) = go (q x) (all-of-kept p q xs)
+  where
+    go : (b : Bool) → every p (keep q xs) ≡ every (λ y. not (q y) || p y) xs
+        → every p (cond b (x ∷ keep q xs) (keep q xs)) ≡ ((not b || p x) && every (λ y. not (q y) || p y) xs)
+    go true e = ap (λ b. p x && b) e
+    go false e = e
 
 -- A relation of truth values that both operations and both constants keep: equality, and implication.
 pub record Kept (R : Bool → Bool → Type 0) : Type 0 where

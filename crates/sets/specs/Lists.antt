@@ -1,5 +1,5 @@
 -- Plain functions on lists.
-use mathlib.Core.Bool.{Bool, true, false, _&&_, _||_}
+use mathlib.Core.Bool.{Bool, true, false, cond, _&&_, _||_}
 use mathlib.Core.List.{List, [], _∷_}
 use Prim.Native.Nat.{ℕ, zero, suc, _+_}
 
@@ -17,6 +17,11 @@ every p (x ∷ xs) = p x && every p xs
 unfoldable pub forSome : {A : Type 0} → (A → Bool) → List A → Bool
 forSome p [] = false
 forSome p (x ∷ xs) = p x || forSome p xs
+
+-- those elements of a list for which p holds
+unfoldable pub keep : {A : Type 0} → (A → Bool) → List A → List A
+keep p [] = []
+keep p (x ∷ xs) = cond (p x) (x ∷ keep p xs) (keep p xs)
 
 -- the sum of numbers
 unfoldable pub sum : List ℕ → ℕ

@@ -12,10 +12,10 @@ use Rattle.cases.specs.Action.{Action}
 use Rattle.cases.specs.Formula.{Formula, False, True, And, Or, Box, Diamond, Variable, Fix, nodes}
 use Rattle.cases.specs.internal.Scope.{binders}
 use Rattle.cases.specs.declared.Node.{Node}
-use Rattle.cases.specs.Prefix.{arityIn, formulaArities, actionAt, formulaAt}
-use Rattle.cases.specs.File.{headerOf, actionTable, formulaTable, nodeIn}
+use Rattle.cases.specs.Prefix.{arityIn, formulaArities, formulaAt}
+use Rattle.cases.specs.File.{headerOf, formulaTable, nodeIn}
 use Rattle.cases.specs.internal.Checks.{formulaPart}
-use Rattle.cases.specs.Case.{caseOf}
+use Rattle.cases.specs.Case.{caseAction, caseOf}
 use Rattle.cases.specs.Conditions.{nodeAt, isBinder, blockTotal, tooDeep, Accepted}
 use Rattle.cases.specs.internal.Tables.{made, formulaOperator, FormulaTable}
 use Rattle.cases.proofs.Spans.{span-length}
@@ -97,7 +97,7 @@ unfolding caseOf tooDeep
 fit b ok =
     let p : Passed b = passed b ok in
     let t : List Node = formulaTable b in
-    let action : ℕ → Action = actionAt (actionTable b) in
+    let action : ℕ → Action = caseAction b in
     let table : FormulaTable t = formula-table (headerOf b .actions) t (p .formula) in
     let model = model-holds b (p .model) in
     record {

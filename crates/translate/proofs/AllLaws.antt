@@ -5,10 +5,10 @@ use Prim.Native.Nat.{ℕ, zero, suc, _+_, _≤_, _<_}
 use native.Mathlib.Omega.{arith}
 use lib.Dec.{T, eqb, ltb, lt→ltb, ltb→lt, eqb-refl}
 use lib.ListN.{length, getD}
-use Rattle.sets.specs.Lists.{numbersFrom, every, forSome}
+use Rattle.sets.specs.Lists.{numbersFrom, every, forSome, keep}
 use Rattle.sets.proofs.Lists.{and-left, and-right, and-both, or-left, or-right, all-at, all-from}
 use Rattle.cases.specs.declared.Transition.{Transition}
-use Rattle.cases.specs.Case.{keep, distinct, transitionAt, copiesBefore}
+use Rattle.cases.specs.Case.{distinct, transitionAt, copiesBefore}
 
 -- a property of the elements of two lists
 module _ {A : Type 0} (p : A → Bool) where

@@ -10,14 +10,13 @@ use borrow.Author.Tests.{eq-eqb, ne-eqb}
 use lib.Dec.{T, eqb, ltb, lt→ltb}
 use lib.ListN.{length, getD, take, drop, length-map}
 use lib.Seq.{drop-cons, drop-drop}
-use Rattle.sets.specs.Lists.{numbersFrom, every}
+use Rattle.sets.specs.Lists.{numbersFrom, every, keep}
 use Rattle.sets.proofs.Lists.{and-both}
 use Rattle.cases.specs.Action.{Action}
 use Rattle.cases.specs.Formula.{Formula, nodes}
 use Rattle.cases.specs.declared.Node.{Node}
 use Rattle.cases.specs.Prefix.{arityIn, formulaArities, span, endOf, formulaAt}
 use Rattle.cases.specs.Conditions.{nodeAt, isBinder, binderCount}
-use Rattle.cases.specs.Case.{keep}
 use Rattle.cases.specs.internal.Tables.{made, formulaOperator, FormulaTable}
 use Rattle.cases.proofs.Spans.{span-none, span-add, end-next, first-node, exactly-whole, exactly-span, by-operands}
 use Rattle.cases.proofs.Trees.{arity-at}

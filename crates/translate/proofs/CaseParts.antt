@@ -2,16 +2,17 @@
 use mathlib.Core.Path.{_≡_, refl, sym, ap, _∙_, subst}
 use mathlib.Core.Bool.{Bool, true, false, cond}
 use mathlib.Core.List.{List, _++_}
-use Prim.Native.Nat.{ℕ, _+_, _-_, _≤_}
+use Prim.Native.Nat.{ℕ, _+_, _≤_}
 use lib.Dec.{ltb}
 use lib.ListN.{length, take, drop}
 use borrow.Author.Tests.{ltb-true, ltb-false}
 use borrow.Rule.Slice.PartAt.{part-to-end}
 use Rattle.cases.specs.declared.Header.{Header}
-use Rattle.cases.specs.File.{headerOf}
-use Rattle.cases.specs.Case.{caseOf}
+use Rattle.cases.specs.File.{headerOf, labelTable, actionTable, actionLimit, nodeLimit}
+use Rattle.cases.specs.Case.{caseAction, caseOf}
 use Rattle.cases.specs.Conditions.{nodeAt, isBinder, Accepted}
-use Rattle.cases.specs.internal.Checks.{transitionPart, nodesIn}
+use Rattle.cases.specs.internal.Checks.{labelsIn, nodesIn, transitionPart, LabelPart, NodesFit}
+use Rattle.cases.specs.internal.Masks.{WholeActions, actionIn, ActionMasks}
 use Rattle.translate.specs.declared.Shape.{Shape}
 use Rattle.translate.specs.declared.Written.{Written}
 use Rattle.translate.specs.declared.Cause.the-variants.{Memory}
@@ -19,6 +20,8 @@ use Rattle.translate.specs.declared.Written.the-variants.{File, Refused}
 use Rattle.translate.specs.Bytes.{System, systemOf, fileOf}
 use Rattle.translate.specs.internal.Parts.{distinctIn}
 use Rattle.cases.specs.internal.Links.{FirstFlags}
+use Rattle.cases.proofs.Accepting.{passed}
+use Rattle.cases.proofs.ModelRules.{nodes-inside}
 use Rattle.cases.proofs.Tallies.{partAt}
 use Rattle.translate.specs.internal.Tabled.{Tables, HoldsShapes}
 use Rattle.translate.specs.internal.Sources.{Sources, shapeSystem, Emitted}
@@ -45,52 +48,66 @@ module _ (b before : List ℕ) (accepted : Accepted b) {w : Written} {after : Li
 
 -- what is known of an accepted case by its header
 pub record Opened (b : List ℕ) (h : Header) : Type 0 where
+  pub labels : h .«labels_at» ≤ length b
   pub transitions : h .«transitions_at» ≤ length b
   pub actions : h .«actions_at» ≤ length b
   pub formula : h .«formula_at» ≤ length b
-  pub tables : Tables (partAt b (h .«actions_at»)) (h .actions) (partAt b (h .«formula_at»)) (h .nodes)
+  pub masks-asked : LabelPart (partAt b (h .«labels_at»)) h × NodesFit actionLimit (partAt b (h .«actions_at»)) (h .actions)
+      × WholeActions (h .labels) (nodesIn (partAt b (h .«actions_at»)) (h .actions))
+  pub action-is : actionIn h (partAt b (h .«labels_at»)) (partAt b (h .«actions_at»)) ≡ caseAction b
+  pub fits : NodesFit nodeLimit (partAt b (h .«formula_at»)) (h .nodes)
+  pub tables : (masks : List ℕ) → length masks ≡ actionLimit → Tables masks (h .actions) (partAt b (h .«formula_at»)) (h .nodes)
   pub some : 1 ≤ h .nodes
 
 -- and once flags and shapes are worked out
 pub record Held (b first : List ℕ) (shapes : List Shape) (added : ℕ) (h : Header) : Type 0 where
   pub flags : FirstFlags (transitionPart b) (h .transitions) first
-  pub nodes : HoldsShapes (partAt b (h .«actions_at»)) (h .actions) (partAt b (h .«formula_at»)) (h .nodes) shapes
+  pub nodes : HoldsShapes (caseAction b) (partAt b (h .«formula_at»)) (h .nodes) shapes
   pub before : added ≡ cond (isBinder (nodeAt (nodesIn (partAt b (h .«formula_at»)) (h .nodes)) 0)) 0 1
 
 module _ (b : List ℕ) (accepted : Accepted b) where
   opened-header : Opened b (headerOf b)
+  unfolding actionTable labelTable labelsIn nodesIn
   opened-header =
       let p = of-case.parts b accepted in
+      let zero = part-to-end b (headerOf b .«labels_at») in
       let two = part-to-end b (headerOf b .«actions_at») in
       let three = part-to-end b (headerOf b .«formula_at») in
       record {
+        labels = p .6;
+        masks-asked = rw (zero, two) (of-case.masks-asked b accepted);
+        action-is = rw (zero, two) refl;
         transitions = p .3;
         actions = p .4;
         formula = p .5;
-        tables = rw (two, three) (of-case.tables b accepted);
+        fits = rw three (nodes-inside (passed b accepted .lies));
+        tables = rw three (of-case.tables b accepted);
         some = p .2;
       }
 
   pub opened : {h : Header} → h ≡ headerOf b → Opened b h
   opened e = subst (Opened b) (sym e) opened-header
 
+  -- so masks of the action formulas of its parts are those of the case's
+  pub masks-are : {h : Header} → h ≡ headerOf b → {masks : List ℕ} → ActionMasks (actionIn h (partAt b (h .«labels_at»)) (partAt b (h .«actions_at»))) (h .actions) masks
+      → ActionMasks (caseAction b) (h .actions) masks
+  masks-are e m = rw (opened e .action-is) at m
+
   module _ (first : List ℕ) (shapes : List Shape) (added : ℕ) where
     sources-header : Held b first shapes added (headerOf b)
         → Sources (partAt b (headerOf b .«transitions_at»)) first (headerOf b .transitions) shapes (added + headerOf b .nodes) (headerOf b .states)
     sources-header held =
         let one = part-to-end b (headerOf b .«transitions_at») in
-        let two = part-to-end b (headerOf b .«actions_at») in
         let three = part-to-end b (headerOf b .«formula_at») in
-        rw one (of-case.sources b accepted first shapes (added + headerOf b .nodes) (held .flags) (rw (two, three) at (held .nodes))
+        rw one (of-case.sources b accepted first shapes (added + headerOf b .nodes) (held .flags) (rw three at (held .nodes))
         (ap (λ (x : ℕ). x + headerOf b .nodes) (rw three at (held .before))))
 
     system-header : Held b first shapes added (headerOf b)
         → shapeSystem (headerOf b .states) (headerOf b .initial) (distinctIn (partAt b (headerOf b .«transitions_at»)) first (headerOf b .transitions)) (take (added + headerOf b .nodes) shapes) ≡ systemOf (caseOf b)
     system-header held =
         let one = part-to-end b (headerOf b .«transitions_at») in
-        let two = part-to-end b (headerOf b .«actions_at») in
         let three = part-to-end b (headerOf b .«formula_at») in
-        rw one (of-case.system-of b accepted first shapes (added + headerOf b .nodes) (held .flags) (rw (two, three) at (held .nodes))
+        rw one (of-case.system-of b accepted first shapes (added + headerOf b .nodes) (held .flags) (rw three at (held .nodes))
         (ap (λ (x : ℕ). x + headerOf b .nodes) (rw three at (held .before))))
 
     module _ {h : Header} (e : h ≡ headerOf b) (held : Held b first shapes added h) where

@@ -14,18 +14,19 @@ use Rattle.cases.specs.Action.{Action}
 use Rattle.cases.specs.Formula.{Formula}
 use Rattle.cases.specs.declared.Node.{Node}
 use Rattle.cases.specs.declared.Transition.{Transition}
-use Rattle.cases.specs.Prefix.{arityIn, formulaArities, exactly, endOf, actionAt, formulaAt}
-use Rattle.cases.specs.File.{headerOf, labelLimit, transitionLimit, nodeLimit, transitionTable, actionTable, formulaTable}
-use Rattle.cases.specs.Case.{caseOf, distinct}
+use Rattle.cases.specs.Prefix.{arityIn, formulaArities, exactly, endOf, formulaAt}
+use Rattle.cases.specs.File.{headerOf, labelLimit, transitionLimit, actionLimit, nodeLimit, transitionTable, actionTable, formulaTable}
+use Rattle.cases.specs.Case.{caseAction, caseOf, distinct}
 use Rattle.cases.specs.Conditions.{transitionOk, nodeAt, nodeOk, isBinder, badFormula, Accepted}
-use Rattle.cases.specs.internal.Checks.{transitionsIn, nodesIn, transitionPart, actionPart, formulaPart}
+use Rattle.cases.specs.internal.Checks.{transitionsIn, nodesIn, labelPart, transitionPart, actionPart, formulaPart, LabelPart, NodesFit}
+use Rattle.cases.specs.internal.Masks.{WholeActions}
 use Rattle.cases.specs.internal.Links.{FirstFlags}
 use Rattle.cases.specs.internal.Tables.{FormulaTable}
 use Rattle.cases.proofs.Spans.{exactly-whole, second-node}
 use Rattle.cases.proofs.Trees.{arity-at}
 use Rattle.cases.proofs.TableTrees.{held, each-kind, formula-table}
 use Rattle.cases.proofs.Masks.{whole-actions}
-use Rattle.cases.proofs.ModelRules.{transitions-inside, actions-inside, nodes-inside}
+use Rattle.cases.proofs.ModelRules.{labels-inside, transitions-inside, actions-inside, nodes-inside}
 use Rattle.translate.specs.declared.Shape.{Shape}
 use Rattle.translate.specs.Whole.{whole, blockIn}
 use Rattle.translate.specs.Bytes.{System, systemOf, allOperands}
@@ -129,11 +130,10 @@ module _ (b : List ℕ) (accepted : Accepted b) where
   formed = formula-table (headerOf b .actions) table (good .formula)
 
   -- an accepted case has tables that can be read
-  pub tables : Tables (actionPart b) (headerOf b .actions) (formulaPart b) (headerOf b .nodes)
-  unfolding actionTable formulaTable nodesIn
-  tables = record {
-    action-part = actions-inside (good .lies);
-    whole-actions = whole-actions b (good .actions) (good .lies .counts .few-labels);
+  pub tables : (masks : List ℕ) → length masks ≡ actionLimit → Tables masks (headerOf b .actions) (formulaPart b) (headerOf b .nodes)
+  unfolding formulaTable nodesIn
+  tables masks long = record {
+    room = omega (arith, good .lies .counts .few-actions);
     blocks = record {
       node-part = nodes-inside (good .lies);
       variable = λ i h k.
@@ -146,9 +146,15 @@ module _ (b : List ℕ) (accepted : Accepted b) where
         (nodes-pass (headerOf b .actions) table (good .formula) i inside);
   }
 
+  -- what is asked for the masks of its action formulas
+  pub masks-asked : LabelPart (labelPart b) (headerOf b) × NodesFit actionLimit (actionPart b) (headerOf b .actions)
+      × WholeActions (headerOf b .labels) (nodesIn (actionPart b) (headerOf b .actions))
+  unfolding actionTable nodesIn
+  masks-asked = (labels-inside (good .lies), actions-inside (good .lies), whole-actions b (good .actions))
+
   -- its parts and counts are within their limits
   pub parts : (6 * headerOf b .transitions ≤ length (transitionPart b)) × (headerOf b .transitions ≤ transitionLimit) × (1 ≤ headerOf b .nodes)
-      × (headerOf b .«transitions_at» ≤ length b) × (headerOf b .«actions_at» ≤ length b) × (headerOf b .«formula_at» ≤ length b)
+      × (headerOf b .«transitions_at» ≤ length b) × (headerOf b .«actions_at» ≤ length b) × (headerOf b .«formula_at» ≤ length b) × (headerOf b .«labels_at» ≤ length b)
   parts =
       let l = good .lies in
       let c = l .counts in (
@@ -158,13 +164,14 @@ module _ (b : List ℕ) (accepted : Accepted b) where
         omega (arith, l .ends, l .transitions),
         omega (arith, l .ends, l .actions),
         omega (arith, l .ends, l .formula),
+        omega (arith, l .ends, l .labels),
       )
 
   -- ---- the equations
 
   -- the action formulas, the formula that is translated, and the distinct transitions
   abbrev action : ℕ → Action
-  action = actionAt (actionTable b)
+  action = caseAction b
 
   abbrev formula : Formula
   formula = whole (formulaAt action table 0)
@@ -205,7 +212,7 @@ module _ (b : List ℕ) (accepted : Accepted b) where
 
   -- flags and shapes that were read from the tables
   module _ (first : List ℕ) (shapes : List Shape) (k : ℕ) (flags : FirstFlags (transitionPart b) (headerOf b .transitions) first)
-      (holds-shapes : HoldsShapes (actionPart b) (headerOf b .actions) (formulaPart b) (headerOf b .nodes) shapes)
+      (holds-shapes : HoldsShapes action (formulaPart b) (headerOf b .nodes) shapes)
       (count : k ≡ cond (isBinder (nodeAt (nodesIn (formulaPart b) (headerOf b .nodes)) 0)) 0 1 + headerOf b .nodes) where
     -- the flagged transitions are the distinct ones
     transitions-same : distinctIn (transitionPart b) first (headerOf b .transitions) ≡ transitions
@@ -219,7 +226,7 @@ module _ (b : List ℕ) (accepted : Accepted b) where
 
     -- and the array starts with them
     shapes-taken : take k shapes ≡ tableShapes action table
-    unfolding actionTable formulaTable nodesIn
+    unfolding formulaTable nodesIn
     shapes-taken = rw shape-count (holds-shapes .starts)
 
     -- The equations of the shapes are the case's.

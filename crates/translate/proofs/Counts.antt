@@ -7,13 +7,12 @@ use native.Mathlib.Omega.{arith}
 use lib.Dec.{eqb}
 use lib.ListN.{length, length-append, length-map}
 use borrow.Author.Tests.{eqb-true, ne-eqb}
-use Rattle.sets.specs.Lists.{numbersFrom}
+use Rattle.sets.specs.Lists.{numbersFrom, keep}
 use Rattle.solver.specs.Cells.{Cell, operandsOf}
 use Rattle.cases.specs.File.{transitionLimit}
 use Rattle.cases.specs.Action.{Action, accepts}
 use Rattle.cases.specs.Formula.{Formula, False, True, And, Or, Box, Diamond, Variable, Fix, nodes}
 use Rattle.cases.specs.declared.Transition.{Transition}
-use Rattle.cases.specs.Case.{keep}
 use Rattle.cases.specs.Meaning.{from}
 use Rattle.translate.specs.Whole.{raise, bindsFirst, whole, binderNodes}
 use Rattle.translate.specs.Cells.{targets, cellOf, cellsFrom, blocksFrom}
@@ -149,7 +148,7 @@ module _ (α : Action) where
   abbrev leaving : List Transition → ℕ → ℕ
   leaving ts s = length (keep (from s α) ts)
 
-  leaving-cons : (t : Transition) (ts : List Transition) (s : ℕ) → leaving (t ∷ ts) s ≡ hit (t .source) (accepts eqb α (t .label)) s + leaving ts s
+  leaving-cons : (t : Transition) (ts : List Transition) (s : ℕ) → leaving (t ∷ ts) s ≡ hit (t .source) (accepts α (t .label)) s + leaving ts s
   unfolding keep
   leaving-cons t ts s = go (from s α t)
     where
@@ -162,8 +161,8 @@ module _ (α : Action) where
   unfolding keep
   leaving-all [] i k = omega (arith, total-zero i k)
   leaving-all (t ∷ ts) i k =
-      let each = total-add (leaving (t ∷ ts)) (hit (t .source) (accepts eqb α (t .label))) (leaving ts) (leaving-cons t ts) i k in
-      omega (arith, each, hits-one (t .source) (accepts eqb α (t .label)) i k, leaving-all ts i k)
+      let each = total-add (leaving (t ∷ ts)) (hit (t .source) (accepts α (t .label))) (leaving ts) (leaving-cons t ts) i k in
+      omega (arith, each, hits-one (t .source) (accepts α (t .label)) i k, leaving-all ts i k)
 
 module _ (n : ℕ) (ts : List Transition) (block : ℕ → ℕ) where
   -- the cells of one node

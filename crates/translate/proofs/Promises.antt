@@ -7,7 +7,7 @@ use mathlib.Core.List.{List, [], _∷_, _++_, map-append, List·Memᴰ}
 use Prim.Native.Nat.{ℕ, _+_, _*_, _≤_, _<_}
 use native.Mathlib.Decide.{ℕ-discrete}
 use lib.ListN.{length, getD, drop}
-use Rattle.sets.specs.Lists.{every}
+use Rattle.sets.specs.Lists.{every, keep}
 use Rattle.sets.specs.Refusals.{numbersOf, NoneHolds, FirstHolds}
 use Rattle.sets.proofs.Refusals.{refusing, answered-member, answered-first, answered-none}
 use Rattle.solver.specs.File.{Block, sizesOf, blocks, cells, operands, cellLimit, operandLimit, blocksAt}
@@ -15,7 +15,7 @@ use Rattle.solver.specs.Conditions.{WellFormed}
 use Rattle.cases.specs.Action.{Action}
 use Rattle.cases.specs.Formula.{Formula, Stands}
 use Rattle.cases.specs.declared.Transition.{Transition}
-use Rattle.cases.specs.Case.{caseOf, copies, keep, distinct, fresh}
+use Rattle.cases.specs.Case.{caseOf, copies, distinct, fresh}
 use Rattle.cases.specs.Meaning.{from}
 use Rattle.cases.specs.Conditions.{layoutConditions, modelConditions, formulaConditions, caseConditions, caseRefusal, Accepted}
 use Rattle.cases.proofs.TableTrees.{formula-table}

@@ -46,8 +46,8 @@ module _ (part : List ℕ) (f i : ℕ) (h : i < f) (x : Node) (e : x ≡ nodeIn 
   pub variable-arg : CountableBlocks part f → x .kind ≡ 6 → x .arg ≤ f
   variable-arg t = rw node-read at (t .variable i h)
 
-  pub modal-arg : (actions : List ℕ) (a : ℕ) → Tables actions a part f → (b : Bool) → b ≡ (eqb (x .kind) 4 || eqb (x .kind) 5) → b ≡ true → x .arg < a
-  modal-arg actions a t b p q = (rw node-read at (t .modal i h)) (sym p ∙ q)
+  pub modal-arg : (masks : List ℕ) (a : ℕ) → Tables masks a part f → (b : Bool) → b ≡ (eqb (x .kind) 4 || eqb (x .kind) 5) → b ≡ true → x .arg < a
+  modal-arg masks a t b p q = (rw node-read at (t .modal i h)) (sym p ∙ q)
 
   module _ (action : ℕ → Action) (added : ℕ) where
     abbrev here : Shape

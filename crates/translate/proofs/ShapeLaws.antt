@@ -10,7 +10,7 @@ use borrow.Author.Tests.{eq-eqb, ne-eqb}
 use lib.Dec.{T, eqb, ltb, ltb→lt}
 use lib.ListN.{length, take, getD, length-append, length-map, List·getD-eq-default}
 use lib.Seq.{take-all}
-use Rattle.sets.specs.Lists.{numbersFrom, every}
+use Rattle.sets.specs.Lists.{numbersFrom, every, keep}
 use Rattle.sets.specs.States.{States}
 use Rattle.sets.specs.Words.{fromBits, words, marked, bit}
 use Rattle.sets.proofs.Lists.{and-left, and-right, length-table, table-at}
@@ -20,7 +20,6 @@ use Rattle.cases.specs.Action.{Action, accepts}
 use Rattle.cases.specs.Formula.{Formula, False, True, And, Or, Box, Diamond, Variable, Fix}
 use Rattle.cases.specs.declared.Transition.{Transition}
 use Rattle.cases.specs.internal.Masks.{maskOf}
-use Rattle.cases.specs.Case.{keep}
 use Rattle.cases.specs.Meaning.{from}
 use Rattle.cases.specs.File.{transitionIn, labelLimit}
 use Rattle.translate.specs.Bytes.{allOperands, cellNumbers}
@@ -33,12 +32,12 @@ use Rattle.translate.proofs.Putting.{wrote-none, wrote-no-more, wrote-m
 use Rattle.translate.specs.internal.Parts.{WroteAt, WroteMore, WroteCells, WroteCellsAt, flagged, distinctIn, leavesAt, leaving, targetCells, targetCell}
 
 -- bit x of an action formula's mask says whether label x is accepted
-pub mask-bit : (α : Action) (x : ℕ) → x < labelLimit → marked (maskOf α ∷ []) x ≡ accepts eqb α x
+pub mask-bit : (α : Action) (x : ℕ) → x < labelLimit → marked (maskOf α ∷ []) x ≡ accepts α x
 unfolding words
 mask-bit α x h =
-    let v : States = map (accepts eqb α) (numbersFrom 0 labelLimit) in
-    let e : take labelLimit v ≡ v = take-all labelLimit v (omega (arith, length-table (accepts eqb α) labelLimit)) in
-    ap (λ (u : States). marked (fromBits u ∷ []) x) (sym e) ∙ marked-words 1 v x (omega arith) ∙ table-at (accepts eqb α) labelLimit x false h
+    let v : States = map (accepts α) (numbersFrom 0 labelLimit) in
+    let e : take labelLimit v ≡ v = take-all labelLimit v (omega (arith, length-table (accepts α) labelLimit)) in
+    ap (λ (u : States). marked (fromBits u ∷ []) x) (sym e) ∙ marked-words 1 v x (omega arith) ∙ table-at (accepts α) labelLimit x false h
 
 -- tests that agree on the elements of a list keep the same ones
 pub keep-same : {A : Type 0} (u p q : A → Bool) → ((x : A) → T (u x) → p x ≡ q x) → (xs : List A) → T (every u xs) → keep p xs ≡ keep q xs

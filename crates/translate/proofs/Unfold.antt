@@ -9,14 +9,13 @@ use lib.Arith.{digits-lt, digits-div, digits-mod}
 use lib.Dec.{T, eqb, ltb, ltb→lt, lt→ltb}
 use lib.ListN.{length, getD, length-append, List·getD-append}
 use lib.Seq.{getD-append-add}
-use Rattle.sets.specs.Lists.{numbersFrom, every}
+use Rattle.sets.specs.Lists.{numbersFrom, every, keep}
 use Rattle.sets.proofs.Lists.{length-map-range, getD-map-range, and-left, and-right, and-both, all-mono}
 use Rattle.solver.specs.Cells.{Cell, operandsOf}
 use Rattle.solver.specs.internal.Forms.{Ordered}
 use Rattle.cases.specs.Action.{Action, accepts}
 use Rattle.cases.specs.Formula.{Formula, False, True, And, Or, Box, Diamond, Variable, Fix, nodes, subformulas, Stands}
 use Rattle.cases.specs.declared.Transition.{Transition}
-use Rattle.cases.specs.Case.{keep}
 use Rattle.cases.specs.Meaning.{from}
 use Rattle.translate.specs.Tables.{Expression, Sat⇒, Sat∧, each, RHS}
 use Rattle.translate.specs.Unfolding.{Plain, All, Any, more, leftOut, plain, plains, chosen, unfolded, Unfolding}
@@ -246,12 +245,12 @@ module _ (es : ℕ → Plain) (sat : Bool → Expression → Expression) (kept :
 
   put : (n i s : ℕ) (α : Action) (side : ℕ → Expression) → ((u : ℕ) → u < n → es (i * n + u) ≡ plain (side u))
       → (ts : List Transition) → T (every (λ t. ltb (t .target) n) ts)
-      → plains (each (λ t. sat (accepts eqb α (t .label)) (side (t .target))) (keep (λ t. eqb (t .source) s) ts))
+      → plains (each (λ t. sat (accepts α (t .label)) (side (t .target))) (keep (λ t. eqb (t .source) s) ts))
       ≡ chosen es (map (λ t. i * n + t .target) (keep (from s α) ts))
   unfolding keep every each plains chosen
   put n i s α side h [] l = refl
   put n i s α side h (t ∷ ts) l =
-      put-one (eqb (t .source) s) (accepts eqb α (t .label)) t _ _ (side (t .target)) _ _ refl
+      put-one (eqb (t .source) s) (accepts α (t .label)) t _ _ (side (t .target)) _ _ refl
       (h (t .target) (ltb→lt _ _ (and-left (ltb (t .target) n) _ l))) (put n i s α side h ts (and-right (ltb (t .target) n) _ l))
 
 -- The right-hand side of the table for each cell, without Sat: cell c is that of node c / n in state c % n.

@@ -1,13 +1,12 @@
 -- The cells and blocks of a formula: cell i * n + s is the right-hand side of node i in state s.
 use mathlib.Core.List.{List, [], _∷_, _++_, map}
 use Prim.Native.Nat.{ℕ, _+_, _*_}
-use Rattle.sets.specs.Lists.{numbersFrom}
+use Rattle.sets.specs.Lists.{numbersFrom, keep}
 use Rattle.solver.specs.Cells.{Cell}
 use Rattle.solver.specs.File.{Block}
 use Rattle.cases.specs.Action.{Action}
 use Rattle.cases.specs.Formula.{Formula, False, True, And, Or, Box, Diamond, Variable, Fix, nodes}
 use Rattle.cases.specs.declared.Transition.{Transition}
-use Rattle.cases.specs.Case.{keep}
 use Rattle.cases.specs.Meaning.{from}
 
 -- n states, the distinct transitions ts, and the block of each binder

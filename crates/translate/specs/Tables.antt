@@ -6,7 +6,7 @@ use lib.Dec.{eqb}
 use Rattle.cases.specs.Action.{accepts}
 use Rattle.cases.specs.Formula.{Formula, False, True, And, Or, Box, Diamond, Variable, Fix}
 use Rattle.cases.specs.declared.Transition.{Transition}
-use Rattle.cases.specs.Case.{keep}
+use Rattle.sets.specs.Lists.{keep}
 
 -- Right-hand sides as the table writes them; Sat is a truth value, for labels have no data. X k s is the variable of block k in state s.
 mutual
@@ -38,8 +38,8 @@ module _ (ts : List Transition) (block : ℕ → ℕ) where
   RHS True s = Constant true
   RHS (And a b) s = Conj (RHS a s) (RHS b s)
   RHS (Or a b) s = Disj (RHS a s) (RHS b s)
-  RHS (Box α a) s = ⋀ (each (λ t. Sat⇒ (accepts eqb α (t .label)) (RHS a (t .target))) (outgoing s))
-  RHS (Diamond α a) s = ⋁ (each (λ t. Sat∧ (accepts eqb α (t .label)) (RHS a (t .target))) (outgoing s))
+  RHS (Box α a) s = ⋀ (each (λ t. Sat⇒ (accepts α (t .label)) (RHS a (t .target))) (outgoing s))
+  RHS (Diamond α a) s = ⋁ (each (λ t. Sat∧ (accepts α (t .label)) (RHS a (t .target))) (outgoing s))
   RHS (Variable i) s = X (block i) s
   RHS (Fix sign i a) s = X (block i) s
 

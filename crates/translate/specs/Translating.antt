@@ -18,7 +18,7 @@ use Rattle.translate.specs.declared.Written.the-variants.{File, Refused}
 abbrev pub file : List ℕ → List ℕ
 file b = fileOf (caseOf b)
 
--- The conditions in order: 1 to 10 of the case, then 13: the buffer, of so many bytes, is shorter than the file.
+-- The conditions in order: those of the case, then 13: the buffer, of so many bytes, is shorter than the file.
 unfoldable pub translateConditions : List ℕ → ℕ → Conditions
 translateConditions b room = caseConditions b ++ ((13, ltb room (length (file b))) ∷ [])
 

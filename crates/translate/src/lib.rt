@@ -105,16 +105,18 @@ fn emit(
     Written::File(size)
 }
 
-// The equation file of an accepted case, with its header and the flags of first appearances. The labels that a node accepts are found
-// once.
+// The equation file of an accepted case, with its header and the flags of first appearances. The labels that an action formula accepts are
+// found once.
 pub fn write_case(case: &[u8], h: Header, first: &[u8], out: &mut [u8]) -> Written
     requires { ⌜ Accepted (now case) × (h ≡ headerOf (now case)) × FirstFlags (transitionPart (now case)) (h .transitions) (now first) ⌝ }
     ensures { λ w. ⌜ Translated (now (case .entry)) (now (out .entry)) (writtenNumber w) (writtenLength w) (now (out .exit)) ⌝ }
 {
+    let labels = h.labels_at;
     let records = h.transitions_at;
     let actions = h.actions_at;
     let formula = h.formula_at;
-    let shapes = shapes_of(&case[actions..], h.actions, &case[formula..], h.nodes);
+    let masks = cases::action_masks(&case[labels..], h, &case[actions..]);
+    let shapes = shapes_of(&masks, h.actions, &case[formula..], h.nodes);
     let k = added_before(&case[formula..], h.nodes) + h.nodes;
     emit(
         out,

@@ -7,9 +7,9 @@ ghost use lib.Dec.{eqb};
 ghost use lib.ListN.{length};
 ghost use Rattle.cases.specs.File.{nodeLimit};
 ghost use Rattle.cases.specs.Action.{Action};
-ghost use Rattle.cases.specs.Prefix.{actionAt};
 ghost use Rattle.cases.specs.Conditions.{nodeAt, isBinder};
 ghost use Rattle.cases.specs.internal.Checks.{nodesIn, NodesFit};
+ghost use Rattle.cases.specs.internal.Masks.{ActionMasks};
 ghost use Rattle.translate.specs.internal.Shapes.{shapeIn};
 ghost use Rattle.translate.specs.internal.Tabled.{CountableBlocks, Tables, HoldsShapes};
 
@@ -57,27 +57,29 @@ fn block_of(part: &[u8], f: usize, added: usize, i: usize) -> usize
     0
 }
 
-// The labels that node i accepts; 0 where there are none.
-fn labels_of(actions: &[u8], a: usize, part: &[u8], f: usize, i: usize) -> u64
-    requires { ⌜ Tables (now actions) a (now part) f ⌝ ∗ ⌜ i < f ⌝ }
-    ensures { λ r. ⌜ ((added : ℕ) → r ≡ shapeIn (actionAt (nodesIn (now (actions .entry)) a)) (nodesIn (now (part .entry)) f) added i .labels) ⌝ }
+// The labels that node i accepts, by the masks of a action formulas; 0 where there are none.
+fn labels_of(masks: &[u64], a: usize, part: &[u8], f: usize, i: usize) -> u64
+    requires { ⌜ Tables (now masks) a (now part) f ⌝ ∗ ⌜ i < f ⌝ }
+    ensures { λ r. ⌜ ((action : ℕ → Action) (added : ℕ) → ActionMasks action a (now (masks .entry))
+        → r ≡ shapeIn action (nodesIn (now (part .entry)) f) added i .labels) ⌝ }
 {
     let x = cases::node_at(part, i);
     if is_modal(x.kind) {
-        return cases::accepted_labels(actions, a, x.arg);
+        let j = x.arg;
+        return masks[j];
     }
     0
 }
 
 // The shape of node i.
-fn shape_at(actions: &[u8], a: usize, part: &[u8], f: usize, added: usize, i: usize) -> Shape
-    requires { ⌜ Tables (now actions) a (now part) f ⌝ ∗ ⌜ (added ≤ 1) × (i < f) ⌝ }
-    ensures { λ r. ⌜ r ≡ shapeIn (actionAt (nodesIn (now (actions .entry)) a)) (nodesIn (now (part .entry)) f) added i ⌝ }
+fn shape_at(masks: &[u64], a: usize, part: &[u8], f: usize, added: usize, i: usize) -> Shape
+    requires { ⌜ Tables (now masks) a (now part) f ⌝ ∗ ⌜ (added ≤ 1) × (i < f) ⌝ }
+    ensures { λ r. ⌜ ((action : ℕ → Action) → ActionMasks action a (now (masks .entry)) → r ≡ shapeIn action (nodesIn (now (part .entry)) f) added i) ⌝ }
 {
     let x = cases::node_at(part, i);
     let second = second_of(part, f, added, i);
     let block = block_of(part, f, added, i);
-    let labels = labels_of(actions, a, part, f, i);
+    let labels = labels_of(masks, a, part, f, i);
     Shape {
         kind: x.kind,
         second: second,
@@ -98,9 +100,9 @@ pub fn added_before(part: &[u8], f: usize) -> usize
 }
 
 // The shapes of all nodes. Where a nu is put before the root, it is the first.
-pub fn shapes_of(actions: &[u8], a: usize, part: &[u8], f: usize) -> [Shape; SHAPES]
-    requires { ⌜ Tables (now actions) a (now part) f ⌝ ∗ ⌜ 1 ≤ f ⌝ }
-    ensures { λ r. ⌜ HoldsShapes (now (actions .entry)) a (now (part .entry)) f r ⌝ }
+pub fn shapes_of(masks: &[u64], a: usize, part: &[u8], f: usize) -> [Shape; SHAPES]
+    requires { ⌜ Tables (now masks) a (now part) f ⌝ ∗ ⌜ 1 ≤ f ⌝ }
+    ensures { λ r. ⌜ ((action : ℕ → Action) → ActionMasks action a (now (masks .entry)) → HoldsShapes action (now (part .entry)) f r) ⌝ }
 {
     let added = added_before(part, f);
     let nu = Shape {
@@ -111,7 +113,7 @@ pub fn shapes_of(actions: &[u8], a: usize, part: &[u8], f: usize) -> [Shape; SHA
     };
     let mut shapes = [nu; SHAPES];
     for i in 0..f {
-        shapes[added + i] = shape_at(actions, a, part, f, added, i);
+        shapes[added + i] = shape_at(masks, a, part, f, added, i);
     }
     shapes
 }

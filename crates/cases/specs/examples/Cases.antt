@@ -3,63 +3,69 @@ use mathlib.Core.Path.{_≡_, refl}
 use mathlib.Core.Bool.{Bool, true, false}
 use mathlib.Core.List.{List, [], _∷_, _++_, map, flatMap}
 use Prim.Native.Nat.{ℕ, _+_, _-_, _*_, _/_, _%_}
-use lib.Dec.{eqb}
 use lib.ListN.{length, set, take, replicate}
-use Rattle.sets.specs.Lists.{numbersFrom, every}
+use Rattle.sets.specs.Lists.{numbersFrom, every, forSome, keep}
 use Rattle.sets.specs.Words.{stateLimit}
 use Rattle.solver.specs.File.{blockLimit}
 use Rattle.sets.specs.Refusals.{firstOf}
 use Rattle.cases.specs.Action.{accepts}
 use Rattle.cases.specs.Prefix.{wholeFormulas, exactly, span, trees, actionAt}
-use Rattle.cases.specs.File.{u16, headerSize, Transition, transitionTable, actionTable, formulaTable, labelLimit, transitionLimit, actionLimit, nodeLimit}
-use Rattle.cases.specs.Case.{sameTransition, copies, copiesBefore, keep, distinct}
+use Rattle.cases.specs.File.{u16, headerSize, headerOf, labelRecords, Transition, labelTable, transitionTable, actionTable, formulaTable, labelLimit, nameLimit, transitionLimit, actionLimit, nodeLimit}
+use Rattle.cases.specs.Labels.{alike, alikeLabels}
+use Rattle.cases.specs.Case.{sameTransition, copies, copiesBefore, distinct}
 use Rattle.cases.specs.Tally.{tallied}
-use Rattle.cases.specs.Conditions.{tooSmall, otherVersion, badCount, badOffset, badLength, badModel, badActions, badFormula, boundOk, badVariable, binderCount, blockTotal, tooDeep}
+use Rattle.cases.specs.Conditions.{tooSmall, otherVersion, badCount, badOffset, badLength, badModel, padded, badLabels, badActions, badFormula, boundOk, badVariable, binderCount, blockTotal, tooDeep}
+use Rattle.cases.specs.internal.Checks.{largestCase}
 use Rattle.cases.specs.Conditions.{layoutConditions, modelConditions, formulaConditions, caseConditions, caseRefusal}
 
 -- numbers of 16 bits as bytes, low byte first
-bytes : List ℕ → List ℕ
+unfoldable pub bytes : List ℕ → List ℕ
 bytes [] = []
 bytes (x ∷ xs) = x % 256 ∷ x / 256 % 256 ∷ bytes xs
 
+-- how many bytes a header of version 1 has
+abbrev pub header : ℕ
+header = 20
+
 -- P1's offsets: three transitions, then an action node
 abbrev p1Actions : ℕ
-p1Actions = headerSize + 6 * 3
+p1Actions = header + 6 * 3
 
 abbrev p1Formula : ℕ
 p1Formula = p1Actions + 4
 
 -- P1, number by number: header, three transitions, an action node, three formula nodes
-p1 : List ℕ
+unfoldable pub p1 : List ℕ
 p1 =
-    1 ∷ 3 ∷ 3 ∷ 2 ∷ 0 ∷ 1 ∷ 3 ∷ headerSize ∷ p1Actions ∷ p1Formula
+    1 ∷ 3 ∷ 3 ∷ 2 ∷ 0 ∷ 1 ∷ 3 ∷ header ∷ p1Actions ∷ p1Formula
     ∷ 0 ∷ 0 ∷ 1 ∷ 0 ∷ 0 ∷ 1 ∷ 1 ∷ 1 ∷ 2
     ∷ 1 ∷ 0
     ∷ 7 ∷ 0 ∷ 4 ∷ 0 ∷ 6 ∷ 0 ∷ []
 
 -- the place of the first number after the header
 abbrev tables : ℕ
-tables = headerSize / 2
+tables = header / 2
+
+-- other numbers at some places
+unfoldable pub setAll : List (ℕ × ℕ) → List ℕ → List ℕ
+setAll [] xs = xs
+setAll (c ∷ cs) xs = setAll cs (set xs (c .0) (c .1))
 
 -- P1 with other numbers at some places: from `tables` on there are 9 numbers of transitions, 2 of the action node, 6 of formula nodes
 changed : List (ℕ × ℕ) → List ℕ
-unfolding bytes p1
-changed cs = bytes (go cs p1)
-  where
-    go : List (ℕ × ℕ) → List ℕ → List ℕ
-    go [] xs = xs
-    go (c ∷ cs) xs = go cs (set xs (c .0) (c .1))
+unfolding bytes p1 setAll
+changed cs = bytes (setAll cs p1)
 
 -- nodes of kind and argument, as numbers
-flat : List (ℕ × ℕ) → List ℕ
+unfoldable pub flat : List (ℕ × ℕ) → List ℕ
 unfolding flatMap
 flat xs = flatMap (λ x. x .0 ∷ x .1 ∷ []) xs
 
--- a case of one state and two labels without transitions
+-- a case of one state and three labels without transitions
 still : List (ℕ × ℕ) → List (ℕ × ℕ) → List ℕ
 unfolding bytes flat
 still actions nodes =
-    bytes (1 ∷ 1 ∷ 0 ∷ 2 ∷ 0 ∷ length actions ∷ length nodes ∷ headerSize ∷ headerSize ∷ (headerSize + 4 * length actions) ∷ (flat actions ++ flat nodes))
+    bytes (1 ∷ 1 ∷ 0 ∷ 3 ∷ 0 ∷ length actions ∷ length nodes ∷ header ∷ header ∷ (header + 4 * length actions) ∷ (flat actions ++ flat nodes))
 
 -- d nested nu over true
 nested : ℕ → List (ℕ × ℕ)
@@ -105,14 +111,14 @@ damaged : List Example
 unfolding bytes p1 changed
 damaged =
     ([], 1)
-    ∷ (take (headerSize - 1) (bytes p1), 1)
+    ∷ (take (header - 1) (bytes p1), 1)
     -- version
     ∷ (changed ((0, 0) ∷ []), 2)
     ∷ (changed ((0, 9) ∷ []), 2)
     ∷ (changed ((0, 257) ∷ []), 2)
     -- offsets
-    ∷ (changed ((7, headerSize + 1) ∷ []), 4)
-    ∷ (changed ((7, headerSize - 1) ∷ []), 4)
+    ∷ (changed ((7, header + 1) ∷ []), 4)
+    ∷ (changed ((7, header - 1) ∷ []), 4)
     ∷ (changed ((8, p1Actions + 1) ∷ []), 4)
     ∷ (changed ((8, p1Actions - 1) ∷ []), 4)
     ∷ (changed ((9, p1Formula + 1) ∷ []), 4)
@@ -120,7 +126,7 @@ damaged =
     -- length
     ∷ ((bytes p1 ++ (0 ∷ [])), 5)
     ∷ (take (length (bytes p1) - 1) (bytes p1), 5)
-    ∷ (take headerSize (bytes p1), 5)
+    ∷ (take header (bytes p1), 5)
     -- initial state; source, label and target of a transition
     ∷ (changed ((4, 2) ∷ []), 0)
     ∷ (changed ((4, 3) ∷ []), 6)
@@ -190,9 +196,10 @@ unfolding bytes p1 counted damaged formed
 examples = (bytes p1, 0) ∷ (counted ++ (damaged ++ formed))
 
 -- what an example is refused with, with all that this computes with
-pub answer : Example → ℕ
-unfolding caseRefusal caseConditions firstOf layoutConditions modelConditions formulaConditions tooSmall otherVersion badCount badOffset badLength badModel badActions
-    badFormula boundOk badVariable binderCount blockTotal tooDeep u16 transitionTable actionTable formulaTable wholeFormulas exactly span numbersFrom every
+unfoldable pub answer : Example → ℕ
+unfolding caseRefusal caseConditions firstOf layoutConditions modelConditions formulaConditions tooSmall otherVersion badCount badOffset badLength badModel badLabels
+    badActions badFormula boundOk badVariable binderCount blockTotal tooDeep u16 headerSize labelRecords labelTable transitionTable actionTable formulaTable padded wholeFormulas
+    exactly span numbersFrom every forSome
 answer x = caseRefusal (x .0)
 
 -- each example comes out as given
@@ -205,14 +212,14 @@ pub accepted : List (List Bool)
 unfolding still
 accepted =
     let b : List ℕ = still ((6, 0) ∷ (2, 0) ∷ (4, 0) ∷ (3, 0) ∷ (2, 1) ∷ (2, 2) ∷ []) ((1, 0) ∷ []) in
-    map (λ j. map (accepts eqb (actionAt (actionTable b) j)) (numbersFrom 0 3)) (0 ∷ 2 ∷ [])
+    map (λ j. map (accepts (actionAt (alikeLabels (headerOf b) (labelTable b)) (actionTable b) j)) (numbersFrom 0 3)) (0 ∷ 2 ∷ [])
 
 -- Transitions of which the second and the last are recorded before: a transition with the same ends and another label is another one.
 pub recorded : List Transition
 unfolding bytes
 recorded =
     transitionTable (bytes
-    (1 ∷ 3 ∷ 5 ∷ 2 ∷ 0 ∷ 0 ∷ 1 ∷ headerSize ∷ (headerSize + 6 * 5) ∷ (headerSize + 6 * 5)
+    (1 ∷ 3 ∷ 5 ∷ 2 ∷ 0 ∷ 0 ∷ 1 ∷ header ∷ (header + 6 * 5) ∷ (header + 6 * 5)
     ∷ 1 ∷ 1 ∷ 2 ∷ 1 ∷ 1 ∷ 2 ∷ 0 ∷ 0 ∷ 1 ∷ 1 ∷ 0 ∷ 2 ∷ 1 ∷ 1 ∷ 2
     ∷ 1 ∷ 0 ∷ []))
 
@@ -221,11 +228,14 @@ pub read :
     × (map (copiesBefore recorded) (numbersFrom 0 5) ≡ 0 ∷ 1 ∷ 0 ∷ 0 ∷ 2 ∷ [])
     × (distinct recorded ≡ record { source = 1; label = 1; target = 2 } ∷ record { source = 0; label = 0; target = 1 } ∷ record { source = 1; label = 0; target = 2 } ∷ [])
     × (tallied recorded ≡ record { records = 5; distinct = 3 })
-unfolding accepted recorded tallied u16 transitionTable actionTable actionAt trees accepts distinct keep copies copiesBefore sameTransition numbersFrom
+unfolding accepted recorded tallied u16 headerSize labelRecords labelTable alikeLabels alike transitionTable actionTable actionAt trees accepts distinct keep copies copiesBefore sameTransition numbersFrom
 read = (refl, refl, refl, refl)
 
--- the header's size, P1's offsets and the limits as the paper has them
+-- the header's size by version, P1's offsets, the limits and the largest case's length as the paper has them
 pub limits :
-    (headerSize ∷ p1Actions ∷ p1Formula ∷ [] ≡ 20 ∷ 38 ∷ 42 ∷ [])
-    × (stateLimit ∷ transitionLimit ∷ labelLimit ∷ actionLimit ∷ nodeLimit ∷ blockLimit ∷ [] ≡ 256 ∷ 2_048 ∷ 64 ∷ 128 ∷ 64 ∷ 6 ∷ [])
-limits = (refl, refl)
+    (map headerSize (numbersFrom 0 5) ≡ 20 ∷ 20 ∷ 22 ∷ 20 ∷ 20 ∷ [])
+    × (header ∷ p1Actions ∷ p1Formula ∷ [] ≡ 20 ∷ 38 ∷ 42 ∷ [])
+    × (stateLimit ∷ transitionLimit ∷ labelLimit ∷ nameLimit ∷ actionLimit ∷ nodeLimit ∷ blockLimit ∷ [] ≡ 256 ∷ 2_048 ∷ 64 ∷ 255 ∷ 128 ∷ 64 ∷ 6 ∷ [])
+    × (largestCase ≡ 13_590)
+unfolding headerSize numbersFrom
+limits = (refl, refl, refl, refl)

@@ -7,10 +7,13 @@ use lib.ListN.{length, drop}
 use Rattle.sets.specs.Lists.{numbersFrom}
 use Rattle.sets.specs.Words.{stateLimit}
 use Rattle.cases.specs.Prefix.{Node}
-use Rattle.cases.specs.File.{Header, headerSize, headerOf, transitionsStart, actionsStart, formulaStart, fileEnd, Transition, transitionIn, nodeIn, labelLimit, transitionLimit, actionLimit, nodeLimit}
+use Rattle.cases.specs.File.{Header, headerSize, version, headerOf, labelRecords, labelsStart, transitionsStart, actionsStart, formulaStart, fileEnd, Label, labelIn, Transition, transitionIn, nodeIn, labelLimit, transitionLimit, actionLimit, nodeLimit}
 use Rattle.cases.specs.Conditions.{actionOk, nodeOk}
 
 -- the parts of a file that start at its tables
+abbrev pub labelPart : List ℕ → List ℕ
+labelPart b = drop (headerOf b .«labels_at») b
+
 abbrev pub transitionPart : List ℕ → List ℕ
 transitionPart b = drop (headerOf b .«transitions_at») b
 
@@ -20,7 +23,10 @@ actionPart b = drop (headerOf b .«actions_at») b
 abbrev pub formulaPart : List ℕ → List ℕ
 formulaPart b = drop (headerOf b .«formula_at») b
 
--- the first transitions, or nodes, of a part
+-- the first label records, transitions, or nodes, of a part
+unfoldable pub labelsIn : List ℕ → ℕ → List Label
+labelsIn part k = map (labelIn part) (numbersFrom 0 k)
+
 unfoldable pub transitionsIn : List ℕ → ℕ → List Transition
 transitionsIn part m = map (transitionIn part) (numbersFrom 0 m)
 
@@ -48,16 +54,29 @@ pub record CountsFit (h : Header) : Type 0 where
   pub some-node : 1 ≤ h .nodes
   pub few-nodes : h .nodes ≤ nodeLimit
 
+-- a part holds the label records of a header with few labels
+pub record LabelPart (part : List ℕ) (h : Header) : Type 0 where
+  pub few : h .labels ≤ labelLimit
+  pub inside : 8 * labelRecords h ≤ length part
+
 -- what holds of a case and its header if none of the conditions of its layout does, but for the version
 pub record Laid (b : List ℕ) (h : Header) : Type 0 where
   pub read : h ≡ headerOf b
-  pub header : headerSize ≤ length b
+  pub header : headerSize (version b) ≤ length b
   pub counts : CountsFit h
-  pub transitions : h .«transitions_at» ≡ transitionsStart
+  pub labels : h .«labels_at» ≡ labelsStart h
+  pub transitions : h .«transitions_at» ≡ transitionsStart h
   pub actions : h .«actions_at» ≡ actionsStart h
   pub formula : h .«formula_at» ≡ formulaStart h
   pub ends : length b ≡ fileEnd h
 
+-- how many bytes the header has that all versions have, and how many the longest one has; the code's HEADER and LONGEST_HEADER
+abbrev pub commonHeader : ℕ
+commonHeader = 20
+
+abbrev pub longestHeader : ℕ
+longestHeader = 22
+
 -- the length of the largest case, the code's LARGEST
 abbrev pub largestCase : ℕ
-largestCase = headerSize + 6 * transitionLimit + 4 * actionLimit + 4 * nodeLimit
+largestCase = longestHeader + 8 * labelLimit + 6 * transitionLimit + 4 * actionLimit + 4 * nodeLimit

@@ -1,6 +1,6 @@
 -- Tables that can be read, and what each node makes of its operands.
 use mathlib.Core.Path.{_≡_}
-use mathlib.Core.Bool.{true, false}
+use mathlib.Core.Bool.{Bool, true, false}
 use mathlib.Core.List.{List, [], _∷_, map}
 use Prim.Native.Nat.{ℕ, _≤_, _<_}
 use lib.ListN.{length, getD}
@@ -35,11 +35,11 @@ made (constant c) a b = c
 made (unary f) a b = f a
 made (binary f) a b = f a b
 
--- what an action node with argument arg makes, by its kind
-abbrev pub actionOperator : ℕ → ℕ → Operator Action
-actionOperator arg k =
+-- what an action node with argument arg makes, by its kind, where `alikeTo j` is the set of the labels that are alike to label j
+abbrev pub actionOperator : (ℕ → List Bool) → ℕ → ℕ → Operator Action
+actionOperator alikeTo arg k =
     getD
-    (constant Action.False ∷ constant Action.True ∷ constant (Action.Label arg)
+    (constant Action.False ∷ constant Action.True ∷ constant (Action.Label (alikeTo arg))
     ∷ unary Action.Not ∷ binary Action.And ∷ binary Action.Or ∷ binary Action.Implies ∷ [])
     k (constant Action.False)
 

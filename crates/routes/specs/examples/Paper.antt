@@ -2,7 +2,7 @@
 use mathlib.Core.Path.{_≡_, refl}
 use mathlib.Core.List.{List, [], _∷_, map}
 use Prim.Native.Nat.{ℕ}
-use Rattle.sets.specs.Lists.{numbersFrom, every, forSome}
+use Rattle.sets.specs.Lists.{numbersFrom, every, forSome, keep}
 use Rattle.sets.specs.States.{size, update}
 use Rattle.sets.specs.computed.Iteration.{repeated, same}
 use Rattle.solver.specs.Cells.{value, operandsOf}
@@ -13,9 +13,10 @@ use Rattle.solver.specs.Outcome.{solveTooShort}
 use Rattle.cases.specs.Action.{accepts}
 use Rattle.cases.specs.Formula.{nodes}
 use Rattle.cases.specs.Prefix.{trees, actionAt, formulaAt, wholeFormulas, exactly, span}
-use Rattle.cases.specs.File.{u16, transitionTable, actionTable, formulaTable}
-use Rattle.cases.specs.Case.{caseOf, sameTransition, copies, copiesBefore, keep, distinct}
-use Rattle.cases.specs.Conditions.{tooSmall, otherVersion, badCount, badOffset, badLength, badModel, badActions, badFormula, boundOk, badVariable, binderCount, blockTotal, tooDeep, layoutConditions, modelConditions, formulaConditions, caseConditions, caseRefusal}
+use Rattle.cases.specs.File.{u16, headerSize, labelRecords, labelTable, transitionTable, actionTable, formulaTable}
+use Rattle.cases.specs.Labels.{namesOf, occurrences, sameNames, alike, alikeLabels}
+use Rattle.cases.specs.Case.{caseOf, sameTransition, copies, copiesBefore, distinct}
+use Rattle.cases.specs.Conditions.{tooSmall, otherVersion, badCount, badOffset, badLength, badModel, padded, badLabels, badActions, badFormula, boundOk, badVariable, binderCount, blockTotal, tooDeep, layoutConditions, modelConditions, formulaConditions, caseConditions, caseRefusal}
 use Rattle.cases.specs.Tally.{tallied, tallyOf}
 use Rattle.cases.specs.declared.Tally.{Tally}
 use Rattle.translate.specs.Whole.{raise, bindsFirst, whole, binderNodes, indexIn, blockIn}
@@ -38,7 +39,7 @@ reported v c r = record { refusal = 0; verdict = v; count = c; rounds = r }
 unfoldable pub tally : ℕ → ℕ → Tally
 tally r d = record { records = r; distinct = d }
 
-pub paper : List Example
+unfoldable pub paper : List Example
 unfolding p1 p2 p3 p4 p5 p6 p7 p8 still caseFile halves reported tally
 paper =
     (p1, programLimit, reported 1 3 4, reported 1 3 4, tally 3 2)
@@ -56,9 +57,9 @@ paper =
 -- what a route answers, with all that this computes with
 unfoldable pub answer : Route → Example → Outcome
 unfolding routeOutcome outcomeBy routeConditions runConditions Route·tooShort Route·exceeds runOf worked repeated update
-    same size numbersFrom every forSome accepts nodes u16 transitionTable actionTable formulaTable trees actionAt formulaAt caseOf
+    same size numbersFrom every forSome accepts nodes u16 headerSize labelRecords labelTable alikeLabels alike sameNames occurrences namesOf transitionTable actionTable formulaTable trees actionAt formulaAt caseOf
     sameTransition copies copiesBefore keep distinct caseConditions firstOf layoutConditions modelConditions formulaConditions
-    tooSmall otherVersion badCount badOffset badLength badModel badActions badFormula boundOk badVariable binderCount blockTotal
+    tooSmall otherVersion badCount badOffset badLength badModel badLabels padded badActions badFormula boundOk badVariable binderCount blockTotal
     tooDeep wholeFormulas exactly span fileOf numbers systemOf bytes cellNumbers blockNumbers allOperands operandsOf cellsFrom
     blocksFrom cellOf targets whole raise bindsFirst binderNodes indexIn blockIn solveTooShort run solved evaluate workOut value u32
     blocks operands entries entryCell cells
@@ -66,9 +67,9 @@ answer R x = outcomeOf R (x .0) programMemory (x .1)
 
 -- the tally of an example, with all that this computes with
 unfoldable pub tallyIn : Example → Tally
-unfolding tallyOf tallied caseRefusal numbersFrom every u16 transitionTable actionTable formulaTable caseOf sameTransition copies copiesBefore keep
+unfolding tallyOf tallied caseRefusal numbersFrom every forSome u16 headerSize labelRecords labelTable transitionTable actionTable formulaTable caseOf sameTransition copies copiesBefore keep
     distinct caseConditions firstOf layoutConditions modelConditions formulaConditions tooSmall otherVersion badCount badOffset badLength badModel
-    badActions badFormula boundOk badVariable binderCount blockTotal tooDeep wholeFormulas exactly span
+    badLabels padded badActions badFormula boundOk badVariable binderCount blockTotal tooDeep wholeFormulas exactly span
 tallyIn x = tallyOf (x .0)
 
 -- P1 to P8 come out as given, by both routes; P1 has its equation file, and P7 has d 7

@@ -13,12 +13,12 @@ use Rattle.cases.specs.Action.{Action}
 use Rattle.cases.specs.declared.Header.{Header}
 use Rattle.cases.specs.declared.Node.{Node}
 use Rattle.cases.specs.declared.Transition.{Transition}
-use Rattle.cases.specs.Prefix.{arityIn, formulaArities, endOf, actionAt, formulaAt}
+use Rattle.cases.specs.Prefix.{arityIn, formulaArities, endOf, formulaAt}
 use Rattle.cases.specs.Case.{Case}
 use Rattle.cases.specs.Conditions.{transitionOk, nodeAt, isBinder, binderCount, badFormula, badVariable}
-use Rattle.cases.specs.internal.Masks.{maskOf, WholeActions}
+use Rattle.cases.specs.internal.Masks.{WholeActions, actionIn, ActionMasks}
 use Rattle.cases.specs.Meaning.{boxIn, diamondIn}
-use Rattle.cases.specs.internal.Checks.{transitionsIn, nodesIn, NodesFit}
+use Rattle.cases.specs.internal.Checks.{transitionsIn, nodesIn, LabelPart, NodesFit}
 use Rattle.routes.specs.Direct.{Direct}
 use Rattle.routes.specs.declared.Value.{Value}
 
@@ -44,45 +44,34 @@ pub record FormulaPart (part : List ℕ) (f actions : ℕ) : Type 0 where
   pub bound : badVariable (nodesIn part f) ≡ false
   pub shallow : binderCount (nodesIn part f) ≤ blockLimit
 
--- an action table of a nodes that makes whole formulas
-pub record ActionPart (part : List ℕ) (a : ℕ) : Type 0 where
-  pub holds : NodesFit actionLimit part a
-  pub whole : WholeActions (nodesIn part a)
-
 -- the case of a header's counts and the parts of a file that start at its tables
-unfoldable pub caseIn : Header → List ℕ → List ℕ → List ℕ → Case
-caseIn h records actions formula = record {
+unfoldable pub caseIn : Header → List ℕ → List ℕ → List ℕ → List ℕ → Case
+caseIn h labels records actions formula = record {
   states = h .states;
   labels = h .labels;
   initial = h .initial;
   transitions = transitionsIn records (h .transitions);
-  formula = formulaAt (actionAt (nodesIn actions (h .actions))) (nodesIn formula (h .nodes)) 0;
+  formula = formulaAt (actionIn h labels actions) (nodesIn formula (h .nodes)) 0;
 }
 
 -- What direct needs of the parts; those of an accepted case have it.
-pub record CaseParts (h : Header) (records actions formula : List ℕ) : Type 0 where
+pub record CaseParts (h : Header) (labels records actions formula : List ℕ) : Type 0 where
   pub model : Records records (h .transitions) (h .states) (h .labels)
   pub initial : h .initial < h .states
-  pub action-part : ActionPart actions (h .actions)
+  pub label-part : LabelPart labels h
+  pub action-part : NodesFit actionLimit actions (h .actions)
+  pub whole-actions : WholeActions (h .labels) (nodesIn actions (h .actions))
   pub formula-part : FormulaPart formula (h .nodes) (h .actions)
-
--- a box or a diamond
-abbrev pub isModal : Node → Type 0
-isModal x = (4 ≤ x .kind) × (x .kind ≤ 5)
-
--- where `action j` is the action formula at action node j, mask i is that of the labels which box or diamond i accepts
-pub record Masks (action : ℕ → Action) (table : List Node) (labels : List ℕ) : Type 0 where
-  pub mask : (i : ℕ) → i < length table → isModal (nodeAt table i) → getD labels i 0 ≡ maskOf (action (nodeAt table i .arg))
 
 -- number i is the block of binder i: the binders before it are counted
 pub record BinderBlocks (table : List Node) (blocks : List ℕ) : Type 0 where
   pub block : (i : ℕ) → i < length table → isBinder (nodeAt table i) ≡ true → getD blocks i 0 ≡ binderCount (take i table)
 
--- all of it, with room in both arrays
-pub record Parts (h : Header) (records formula labels blocks : List ℕ) : Type 0 where
+-- all of it, with room for a mask of each action formula and a block of each node
+pub record Parts (h : Header) (records formula masks blocks : List ℕ) : Type 0 where
   pub model : Records records (h .transitions) (h .states) (h .labels)
   pub nodes : FormulaPart formula (h .nodes) (h .actions)
-  pub labels-room : h .nodes ≤ length labels
+  pub masks-room : h .actions ≤ length masks
   pub blocks-room : h .nodes ≤ length blocks
   pub numbered : BinderBlocks (nodesIn formula (h .nodes)) blocks
 
@@ -92,8 +81,8 @@ pub record Shown (n : ℕ) (table : List Node) (rows : List (List ℕ)) (ρ : Va
   pub row : (i : ℕ) → i < length table → isBinder (nodeAt table i) ≡ true → getD rows (binderCount (take i table)) [] ≡ words wordCount (ρ i)
 
 -- a node to evaluate, after `used` rounds
-pub record Asks (h : Header) (records formula labels blocks : List ℕ) (at used limit : ℕ) : Type 0 where
-  pub parts : Parts h records formula labels blocks
+pub record Asks (h : Header) (records formula masks blocks : List ℕ) (at used limit : ℕ) : Type 0 where
+  pub parts : Parts h records formula masks blocks
   pub node : at < h .nodes
   pub within : used ≤ limit
 
@@ -104,11 +93,11 @@ pub record KindAt (formula : List ℕ) (f at kind low high : ℕ) : Type 0 where
   pub to : kind ≤ high
 
 -- What evaluating node `at` answers, after `used` rounds: spent exactly if the limit is below the rounds in all.
-module _ (h : Header) (records formula labels : List ℕ) (rows : List (List ℕ)) (at used limit : ℕ) where
+module _ (h : Header) (records formula masks : List ℕ) (rows : List (List ℕ)) (at used limit : ℕ) where
   -- what the rule works out at the node
   abbrev pub Rule : (ℕ → Action) → Valuation → States → ℕ → Type 0
   Rule action ρ v r =
-      Masks action (nodesIn formula (h .nodes)) labels
+      ActionMasks action (h .actions) masks
       × Shown (h .states) (nodesIn formula (h .nodes)) rows ρ
       × Direct (h .states) (transitionsIn records (h .transitions)) (formulaAt action (nodesIn formula (h .nodes)) at) ρ v r
 

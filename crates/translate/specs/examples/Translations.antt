@@ -3,17 +3,19 @@ use mathlib.Core.Path.{_≡_, refl}
 use mathlib.Core.Bool.{Bool, true, false}
 use mathlib.Core.List.{List, [], _∷_, _++_, map, flatMap}
 use Prim.Native.Nat.{ℕ, zero, suc, _+_, _*_, _/_, _%_}
-use lib.ListN.{replicate, take}
-use Rattle.sets.specs.Lists.{numbersFrom, every, forSome}
+use lib.ListN.{replicate, take, drop, set}
+use Rattle.sets.specs.Lists.{numbersFrom, every, forSome, keep}
 use Rattle.solver.specs.File.{blockLimit, blocksAt}
 use Rattle.solver.specs.Cells.{operandsOf}
 use Rattle.sets.specs.Refusals.{firstOf}
 use Rattle.cases.specs.Action.{accepts}
+use Rattle.cases.specs.declared.Header.{Header}
 use Rattle.cases.specs.Formula.{nodes}
 use Rattle.cases.specs.Prefix.{trees, actionAt, formulaAt, wholeFormulas, exactly, span}
-use Rattle.cases.specs.File.{u16, transitionTable, actionTable, formulaTable}
-use Rattle.cases.specs.Case.{Case, caseOf, sameTransition, copies, copiesBefore, keep, distinct}
-use Rattle.cases.specs.Conditions.{tooSmall, otherVersion, badCount, badOffset, badLength, badModel, badActions, badFormula, boundOk, badVariable, binderCount, blockTotal, tooDeep, layoutConditions, modelConditions, formulaConditions, caseConditions}
+use Rattle.cases.specs.File.{u16, headerSize, headerOf, labelRecords, labelTable, transitionTable, actionTable, formulaTable}
+use Rattle.cases.specs.Labels.{namesOf, occurrences, sameNames, alike, alikeLabels}
+use Rattle.cases.specs.Case.{Case, caseOf, sameTransition, copies, copiesBefore, distinct}
+use Rattle.cases.specs.Conditions.{tooSmall, otherVersion, badCount, badOffset, badLength, badModel, padded, badLabels, badActions, badFormula, boundOk, badVariable, binderCount, blockTotal, tooDeep, layoutConditions, modelConditions, formulaConditions, caseConditions}
 use Rattle.translate.specs.Translating.{translateConditions, translateRefusal}
 use Rattle.translate.specs.Whole.{raise, bindsFirst, whole, binderNodes, indexIn, blockIn}
 use Rattle.translate.specs.Tables.{Expression, ⋀, Sat⇒, X, nil, cons, each, RHS, E}
@@ -30,6 +32,17 @@ halves (x ∷ xs) = x % 256 ∷ x / 256 % 256 ∷ halves xs
 unfoldable pub caseFile : (n t l initial a f : ℕ) → List ℕ → List ℕ
 unfolding halves
 caseFile n t l initial a f tables = halves (1 ∷ n ∷ t ∷ l ∷ initial ∷ a ∷ f ∷ 20 ∷ (20 + 6 * t) ∷ (20 + 6 * t + 4 * a) ∷ tables)
+
+-- a case of version 1 as one of version 2: label j has the one name j + 1, and the tables stand behind the label records
+unfoldable pub labelled : List ℕ → List ℕ
+unfolding halves u16 numbersFrom flatMap
+labelled b =
+    let h : Header = headerOf b in
+    let more : ℕ = 2 + 8 * h .labels in
+    halves
+    (2 ∷ h .states ∷ h .transitions ∷ h .labels ∷ h .initial ∷ h .actions ∷ h .nodes
+    ∷ (h .«transitions_at» + more) ∷ (h .«actions_at» + more) ∷ (h .«formula_at» + more) ∷ 22
+    ∷ flatMap (λ j. (j + 1) ∷ 0 ∷ 0 ∷ 0 ∷ []) (numbersFrom 0 (h .labels))) ++ drop 20 b
 
 -- an equation file with the offsets that its counts of blocks, cells and operands ask for
 equationFile : (n d c p initial : ℕ) → List ℕ → List ℕ
@@ -187,10 +200,12 @@ abbrev pub Example : Type 0
 Example = List ℕ × List ℕ
 
 pub examples : List Example
-unfolding p1 p1Equations p2 p3 diamondsEquations copied copiedEquations middle middleEquations caseFile equationFile still p4 p5 p6 p8 deep loops forty nested
+unfolding p1 p1Equations p2 p3 labelled diamondsEquations copied copiedEquations middle middleEquations caseFile equationFile still p4 p5 p6 p8 deep loops forty nested
 examples =
     (p1, p1Equations)
     ∷ (p2, diamondsEquations 1 0)
+    ∷ (labelled p1, p1Equations)
+    ∷ (labelled p2, diamondsEquations 1 0)
     ∷ (p3, diamondsEquations 0 1)
     ∷ (copied, copiedEquations)
     ∷ (middle, middleEquations)
@@ -220,7 +235,7 @@ examples =
 pub equations : List ℕ → List ℕ
 unfolding fileOf numbers systemOf bytes cellNumbers blockNumbers allOperands operandsOf cellsFrom blocksFrom cellOf targets
     whole raise bindsFirst binderNodes indexIn blockIn caseOf sameTransition copies copiesBefore keep distinct
-    u16 transitionTable actionTable formulaTable trees actionAt formulaAt nodes accepts numbersFrom every forSome
+    u16 headerSize labelRecords labelTable alikeLabels alike sameNames occurrences namesOf transitionTable actionTable formulaTable trees actionAt formulaAt nodes accepts numbersFrom every forSome
 equations b = fileOf (caseOf b)
 
 -- each example comes out as given
@@ -230,15 +245,17 @@ come-out = refl
 
 -- what the bytes of a case are refused with, where the buffer has so many bytes, with all that this computes with
 pub refusals : List ℕ → List ℕ → List ℕ
-unfolding equations translateRefusal translateConditions caseConditions firstOf layoutConditions modelConditions formulaConditions tooSmall otherVersion badCount badOffset badLength badModel badActions
+unfolding equations translateRefusal translateConditions caseConditions firstOf layoutConditions modelConditions formulaConditions tooSmall otherVersion badCount badOffset badLength badModel badLabels padded badActions
     badFormula boundOk badVariable binderCount blockTotal tooDeep wholeFormulas exactly span
 refusals b rooms = map (translateRefusal b) rooms
 
--- P1 in buffers that are too short, just long enough, and longer; and P1 cut short, P7, and one block too many, which no buffer helps
+-- P1 in buffers that are too short, just long enough, and longer; and P1 cut short, P7, one block too many, and a name above the limit, which no
+-- buffer helps
 pub rooms : (refusals p1 (0 ∷ 159 ∷ 160 ∷ 200 ∷ []) ≡ 13 ∷ 13 ∷ 0 ∷ 0 ∷ []) × (refusals (take 53 p1) (0 ∷ 200 ∷ []) ≡ 5 ∷ 5 ∷ [])
     × (refusals p7 (0 ∷ 200 ∷ []) ≡ 10 ∷ 10 ∷ []) × (refusals (deep (blockLimit + 1)) (0 ∷ 200 ∷ []) ≡ 10 ∷ 10 ∷ [])
-unfolding refusals p1 p7 deep
-rooms = (refl, refl, refl, refl)
+    × (refusals (set (labelled p1) 23 1) (0 ∷ 200 ∷ []) ≡ 15 ∷ 15 ∷ [])
+unfolding refusals p1 p7 deep labelled
+rooms = (refl, refl, refl, refl, refl)
 
 -- An equation written out: sign, block, and the right-hand sides of states 0, 1 and so on, as the table has them and without Sat.
 abbrev pub Shown : Type 0

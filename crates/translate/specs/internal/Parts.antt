@@ -5,12 +5,11 @@ use mathlib.Core.List.{List, [], _∷_, _++_, map}
 use Prim.Native.Nat.{ℕ, _+_, _*_, _≤_}
 use lib.Dec.{eqb}
 use lib.ListN.{length, getD, take, drop}
-use Rattle.sets.specs.Lists.{numbersFrom}
+use Rattle.sets.specs.Lists.{numbersFrom, keep}
 use Rattle.sets.specs.Words.{stateLimit}
 use Rattle.solver.specs.Cells.{Cell}
 use Rattle.cases.specs.File.{transitionIn, nodeLimit}
 use Rattle.cases.specs.declared.Transition.{Transition}
-use Rattle.cases.specs.Case.{keep}
 use Rattle.translate.specs.declared.Shape.{Shape}
 use Rattle.translate.specs.Bytes.{bytes, allOperands, cellNumbers}
 use Rattle.translate.specs.internal.Writing.{leaves}

@@ -5,10 +5,9 @@ use mathlib.Core.List.{List}
 use Prim.Native.Nat.{ℕ, _+_, _≤_, _<_}
 use lib.Dec.{eqb}
 use lib.ListN.{length, take}
-use Rattle.cases.specs.File.{actionLimit, nodeLimit}
-use Rattle.cases.specs.Prefix.{actionAt}
+use Rattle.cases.specs.File.{nodeLimit}
+use Rattle.cases.specs.Action.{Action}
 use Rattle.cases.specs.Conditions.{nodeAt}
-use Rattle.cases.specs.internal.Masks.{WholeActions}
 use Rattle.cases.specs.internal.Checks.{nodesIn, NodesFit}
 use Rattle.translate.specs.declared.Shape.{Shape}
 use Rattle.translate.specs.internal.Shapes.{tableShapes}
@@ -18,16 +17,14 @@ pub record CountableBlocks (part : List ℕ) (f : ℕ) : Type 0 where
   pub node-part : NodesFit nodeLimit part f
   pub variable : (i : ℕ) → i < f → nodeAt (nodesIn part f) i .kind ≡ 6 → nodeAt (nodesIn part f) i .arg ≤ f
 
--- such a table, and an action table of a nodes that has the argument of each box and diamond
-pub record Tables (actions : List ℕ) (a : ℕ) (part : List ℕ) (f : ℕ) : Type 0 where
-  pub action-part : NodesFit actionLimit actions a
-  pub whole-actions : WholeActions (nodesIn actions a)
+-- such a table, and masks of a action formulas, one for the argument of each box and diamond
+pub record Tables (masks : List ℕ) (a : ℕ) (part : List ℕ) (f : ℕ) : Type 0 where
+  pub room : a ≤ length masks
   pub blocks : CountableBlocks part f
   pub modal : (i : ℕ) → i < f → (eqb (nodeAt (nodesIn part f) i .kind) 4 || eqb (nodeAt (nodesIn part f) i .kind) 5) ≡ true
       → nodeAt (nodesIn part f) i .arg < a
 
 -- an array starts with the shapes of all nodes
-pub record HoldsShapes (actions : List ℕ) (a : ℕ) (part : List ℕ) (f : ℕ) (shapes : List Shape) : Type 0 where
+pub record HoldsShapes (action : ℕ → Action) (part : List ℕ) (f : ℕ) (shapes : List Shape) : Type 0 where
   pub long : length shapes ≡ nodeLimit + 1
-  pub starts : take (length (tableShapes (actionAt (nodesIn actions a)) (nodesIn part f))) shapes
-      ≡ tableShapes (actionAt (nodesIn actions a)) (nodesIn part f)
+  pub starts : take (length (tableShapes action (nodesIn part f))) shapes ≡ tableShapes action (nodesIn part f)

@@ -9,7 +9,7 @@ use Rattle.solver.specs.Cells.{Cell}
 use Rattle.cases.specs.Formula.{Formula, False, True, And, Or, Box, Diamond, Variable, Fix, nodes}
 use Rattle.cases.specs.internal.Masks.{maskOf}
 use Rattle.cases.specs.declared.Transition.{Transition}
-use Rattle.cases.specs.Case.{keep}
+use Rattle.sets.specs.Lists.{keep}
 use Rattle.translate.specs.declared.Shape.{Shape}
 
 abbrev shape : ℕ → ℕ → ℕ → ℕ → Shape

@@ -1,10 +1,11 @@
 -- `mask_of` meets its contract, kind by kind.
 use mathlib.Core.Path.{_≡_, _∙_}
-use Prim.Native.Nat.{_<_}
 use native.Mathlib.Omega.{arith}
-use Rattle.sets.proofs.Words.{shifted-one}
-use Rattle.cases.specs.File.{labelLimit}
+use Rattle.cases.specs.File.{labelRecords}
+use Rattle.cases.specs.Labels.{alikeLabels}
+use Rattle.cases.specs.internal.Checks.{labelsIn}
 use Rattle.cases.specs.internal.Masks.{actionOf}
+use Rattle.cases.proofs.LabelLaws.{length-alike}
 use Rattle.cases.proofs.Masks.{mask-false, mask-true, mask-label, mask-not, mask-and, mask-or, mask-implies}
 use Rattle.cases.proofs.actions.mask_of.Statement.{statement}
 use Rattle.cases.proofs.actions.mask_of.Tie as tie
@@ -17,15 +18,15 @@ returns-2 : tie.Need-returns-2
 unfolding actionOf
 returns-2 c = λ a b p q. rw (c .if2 .taken) mask-true
 
-shl-result : tie.Need-shl-result
-shl-result c = omega (arith, c .before .before .before .pre .1 (c .if3 .taken))
+alike-labels-requires : tie.Need-alike-labels-requires
+alike-labels-requires c κs = let p = c .before .before .before .before .pre in (p .0, p .2 (c .if3 .taken))
 
 returns-3 : tie.Need-returns-3
 unfolding actionOf
 returns-3 c = λ a b p q.
-    let s = c .before .before .before in
-    let small : s .args .arg < labelLimit = s .pre .1 (c .if3 .taken) in
-    rw (c .if3 .taken) (shifted-one (s .args .arg) small ∙ mask-label (s .args .arg) small)
+    let s = c .before .before .before .before .before in
+    rw (c .before .if3 .taken) (c .alike-labels .ensures
+    ∙ mask-label (alikeLabels (s .args .h) (labelsIn (s .args .labels .now) (labelRecords (s .args .h))) (s .args .arg)) (omega (arith, length-alike (s .args .h) (labelsIn (s .args .labels .now) (labelRecords (s .args .h))) (s .args .arg), s .pre .0 .few)))
 
 returns-4 : tie.Need-returns-4
 unfolding actionOf
@@ -42,10 +43,10 @@ returns-6 c = λ a b p q. rw (c .if6 .taken, p, q) (mask-or a b)
 returns-7 : tie.Need-returns-7
 unfolding actionOf
 returns-7 c = λ a b p q.
-    let six : c .before .before .before .before .before .before .args .kind ≡ 6 = omega arith in
+    let six : c .before .before .before .before .before .before .before .args .kind ≡ 6 = omega arith in
     rw (six, p, q) (mask-implies a b)
 
 pub mask-of-spec : {M : Type 1} → statement M
 mask-of-spec =
     tie.close
-    (tie.spec returns returns-2 shl-result returns-3 returns-4 returns-5 returns-6 returns-7)
+    (tie.spec returns returns-2 alike-labels-requires returns-3 returns-4 returns-5 returns-6 returns-7)

@@ -1,25 +1,22 @@
 -- `bad_offset` meets its contract.
 use native.Mathlib.Omega.{arith}
-use Rattle.cases.proofs.LayoutRules.{transitions-differ, actions-differ, formula-decides}
+use Rattle.cases.proofs.LayoutRules.{labels-differ, transitions-differ, actions-differ, formula-decides}
 use borrow.Author.Needs.{needs}
 use Rattle.cases.proofs.conditions.bad_offset.Statement.{statement}
 use Rattle.cases.proofs.conditions.bad_offset.Tie as tie
 
 returns : tie.Need-returns
-returns c = transitions-differ _ (λ e. omega arith)
-
-actions-start-requires : tie.Need-actions-start-requires
-actions-start-requires c κs = search needs
+returns c = labels-differ _ (λ e. omega arith)
 
 returns-2 : tie.Need-returns-2
-returns-2 c = actions-differ _ (omega arith) (λ e. omega arith)
-
-formula-start-requires : tie.Need-formula-start-requires
-formula-start-requires c κs = search needs
+returns-2 c = transitions-differ _ (omega arith) (λ e. omega arith)
 
 returns-3 : tie.Need-returns-3
-returns-3 c = rw (c .before .formula-start .ensures) (formula-decides _ (omega arith) (omega arith))
+returns-3 c = actions-differ _ (omega arith) (omega arith) (λ e. omega arith)
+
+returns-4 : tie.Need-returns-4
+returns-4 c = rw (c .before .formula-start .ensures .0) (formula-decides _ (omega arith) (omega arith) (omega arith))
 
 pub bad-offset-spec : {M : Type 1} → statement M
 bad-offset-spec =
-    tie.close (tie.spec returns actions-start-requires returns-2 formula-start-requires returns-3)
+    tie.close (tie.spec (λ c κs. tt) returns (λ c κs. search needs) returns-2 (λ c κs. search needs) returns-3 (λ c κs. search needs) returns-4)

@@ -1,7 +1,9 @@
 use Prim.Native.Nat.{ℕ, _+_, _-_, _*_, _<_}
 use native.Mathlib.Omega.{arith}
+use borrow.Author.Needs.{needs}
+use lib.ListN.{length}
 use Rattle.routes.proofs.NodeLaws.{kind-at, kind-known, binder-of, block-read, block-fits}
-use Rattle.routes.proofs.EvaluateLaws.{constant-done, variable-done, pair-first, pair-second, pair-after, pair-spent, pair-spent-2, pair-done, modal-first, modal-spent, modal-done}
+use Rattle.routes.proofs.EvaluateLaws.{constant-done, variable-done, pair-first, pair-second, pair-after, pair-spent, pair-spent-2, pair-done, modal-first, modal-inside, modal-spent, modal-done}
 use Rattle.routes.proofs.BinderLaws.{Going, own-binder, binder-body, begins, body-spent, round-spent, stopped, replaced}
 use borrow.Fn.Kinds.{In}
 use borrow.Fn.PlainCycle.{Measures, is, falls, and}
@@ -71,7 +73,7 @@ abbrev evaluate-calls : ℕ → evaluate-lts.Claims
 evaluate-calls t = (node-at-reads.Asked, node-at-reads.Learnt, initial-reads.Asked, initial-reads.Learnt, value-of-reads.Asked, value-of-reads.Learnt, pair-below t, pair.Post, modal-below t, modal.Post, wide-reads.Asked, wide-reads.Learnt, binder-below t, binder.Post)
 
 abbrev modal-calls : ℕ → modal-lts.Claims
-modal-calls t = (evaluate-below t, evaluate.Post, modal-set-reads.Asked, modal-set-reads.Learnt, value-of-reads.Asked, value-of-reads.Learnt)
+modal-calls t = (node-at-reads.Asked, node-at-reads.Learnt, evaluate-below t, evaluate.Post, modal-set-reads.Asked, modal-set-reads.Learnt, value-of-reads.Asked, value-of-reads.Learnt)
 
 abbrev pair-calls : ℕ → pair-lts.Claims
 pair-calls t = (evaluate-below t, evaluate.Post, combine-reads.Asked, combine-reads.Learnt, value-of-reads.Asked, value-of-reads.Learnt)
@@ -192,29 +194,35 @@ evaluate-binder-requires t c κs = let q = c .before .before .before .before .be
 evaluate-returns-5 : (t : ℕ) → evaluate-lts.Need-returns-5 (evaluate-calls t) (evaluate-at t) evaluate.Post
 evaluate-returns-5 t c = c .binder .ensures
 
+modal-node-at-requires : (t : ℕ) → modal-lts.Need-node-at-requires (modal-calls t) (modal-at t) modal.Post
+modal-node-at-requires t c κs = let p = c .before .before .before .before .pre .1 in omega (arith, p .0 .node, p .0 .parts .nodes .holds .inside)
+
 modal-add-evaluate : (t : ℕ) → modal-lts.Need-add-evaluate (modal-calls t) (modal-at t) modal.Post
-modal-add-evaluate t c = let p = c .before .before .before .before .pre .1 in omega (arith, p .0 .node, p .0 .parts .nodes .holds .few)
+modal-add-evaluate t c = let p = c .before .before .before .before .before .pre .1 in omega (arith, p .0 .node, p .0 .parts .nodes .holds .few)
 
 modal-evaluate-requires : (t : ℕ) → modal-lts.Need-evaluate-requires (modal-calls t) (modal-at t) modal.Post
-modal-evaluate-requires t c κs = let p = c .before .before .before .before .pre .1 in (omega (arith, c .before .before .before .before .pre .0, p .0 .node), modal-first (p .0) (p .1))
+modal-evaluate-requires t c κs = let p = c .before .before .before .before .before .pre .1 in (omega (arith, c .before .before .before .before .before .pre .0, p .0 .node), modal-first (p .0) (p .1))
 
 modal-returns : (t : ℕ) → modal-lts.Need-returns (modal-calls t) (modal-at t) modal.Post
-modal-returns t c = let p = c .before .before .before .before .before .before .pre .1 in modal-spent (p .0) (p .1) (c .before .evaluate .ensures) (c .if1 .taken)
+modal-returns t c = let p = c .before .before .before .before .before .before .before .pre .1 in modal-spent (p .0) (p .1) (c .before .evaluate .ensures) (c .if1 .taken)
 
 modal-mul-modal-set : (t : ℕ) → modal-lts.Need-mul-modal-set (modal-calls t) (modal-at t) modal.Post
-modal-mul-modal-set t c = let p = c .before .before .before .before .before .before .before .pre .1 in omega (arith, p .0 .node, p .0 .parts .nodes .holds .few)
+modal-mul-modal-set t c =
+    let p = c .before .before .before .before .before .before .before .before .pre .1 in
+    let inside : c .before .before .before .node-at .result .arg < length (c .before .before .before .before .before .before .before .before .args .masks .now) = omega (arith, modal-inside (p .0) (p .1) (c .before .before .before .node-at .ensures), p .0 .parts .masks-room) in
+    search needs
 
 modal-shared-slice-read-modal-set : (t : ℕ) → modal-lts.Need-shared-slice-read-modal-set (modal-calls t) (modal-at t) modal.Post
-modal-shared-slice-read-modal-set t c = let p = c .before .before .before .before .before .before .before .before .pre .1 in omega (arith, p .0 .node, p .0 .parts .labels-room)
+modal-shared-slice-read-modal-set t c = let p = c .before .before .before .before .before .before .before .before .before .pre .1 in omega (arith, modal-inside (p .0) (p .1) (c .before .before .before .before .node-at .ensures), p .0 .parts .masks-room)
 
 modal-modal-set-requires : (t : ℕ) → modal-lts.Need-modal-set-requires (modal-calls t) (modal-at t) modal.Post
-modal-modal-set-requires t c κs = c .before .before .before .before .before .before .before .before .pre .1 .0 .parts .model
+modal-modal-set-requires t c κs = c .before .before .before .before .before .before .before .before .before .pre .1 .0 .parts .model
 
 modal-value-of-requires : (t : ℕ) → modal-lts.Need-value-of-requires (modal-calls t) (modal-at t) modal.Post
 modal-value-of-requires t c κs = tt
 
 modal-returns-2 : (t : ℕ) → modal-lts.Need-returns-2 (modal-calls t) (modal-at t) modal.Post
-modal-returns-2 t c = let p = c .before .before .before .before .before .before .before .before .before .before .pre .1 in rw (c .value-of .ensures) (modal-done (p .0) (p .1) (c .before .before .before .before .before .evaluate .ensures) (c .before .before .before .before .if1 .left) (c .before .modal-set .ensures))
+modal-returns-2 t c = let p = c .before .before .before .before .before .before .before .before .before .before .before .pre .1 in rw (c .value-of .ensures) (modal-done (p .0) (p .1) (c .before .before .before .before .before .evaluate .ensures) (c .before .before .before .before .if1 .left) (c .before .before .before .before .before .before .node-at .ensures) (c .before .modal-set .ensures))
 
 pair-add-evaluate : (t : ℕ) → pair-lts.Need-add-evaluate (pair-calls t) (pair-at t) pair.Post
 pair-add-evaluate t c = let p = c .before .before .before .before .pre .1 in omega (arith, p .0 .node, p .0 .parts .nodes .holds .few)
@@ -291,6 +299,7 @@ pub +binder+evaluate+modal+pair-spec : {M : Type 1} → statement M
     (modal-calls t)
     (modal-at t)
     modal.Post
+    (modal-node-at-requires t)
     (modal-add-evaluate t)
     (modal-evaluate-requires t)
     (modal-returns t)

@@ -1,6 +1,5 @@
 -- `shape_at` meets its contract, field by field.
 use borrow.Author.Needs.{needs}
-use Rattle.cases.specs.Prefix.{actionAt}
 use Rattle.cases.specs.internal.Checks.{nodesIn}
 use Rattle.translate.specs.internal.Shapes.{shapeIn}
 use Rattle.translate.proofs.ShapeFields.{kind-read, by-fields}
@@ -20,14 +19,13 @@ labels-of-requires : tie.Need-labels-of-requires
 labels-of-requires c κs = search needs
 
 returns : tie.Need-returns
-returns c =
+returns c = λ action masks.
     let s = c .before .before .before .before .before .before in
     let p = s .args in
     let n = c .before .before .before .node-at in
-    let action = actionAt (nodesIn (p .actions .now) (p .a)) in
     by-fields (n .result .kind) (c .before .before .second-of .result) (c .before .block-of .result) (c .labels-of .result) (shapeIn action (nodesIn (p .part .now) (p .f)) (p .added) (p .i))
     (kind-read (p .part .now) (p .f) (p .i) (s .pre .1 .1) (n .result) (n .ensures) action (p .added))
-    (c .before .before .second-of .ensures action) (c .before .block-of .ensures action) (c .labels-of .ensures (p .added))
+    (c .before .before .second-of .ensures action) (c .before .block-of .ensures action) (c .labels-of .ensures action (p .added) masks)
 
 pub shape-at-spec : {M : Type 1} → statement M
 shape-at-spec =

@@ -1,18 +1,20 @@
 -- `shapes_of` meets its contract: the array starts with the shapes of the nodes before i.
-use Prim.Native.Nat.{_-_}
+use Prim.Native.Nat.{ℕ, _-_, _≤_}
 use native.Mathlib.Omega.{arith}
-use Rattle.cases.specs.Prefix.{actionAt}
+use Rattle.cases.specs.Action.{Action}
 use Rattle.cases.specs.internal.Checks.{nodesIn}
+use Rattle.cases.specs.internal.Masks.{ActionMasks}
 use Rattle.cases.proofs.FormulaRules.{length-nodes}
 use Rattle.translate.proofs.ShapeFields.{ShapesBefore, shapes-none, shapes-next, shapes-done}
 use Rattle.translate.proofs.shapes.shapes_of.Statement.{statement}
 use Rattle.translate.proofs.shapes.shapes_of.Tie as tie
 
 abbrev Inv-loop : tie.InvT-loop
-Inv-loop actions a part f added shapes₀ i₀ shapes i = ShapesBefore (actionAt (nodesIn actions a)) (nodesIn part f) added i shapes
+Inv-loop masks a part f added shapes₀ i₀ shapes i =
+    (i ≤ f) × ((action : ℕ → Action) → ActionMasks action a masks → ShapesBefore action (nodesIn part f) added i shapes)
 
 abbrev μ-loop : tie.MeasureT-loop
-μ-loop actions a part f added shapes₀ i₀ shapes i = f - i
+μ-loop masks a part f added shapes₀ i₀ shapes i = f - i
 
 added-before-requires : tie.Need-added-before-requires Inv-loop μ-loop
 added-before-requires c κs = omega arith
@@ -20,7 +22,7 @@ added-before-requires c κs = omega arith
 loop-holds : tie.Need-loop-holds Inv-loop μ-loop
 loop-holds c =
     let p = c .before .before .before .args in
-    shapes-none (actionAt (nodesIn (p .actions .now) (p .a))) (nodesIn (p .part .now) (p .f)) (c .added-before .result) (c .added-before .ensures .1)
+    (omega arith, λ action masks. shapes-none action (nodesIn (p .part .now) (p .f)) (c .added-before .result) (c .added-before .ensures .1))
 
 shape-at-requires : tie.Need-shape-at-requires Inv-loop μ-loop
 shape-at-requires c κs = (c .before .before .before .before .before .pre .0, (c .before .before .added-before .ensures .1, c .loop-test .taken))
@@ -45,16 +47,20 @@ loop-again c =
     let s = c .before .before .before .before .before .before in
     let p = s .args in
     let l = c .before .before .loop in
-    let n = length-nodes (p .part .now) (p .f) in
-    shapes-next (actionAt (nodesIn (p .actions .now) (p .a))) (nodesIn (p .part .now) (p .f)) (c .before .before .before .added-before .result) (l .i) (l .shapes) (c .shape-at .result) (l .inv) (rw n (c .before .loop-test .taken)) (omega arith) (c .shape-at .ensures)
+    let n = length-nodes (p .part .now) (p .f) in (
+      omega arith,
+      λ action masks. shapes-next action (nodesIn (p .part .now) (p .f)) (c .before .before .before .added-before .result) (l .i) (l .shapes) (c .shape-at .result) (l .inv .1 action masks)
+          (rw n (c .before .loop-test .taken)) (omega arith) (c .shape-at .ensures action masks),
+    )
 
 returns : tie.Need-returns Inv-loop μ-loop
-returns c =
+returns c = λ action masks.
     let s = c .before .before .before .before .before in
     let p = s .args in
     let l = c .before .loop in
     let n = length-nodes (p .part .now) (p .f) in
-    record { long = l .inv .long; starts = shapes-done (actionAt (nodesIn (p .actions .now) (p .a))) (nodesIn (p .part .now) (p .f)) (c .before .before .added-before .result) (l .shapes) (l .i) (omega arith) (c .before .before .added-before .ensures .0) (l .inv) }
+    let done = l .inv .1 action masks in
+    record { long = done .long; starts = shapes-done action (nodesIn (p .part .now) (p .f)) (c .before .before .added-before .result) (l .shapes) (l .i) (omega arith) (c .before .before .added-before .ensures .0) done }
 
 pub shapes-of-spec : {M : Type 1} → statement M
 shapes-of-spec =

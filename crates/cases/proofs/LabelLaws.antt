@@ -16,7 +16,7 @@ use Rattle.sets.specs.Words.{fromBits, bit}
 use Rattle.sets.proofs.Lists.{length-table, table-at, all-true, all-of-both, all-of-kept, kept-equal, all-kept}
 use Rattle.sets.proofs.Masks.{number-one}
 use Rattle.cases.specs.File.{Header, Label, hasLabelTable, labelRecords, labelIn, labelLimit, nameLimit}
-use Rattle.cases.specs.Labels.{numbersOf, isName, namesOf, occurrences, sameNames, labelNames, alike, alikeLabels}
+use Rattle.cases.specs.Labels.{recordNumbers, isName, namesOf, occurrences, sameNames, labelNames, alike, alikeLabels}
 use Rattle.cases.specs.Conditions.{padded, labelOk}
 use Rattle.cases.specs.internal.Checks.{labelsIn}
 use Rattle.cases.specs.internal.Names.{follows, equallyMany, sameAs}
@@ -89,15 +89,15 @@ equally-named xs ys k = by-cases (ℕ-discrete k 0)
 
 -- The names are the same multiset if there are equally many of each number that is a name.
 pub names-by-numbers : (x y : Label) → sameNames (namesOf x) (namesOf y)
-    ≡ (every (equallyMany (numbersOf x) (numbersOf y)) (numbersOf x) && every (equallyMany (numbersOf x) (numbersOf y)) (numbersOf y))
+    ≡ (every (equallyMany (recordNumbers x) (recordNumbers y)) (recordNumbers x) && every (equallyMany (recordNumbers x) (recordNumbers y)) (recordNumbers y))
 unfolding sameNames namesOf
-names-by-numbers x y = all-of-both equal (namesOf x) (namesOf y) ∙ ap₂ _&&_ (each (numbersOf x)) (each (numbersOf y))
+names-by-numbers x y = all-of-both equal (namesOf x) (namesOf y) ∙ ap₂ _&&_ (each (recordNumbers x)) (each (recordNumbers y))
   where
     equal : ℕ → Bool
     equal k = eqb (occurrences k (namesOf x)) (occurrences k (namesOf y))
 
-    each : (zs : List ℕ) → every equal (keep isName zs) ≡ every (equallyMany (numbersOf x) (numbersOf y)) zs
-    each zs = all-of-kept equal isName zs ∙ all-kept kept-equal (λ k. true) _ _ (λ k t. equally-named (numbersOf x) (numbersOf y) k) zs (all-true zs)
+    each : (zs : List ℕ) → every equal (keep isName zs) ≡ every (equallyMany (recordNumbers x) (recordNumbers y)) zs
+    each zs = all-of-kept equal isName zs ∙ all-kept kept-equal (λ k. true) _ _ (λ k t. equally-named (recordNumbers x) (recordNumbers y) k) zs (all-true zs)
 
 -- ---- masks
 

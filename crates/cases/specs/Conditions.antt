@@ -12,7 +12,7 @@ use Rattle.sets.specs.Refusals.{between, Conditions, firstOf}
 use Rattle.cases.specs.Prefix.{Node, arityIn, actionArities, formulaArities, wholeFormulas, exactly, endOf}
 use Rattle.cases.specs.File.{Header, headerSize, headerOf, version, labelLimit, nameLimit, transitionLimit, actionLimit, nodeLimit}
 use Rattle.cases.specs.File.{labelsStart, transitionsStart, actionsStart, formulaStart, fileEnd, Label, Transition, labelTable, transitionTable, actionTable, formulaTable}
-use Rattle.cases.specs.Labels.{numbersOf}
+use Rattle.cases.specs.Labels.{recordNumbers}
 
 -- 1: fewer bytes than a header of its version has
 unfoldable pub tooSmall : List ℕ → Bool
@@ -58,7 +58,7 @@ padded [] = true
 padded (k ∷ ks) = cond (eqb k 0) (every (λ x. eqb x 0) ks) (padded ks)
 
 abbrev pub labelOk : Label → Bool
-labelOk r = every (λ k. leb k nameLimit) (numbersOf r) && padded (numbersOf r)
+labelOk r = every (λ k. leb k nameLimit) (recordNumbers r) && padded (recordNumbers r)
 
 unfoldable pub badLabels : List ℕ → Bool
 badLabels b = not (every labelOk (labelTable b))

@@ -8,8 +8,8 @@ use Rattle.sets.specs.Lists.{numbersFrom, every, keep}
 use Rattle.cases.specs.File.{Header, Label, hasLabelTable}
 
 -- the four numbers of a label record
-abbrev pub numbersOf : Label → List ℕ
-numbersOf r = r .first ∷ r .second ∷ r .third ∷ r .fourth ∷ []
+abbrev pub recordNumbers : Label → List ℕ
+recordNumbers r = r .first ∷ r .second ∷ r .third ∷ r .fourth ∷ []
 
 -- A 0 is no name; it pads a record at its end.
 abbrev pub isName : ℕ → Bool
@@ -17,7 +17,7 @@ isName k = not (eqb k 0)
 
 -- The names of a label. The silent step has none.
 unfoldable pub namesOf : Label → List ℕ
-namesOf r = keep isName (numbersOf r)
+namesOf r = keep isName (recordNumbers r)
 
 -- how many times k stands in a list
 unfoldable pub occurrences : ℕ → List ℕ → ℕ

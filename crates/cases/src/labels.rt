@@ -13,7 +13,7 @@ ghost use lib.ListN.{length};
 ghost use Rattle.sets.specs.Lists.{numbersFrom, every};
 ghost use Rattle.sets.specs.Words.{fromBits};
 ghost use Rattle.cases.specs.File.{labelRecords, labelLimit};
-ghost use Rattle.cases.specs.Labels.{numbersOf, namesOf, occurrences as List·occurrences, sameNames, alikeLabels};
+ghost use Rattle.cases.specs.Labels.{recordNumbers, namesOf, occurrences as List·occurrences, sameNames, alikeLabels};
 ghost use Rattle.cases.specs.Conditions.{labelOk, badLabels};
 ghost use Rattle.cases.specs.internal.Checks.{labelsIn, LabelPart, Laid};
 ghost use Rattle.cases.specs.internal.Names.{follows, equallyMany, sameAs};
@@ -80,14 +80,14 @@ fn one_if(same: bool) -> usize
 
 // How many of the four numbers of a label are k.
 fn occurrences(x: Label, k: usize) -> usize
-    ensures { λ r. ⌜ r ≡ List·occurrences k (numbersOf x) ⌝ }
+    ensures { λ r. ⌜ r ≡ List·occurrences k (recordNumbers x) ⌝ }
 {
     one_if(x.first == k) + one_if(x.second == k) + one_if(x.third == k) + one_if(x.fourth == k)
 }
 
 // Whether k is a name of x as many times as of y, if it is one.
 fn equally_many(x: Label, y: Label, k: usize) -> bool
-    ensures { λ r. ⌜ r ≡ equallyMany (numbersOf x) (numbersOf y) k ⌝ }
+    ensures { λ r. ⌜ r ≡ equallyMany (recordNumbers x) (recordNumbers y) k ⌝ }
 {
     if k == 0 {
         return true;
@@ -97,7 +97,7 @@ fn equally_many(x: Label, y: Label, k: usize) -> bool
 
 // Whether that holds of each name of z.
 fn each_equally_many(x: Label, y: Label, z: Label) -> bool
-    ensures { λ r. ⌜ r ≡ every (equallyMany (numbersOf x) (numbersOf y)) (numbersOf z) ⌝ }
+    ensures { λ r. ⌜ r ≡ every (equallyMany (recordNumbers x) (recordNumbers y)) (recordNumbers z) ⌝ }
 {
     if !equally_many(x, y, z.first) {
         return false;

@@ -6,11 +6,11 @@ use Prim.Native.Nat.{ℕ, _<_, _≤_}
 use native.Mathlib.Omega.{arith}
 use borrow.Author.Tests.{lt-ltb, le-ltb}
 use lib.ListN.{length, drop, length-replicate}
-use Rattle.sets.specs.States.{size, allEmpty}
+use Rattle.sets.specs.States.{allEmpty}
 use Rattle.sets.specs.Words.{words, marked, wordCount, stateLimit}
-use Rattle.sets.specs.internal.Functions.{states}
+use Rattle.sets.specs.internal.Sizes.{SizeIs}
 use Rattle.sets.specs.Refusals.{Conditions, firstOf, refused, outcomeBy, Outcome, reportOf}
-use Rattle.sets.proofs.Words.{marked-words, states-words}
+use Rattle.sets.proofs.Words.{marked-words}
 use Rattle.sets.proofs.Refusals.{refusing, reports, refuses}
 use Rattle.cases.specs.declared.Header.{Header}
 use Rattle.cases.specs.Case.{Case}
@@ -60,13 +60,13 @@ module _ {R : Route} {c : Case} {marks : List ℕ} where
 
 -- what is read from a set's words is what is reported of the set
 pub reported : {h : Header} {set : List ℕ} {rounds : ℕ} {verdict : Bool} {count : ℕ} → h .states ≤ stateLimit → h .initial < stateLimit
-    → verdict ≡ marked set (h .initial) → count ≡ size (states (h .states) set)
+    → verdict ≡ marked set (h .initial) → SizeIs set count
     → Reported h set rounds (record { verdict = verdict; count = count; rounds = rounds })
 unfolding routeAnswer
 reported {h} few low p q = record {
   are = λ c i v l e.
       let first = p ∙ ap (λ (w : List ℕ). marked w (h .initial)) e ∙ marked-words wordCount v (h .initial) low in
-      let many = q ∙ ap (λ (w : List ℕ). size (states (h .states) w)) e ∙ ap size (states-words (h .states) wordCount v l few) in
+      let many = q v (omega (arith, l)) e in
       rw (i, first, many);
 }
 

@@ -5,19 +5,20 @@
 use mathlib.Core.Path.{_≡_, refl, sym, ap, _∙_}
 use mathlib.Core.Logic.{_↔_, _⊎_, inl, inr, by-cases}
 use mathlib.Core.List.{List, [], _∷_, _++_, map, List·Memᴰ, List·Memᴰ·head, List·Memᴰ·tail, List·Nodup, Perm}
-use mathlib.Core.Bool.{Bool, true}
+use mathlib.Core.Bool.{Bool, true, false}
 use Prim.Native.Nat.{ℕ, suc, _≤_, _<_}
 use native.Mathlib.Omega.{arith}
 use native.Mathlib.Decide.{ℕ-discrete}
 use borrow.Author.Tests.{ltb-true, lt-ltb}
 use lib.Dec.{T}
-use lib.ListN.{length, take, drop}
+use lib.ListN.{length, take, drop, length-replicate}
 use Rattle.sets.specs.Lists.{every}
-use Rattle.sets.specs.States.{States, Valuation, Sized}
-use Rattle.sets.specs.Words.{bit, Marks, wordCount}
+use Rattle.sets.specs.States.{States, Valuation, allEmpty, Sized}
+use Rattle.sets.specs.Words.{bit, onesOf, markedBelow, Marks, wordCount}
 use Rattle.sets.specs.Refusals.{firstOf, numbersOf, NoneHolds, FirstHolds, refused, byRefusal, Outcome, GivesMarks, Spent, reportOf}
 use Rattle.sets.proofs.Refusals.{apart, absent, member, refusing, answered-member, answered-first, answered-none}
 use Rattle.sets.proofs.Words.{take-words, shows}
+use Rattle.sets.proofs.Ones.{marks-size}
 use Rattle.solver.specs.Cells.{Values}
 use Rattle.solver.specs.File.{sizesOf, cells}
 use Rattle.solver.specs.Solution.{powers, StandardSolution}
@@ -27,6 +28,7 @@ use Rattle.translate.proofs.Promises.{well-formed}
 use Rattle.cases.specs.File.{version, headerOf, labelTable}
 use Rattle.cases.specs.Labels.{sameNames, labelNames}
 use Rattle.cases.specs.Case.{Case, caseOf, SameTables}
+use Rattle.cases.proofs.Accepting.{passed}
 use Rattle.cases.proofs.AlikeLaws.{different-case, permuted-case}
 use Rattle.cases.specs.declared.Tally.{Tally}
 use Rattle.cases.specs.Tally.{tallied, noTally}
@@ -86,6 +88,14 @@ module _ {R : Route} {b : List ℕ} {l : Lent} {limit : ℕ} {o : Outcome} {t : 
   pub marks-mean : GivesMarks o → (ρ : Valuation) (v : States) → MeansIn (caseOf b) ρ v → Marks (caseOf b .states) v (l .marks) marks′
   marks-mean g ρ v m =
       rw (written (ran .by) g, ← run-means b (accepted-run g) R ρ (m .0) v (m .1)) (shows v (l .marks) _ refl (means-sized _ _ _ ρ (m .0) v (m .1)))
+
+  -- The count is the sum of the ones of the set's words in the marks, and the number of states below n whose bit is 1.
+  pub count-ones : GivesMarks o → (o .count ≡ onesOf (take wordCount marks′)) × (o .count ≡ markedBelow marks′ (caseOf b .states))
+  unfolding caseOf
+  count-ones g =
+      let ok = accepted-run g in
+      let (v, m) = meaning-exists b ok (allEmpty (caseOf b .states)) (λ k. length-replicate (caseOf b .states) false) in
+      rw (reported (ran .by) g, ← run-means b ok R _ (m .0) v (m .1)) (marks-size (passed b ok .lies .counts .few-states) (marks-mean g _ v m))
 
   -- (d) Any two runs that give marks, by either route and at whatever limits and lent memory, are alike in marks, verdict and count.
   pub alike : {R′ : Route} {l′ : Lent} {limit′ : ℕ} {o′ : Outcome} {t′ : Tally} {marks″ : List ℕ} → Ran R′ b l′ limit′ o′ t′ marks″ → GivesMarks o → GivesMarks o′

@@ -75,7 +75,7 @@ fn report_of(h: Header, set: [u64; WORDS], rounds: u64) -> Report
 {
     Report {
         verdict: sets::test(&set, h.initial),
-        count: sets::count(&set, h.states),
+        count: sets::count(&set),
         rounds: rounds,
     }
 }

@@ -4,6 +4,7 @@ pub mod Order
 pub mod FixedPoint
 pub mod Turns
 pub mod Words
+pub mod Ones
 pub mod Valuation
 pub mod Masks
 pub mod Stores

@@ -2,23 +2,21 @@
 use mathlib.Core.Path.{_≡_, refl, sym, ap, _∙_}
 use mathlib.Core.Logic.{_≢_}
 use mathlib.Core.Bool.{Bool, true, false, cond}
-use mathlib.Core.List.{List, [], _∷_, _++_, map}
+use mathlib.Core.List.{List, [], _∷_, _++_}
 use Prim.Native.Nat.{ℕ, zero, suc, _+_, _-_, _*_, _/_, _%_, _^_, _<_, _≤_, min}
 use native.Mathlib.Omega.{arith}
 use native.Mathlib.Decide.{decLt, ℕ-discrete}
 use native.Mathlib.Nat.{pow-suc, pow-zero, zero-div, div-one, one-mul, sub-zero, zero-sub, suc-sub-suc, zero-min, min-zero, suc-min-suc}
-use native.Mathlib.Numerals.{add-one, one-add}
+use native.Mathlib.Numerals.{one-add}
 use lib.ListN.{length, getD, set, take, drop, replicate, length-set, length-take, length-drop, length-replicate, getD-replicate, List·getD-append, List·getD-eq-default}
 use lib.Seq.{getD-take, getD-drop, drop-drop, ext-getD, getD-set-same, getD-set-other, drop-set-add, drop-set-lt, take-set-le, take-set-lt, take-append-seam}
 use lib.Dec.{eqb, lit<}
 use lib.Bits.{bitAnd, bitOr, and-step, or-step, and-zero-l, or-zero-r}
 use lib.Pow.{pow-mono, pow-pos, shl-exact, shr-shr}
-use Rattle.sets.specs.Lists.{numbersFrom}
-use Rattle.sets.specs.States.{States, has, start, size}
+use Rattle.sets.specs.States.{States, has, start}
 use Rattle.sets.specs.Words.{words, fromBits, marked, bit, Marks, wordCount, stateLimit}
-use Rattle.sets.specs.internal.Functions.{states}
 use Rattle.sets.specs.internal.Decides.{Decides}
-use Rattle.sets.proofs.Lists.{length-table, table-at, false-true}
+use Rattle.sets.proofs.Lists.{false-true}
 
 -- ---- the number of a set
 
@@ -198,23 +196,6 @@ words-inj k v w l h e =
     ext-getD false v w l λ s b.
     sym (marked-words k v s (omega arith)) ∙ ap (λ (ws : List ℕ). marked ws s) e ∙ marked-words k w s (omega arith)
 
--- n states
-pub states-length : (n : ℕ) (ws : List ℕ) → length (states n ws) ≡ n
-unfolding states
-states-length n ws = length-table (marked ws) n
-
--- state s of the set that words stand for
-pub states-has : (n : ℕ) (ws : List ℕ) (s : ℕ) → s < n → has (states n ws) s ≡ marked ws s
-unfolding states
-states-has n ws s h = table-at (marked ws) n s false h
-
--- a set is read back from its words
-pub states-words : (n k : ℕ) (v : States) → length v ≡ n → n ≤ 64 * k → states n (words k v) ≡ v
-states-words n k v l h =
-    ext-getD false (states n (words k v)) v (states-length n (words k v) ∙ sym l) λ s b.
-    let below : s < n = omega (arith, states-length n (words k v)) in
-    states-has n (words k v) s below ∙ marked-words k v s (omega arith)
-
 -- ---- the words of the empty and of the full set
 
 -- all of one value, without the first states
@@ -316,32 +297,6 @@ words-put k v s there h b =
     (rw (word-at k v (s / 64) (omega arith), shifted-one (s % 64) (omega arith), part-same v s there)
     (number-put (part v (s / 64)) (s % 64) there inside (simp length-take (omega arith))))
     (λ j n. part-other v s j there n)
-
--- ---- counting states
-
--- how many states from s on and below n words mark
-abbrev pub left : List ℕ → ℕ → ℕ → ℕ
-left ws n s = size (map (marked ws) (numbersFrom s (n - s)))
-
-module _ (ws : List ℕ) (n : ℕ) where
-  -- from the first state on: all that are marked
-  pub left-all : left ws n 0 ≡ size (states n ws)
-  unfolding states
-  left-all = rw (sub-zero n)
-
-  -- at n none is left
-  pub left-none : (s : ℕ) → n ≤ s → left ws n s ≡ 0
-  unfolding numbersFrom size
-  left-none s h =
-      let e : n - s ≡ 0 = omega arith in
-      rw e
-
-  -- one state is passed
-  pub left-next : (s : ℕ) → s < n → left ws n s ≡ bit (marked ws s) + left ws n (s + 1)
-  unfolding numbersFrom size
-  left-next s h =
-      let e : n - s ≡ suc (n - suc s) = omega arith in
-      rw (e, add-one s)
 
 -- ---- a truth value that decides
 

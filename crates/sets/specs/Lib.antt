@@ -6,3 +6,4 @@ pub mod Loop
 pub mod Refusals
 pub mod computed
 pub mod internal
+pub mod examples

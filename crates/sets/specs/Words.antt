@@ -1,10 +1,12 @@
 -- The words that hold a set: state s is bit s mod 64 of word s / 64, and bits from n up are zero.
 use mathlib.Core.Path.{_≡_}
 use mathlib.Core.Bool.{Bool, false, cond}
-use mathlib.Core.List.{List, [], _∷_, _++_}
+use mathlib.Core.List.{List, [], _∷_, _++_, map}
 use Prim.Native.Nat.{ℕ, zero, suc, _+_, _*_, _/_, _%_, _^_, _<_, _≤_}
 use lib.ListN.{length, getD, take, drop}
 use lib.Dec.{eqb}
+use lib.Count.{ones}
+use Rattle.sets.specs.Lists.{numbersFrom, keep, sum}
 use Rattle.sets.specs.States.{States, has}
 
 -- How many words hold a set, and how many states they have room for. The code's WORDS and STATES.
@@ -17,6 +19,14 @@ stateLimit = 64 * wordCount
 -- whether the bit of state s is 1
 unfoldable pub marked : List ℕ → ℕ → Bool
 marked ws s = eqb (getD ws (s / 64) 0 / 2 ^ (s % 64) % 2) 1
+
+-- how many states below n have a bit that is 1
+abbrev pub markedBelow : List ℕ → ℕ → ℕ
+markedBelow ws n = length (keep (marked ws) (numbersFrom 0 n))
+
+-- the sum of the ones of each word
+abbrev pub onesOf : List ℕ → ℕ
+onesOf ws = sum (map ones ws)
 
 -- a truth value as a bit
 abbrev pub bit : Bool → ℕ

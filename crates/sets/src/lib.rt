@@ -4,12 +4,13 @@ ghost use mathlib.Core.Bool.{true, false, not, cond, _&&_, _||_};
 ghost use mathlib.Core.List.{map, _++_};
 ghost use Prim.Native.Nat.{ℕ, _-_, _^_, _<_, _≤_};
 ghost use lib.Bits.{bitAnd, bitOr};
+ghost use lib.Count.{ones};
 ghost use lib.ListN.{length, set, take, drop};
 ghost use Rattle.sets.specs.Lists.{numbersFrom};
-ghost use Rattle.sets.specs.States.{States, has, start, size};
+ghost use Rattle.sets.specs.States.{States, has, start};
 ghost use Rattle.sets.specs.Words.{words, fromBits, marked, wordCount, stateLimit};
-ghost use Rattle.sets.specs.internal.Functions.{states};
 ghost use Rattle.sets.specs.internal.Decides.{Decides};
+ghost use Rattle.sets.specs.internal.Sizes.{SizeIs};
 
 pub const WORDS: usize = 4;
 
@@ -110,16 +111,20 @@ fn equal_words(a: [u64; WORDS], b: [u64; WORDS]) -> bool
     true
 }
 
-// How many states below n are in the set.
-pub fn count(set: &[u64; WORDS], n: usize) -> usize
-    requires { ⌜ n ≤ stateLimit ⌝ }
-    ensures { λ r. ⌜ r ≡ size (states n (now (set .entry))) ⌝ }
+// How many bits of a word are 1.
+fn ones_in(word: u64) -> usize
+    ensures { λ r. ⌜ (r ≡ ones word) × (r ≤ 64) ⌝ }
+{
+    u64::count_ones(word) as usize
+}
+
+// How many states a set has: the sum of the ones of its words.
+pub fn count(set: &[u64; WORDS]) -> usize
+    ensures { λ r. ⌜ SizeIs (now (set .entry)) r ⌝ }
 {
     let mut found: usize = 0;
-    for s in 0..n {
-        if test(set, s) {
-            found += 1;
-        }
+    for i in 0..set.len() {
+        found += ones_in(set[i]);
     }
     found
 }

@@ -9,8 +9,8 @@ use lib.Dec.{ltb}
 use lib.ListN.{length, drop, length-replicate}
 use Rattle.sets.specs.States.{States, has, size, allEmpty}
 use Rattle.sets.specs.Words.{words, bit, marked, wordCount}
-use Rattle.sets.specs.internal.Functions.{states}
-use Rattle.sets.proofs.Words.{marked-words, states-words}
+use Rattle.sets.specs.internal.Sizes.{SizeIs}
+use Rattle.sets.proofs.Words.{marked-words}
 use Rattle.solver.specs.computed.Solved.{evaluate, run}
 use Rattle.solver.specs.File.{sizesOf, blocks, cells}
 use Rattle.solver.specs.Conditions.{layoutOk, tablesOk, WellFormed}
@@ -118,7 +118,7 @@ module _ {e : List ℕ} {sizes : Sizes} (o : OpenFile e sizes) (work marks : Lis
         (is-14 e (length work) (length marks) limit .1 (lent, r .over z))
         (record { bytes = after; sized = r .room; bits = r .bits; are = ap (λ (l : List ℕ). after ++ l) rest })
 
-    pub ended-solved : ¬ (status ≡ spent) → {verdict : Bool} → verdict ≡ marked row (sizes .initial) → {count : ℕ} → count ≡ size (states (sizes .states) row) →
+    pub ended-solved : ¬ (status ≡ spent) → {verdict : Bool} → verdict ≡ marked row (sizes .initial) → {count : ℕ} → SizeIs row count →
         {marksAfter : List ℕ} → marksAfter ≡ row ++ drop wordCount marks →
         Answered e work marks limit (solveAnswer (Solved (record { verdict = verdict; count = count; rounds = rounds }))) whole marksAfter
     unfolding run
@@ -131,7 +131,7 @@ module _ {e : List ℕ} {sizes : Sizes} (o : OpenFile e sizes) (work marks : Lis
         answered-solved e work marks limit
         (is-0 e (length work) (length marks) limit .1 (lent, r .within n))
         (v ∙ ap₂ (λ (w : List ℕ) (i : ℕ). marked w i) is (counted (o .counts) .initial) ∙ marked-words wordCount first (sizesOf e .initial) (omega (arith, s .initial, s .few-states)))
-        (k ∙ ap₂ (λ (w : List ℕ) (i : ℕ). size (states i w)) is (counted (o .counts) .states) ∙ ap size (states-words (sizesOf e .states) wordCount first long (s .few-states)))
+        (k first (omega (arith, long, s .few-states)) is)
         (r .counted n)
         (m ∙ ap (λ (l : List ℕ). l ++ drop wordCount marks) is)
         (ap₂ (λ (x y : List ℕ). x ++ y) (r .values n) rest)

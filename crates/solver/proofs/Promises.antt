@@ -11,10 +11,11 @@ use borrow.Author.Tests.{ltb-true, lt-ltb}
 use lib.ListN.{length, take, drop, length-map}
 use lib.Seq.{take-append-seam}
 use Rattle.sets.specs.Lists.{every}
-use Rattle.sets.specs.Words.{bit, Marks, wordCount}
+use Rattle.sets.specs.Words.{bit, onesOf, markedBelow, Marks, wordCount}
 use Rattle.sets.specs.States.{States, Valuation, Sized}
 use Rattle.sets.specs.Refusals.{numbersOf, NoneHolds, FirstHolds, refused, Outcome, GivesMarks, Spent, reportOf}
 use Rattle.sets.proofs.Words.{take-words, shows}
+use Rattle.sets.proofs.Ones.{marks-size}
 use Rattle.sets.proofs.Refusals.{answered-member, answered-first, answered-none}
 use Rattle.solver.specs.File.{sizesOf, blocks, cells}
 use Rattle.solver.specs.Conditions.{WellFormed}
@@ -23,6 +24,7 @@ use Rattle.solver.specs.computed.Solved.{evaluate, solved, run}
 use Rattle.solver.specs.Solution.{StandardSolution, powers}
 use Rattle.solver.specs.Outcome.{FileRounds, solveExceeds, badLayout, badTable, solveConditions, solveRefusal, SolveEnough, report, Scratch, Answered}
 use Rattle.solver.proofs.Tables.{length-cells}
+use Rattle.solver.proofs.Reading.{layout-facts}
 use Rattle.solver.proofs.WellFormed.{ordered}
 use Rattle.solver.proofs.Values.{evaluate-values, values-one}
 use Rattle.solver.proofs.Solving.{solution, solution-one}
@@ -103,6 +105,13 @@ module _ {e work marks : List ℕ} {limit : ℕ} {o : Outcome} {work′ marks′
   -- Only a well-formed file with enough lent memory gives marks.
   pub gives-only : GivesMarks o → WellFormed e × SolveEnough e (length work) (length marks)
   gives-only g = is-0 e (length work) (length marks) limit .0 (sym (answered-number a) ∙ g) .0
+
+  -- The count is the sum of the ones of the set's words in the marks, and the number of states below n whose bit is 1.
+  pub count-ones : GivesMarks o → (o .count ≡ onesOf (take wordCount marks′)) × (o .count ≡ markedBelow marks′ (sizesOf e .states))
+  unfolding report
+  count-ones g =
+      let w = gives-only g .0 in
+      rw (answered-report a g) (marks-size (layout-facts e (w .layout) .counts .few-states) (shows (run e .0 0) marks marks′ (answered-marks a g) (own-sized w 0)))
 
   -- ---- demand 2, the solver's half
 

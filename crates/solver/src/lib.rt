@@ -132,7 +132,7 @@ fn solve_opened(file: &[u8], sizes: Sizes, work: &mut [u8], marks: &mut [u64], l
     }
     sets::store(marks, row);
     let verdict = sets::test(&row, sizes.initial);
-    let count = sets::count(&row, sizes.states);
+    let count = sets::count(&row);
     Answer::Solved(Report {
         verdict,
         count,

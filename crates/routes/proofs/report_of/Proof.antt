@@ -8,7 +8,7 @@ test-requires : tie.Need-test-requires
 test-requires c κs = search needs
 
 count-requires : tie.Need-count-requires
-count-requires c κs = search needs
+count-requires c κs = tt
 
 returns : tie.Need-returns
 returns c =

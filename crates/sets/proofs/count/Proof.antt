@@ -1,45 +1,61 @@
--- `sets::count` meets its contract. The loop's invariant: what is found and what is left make the whole.
-use mathlib.Core.Path.{_≡_}
-use mathlib.Core.Logic.{⊎-elim}
-use Prim.Native.Nat.{_+_, _-_, _≤_}
+-- `sets::count` meets its contract. The loop's invariant: the ones of the first i words are found. A lent array's length is known from the set whose
+-- words it has.
+use mathlib.Core.Path.{_≡_, refl, sym, ap, _∙_}
+use Prim.Native.Nat.{_-_, _*_, _≤_}
 use native.Mathlib.Omega.{arith}
-use Rattle.sets.specs.States.{size}
-use Rattle.sets.specs.Words.{bit}
-use Rattle.sets.specs.internal.Functions.{states}
-use Rattle.sets.proofs.Words.{left, left-all, left-none, left-next}
+use lib.ListN.{length, take}
+use lib.Seq.{take-all}
+use lib.Count.{ones}
+use Rattle.sets.specs.Lists.{sum}
+use Rattle.sets.specs.Words.{wordCount, onesOf}
+use Rattle.sets.proofs.Lists.{sum-next}
+use Rattle.sets.proofs.Words.{words-length}
+use Rattle.sets.proofs.Ones.{ones-size}
 use Rattle.sets.proofs.count.Statement.{statement}
 use Rattle.sets.proofs.count.Tie as tie
 
 abbrev Inv-loop : tie.InvT-loop
-Inv-loop set n found₀ s₀ found s = (s ≤ n) × (found ≤ s) × (found + left set n s ≡ size (states n set))
+Inv-loop set found₀ i₀ found i = (i ≤ wordCount) × (found ≤ 64 * i) × (length set ≡ wordCount → found ≡ onesOf (take i set))
 
 abbrev μ-loop : tie.MeasureT-loop
-μ-loop set n found₀ s₀ found s = n - s
+μ-loop set found₀ i₀ found i = wordCount - i
 
 loop-holds : tie.Need-loop-holds Inv-loop μ-loop
-loop-holds c = (omega arith, omega arith, omega (arith, left-all (c .args .set .now) (c .args .n)))
+unfolding sum
+loop-holds c = (omega arith, omega arith, λ w. refl)
 
-test-requires : tie.Need-test-requires Inv-loop μ-loop
-test-requires c κs = omega arith
+mul-ones-in : tie.Need-mul-ones-in Inv-loop μ-loop
+mul-ones-in c = omega arith
+
+element-copy-out-ones-in : tie.Need-element-copy-out-ones-in Inv-loop μ-loop
+element-copy-out-ones-in c = omega arith
+
+ones-in-requires : tie.Need-ones-in-requires Inv-loop μ-loop
+ones-in-requires c κs = tt
 
 add-found : tie.Need-add-found Inv-loop μ-loop
-add-found c = omega arith
+add-found c = omega (arith, c .ones-in .ensures .1)
 
-add-s : tie.Need-add-s Inv-loop μ-loop
-add-s c = omega arith
+add-i : tie.Need-add-i Inv-loop μ-loop
+add-i c = omega arith
 
 loop-less : tie.Need-loop-less Inv-loop μ-loop
 loop-less c = omega arith
 
 loop-again : tie.Need-loop-again Inv-loop μ-loop
 loop-again c =
-    let p = c .before .before .before .before .args in
-    let s = c .before .before .before .loop .s in
-    let step : left (p .set .now) (p .n) s ≡ bit (c .before .test .result) + left (p .set .now) (p .n) (s + 1) = rw (c .before .test .ensures) (left-next (p .set .now) (p .n) s (omega arith)) in
-    ⊎-elim (λ w. (omega arith, omega arith, omega (arith, rw (w .0 .taken) at step))) (λ w. (omega arith, omega arith, omega (arith, rw (w .0 .left) at step))) (c .if1 .came)
+    let l = c .before .before .before .loop in
+    let set = c .before .before .before .before .args .set .now in (
+      omega arith,
+      omega (arith, c .ones-in .ensures .1),
+      λ w. rw (l .inv .2 w, c .ones-in .ensures .0) (sym (sum-next ones set (l .i) 0 (omega (arith, w)))),
+    )
 
 returns : tie.Need-returns Inv-loop μ-loop
-returns c = omega (arith, left-none (c .before .before .args .set .now) (c .before .before .args .n) (c .before .loop .s) (omega arith))
+returns c v few is =
+    let l = c .before .loop in
+    let long = ap length is ∙ words-length wordCount v in
+    l .inv .2 long ∙ ap onesOf (take-all (l .i) _ (omega (arith, long)) ∙ is) ∙ ones-size wordCount v few
 
 pub count-spec : {M : Type 1} → statement M
 count-spec =
@@ -48,9 +64,11 @@ count-spec =
     Inv-loop
     μ-loop
     loop-holds
-    test-requires
+    mul-ones-in
+    element-copy-out-ones-in
+    ones-in-requires
     add-found
-    add-s
+    add-i
     loop-less
     loop-again
     returns)

@@ -1,17 +1,10 @@
--- The set that words stand for; functions on sets of states: the turn that one makes, and its dual.
+-- Functions on sets of states: the turn that one makes, and its dual.
 use mathlib.Core.Path.{_≡_}
 use mathlib.Core.Bool.{not}
-use mathlib.Core.List.{List, map}
-use Prim.Native.Nat.{ℕ}
-use Rattle.sets.specs.Lists.{numbersFrom}
+use mathlib.Core.List.{map}
 use Rattle.sets.specs.States.{States}
-use Rattle.sets.specs.Words.{marked}
 use Rattle.sets.specs.Loop.{Step}
 use Rattle.sets.specs.computed.Iteration.{Worked}
-
--- the set of n states that words stand for
-unfoldable pub states : ℕ → List ℕ → States
-states n ws = map (marked ws) (numbersFrom 0 n)
 
 -- the turns of a function, which hold what another gives
 abbrev pub stepOf : {A : Type 0} → (States → A) → (States → Worked) → Step A

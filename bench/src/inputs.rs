@@ -1,4 +1,5 @@
-//! The cases that are timed: three of a catalogue's size, the largest of version 1, a deep alternation, and two of version 2.
+//! The cases that are timed: three of a catalogue's size, the largest of version 1, a deep alternation, two of version 2, and one where only
+//! states are counted.
 
 /// An action formula.
 enum Action {
@@ -375,6 +376,11 @@ fn crowded() -> Vec<u8> {
     named_case(64, &names, &transitions, &nu("again", mu("ends", body)))
 }
 
+/// 256 states without a step, all of them marked: beside opening the case there is little to do but to count them.
+fn marked() -> Vec<u8> {
+    case(256, 1, &[], &True)
+}
+
 pub struct Input {
     pub name: &'static str,
     pub case: Vec<u8>,
@@ -389,5 +395,6 @@ pub fn inputs() -> Vec<Input> {
         Input { name: "deep", case: deep() },
         Input { name: "together", case: together() },
         Input { name: "crowded", case: crowded() },
+        Input { name: "marked", case: marked() },
     ]
 }

@@ -167,7 +167,11 @@ fn time_program(proved: &Path, input: &Input, at: &Path) -> Times {
 /// Three digits of a time.
 fn shown(time: Duration) -> String {
     let micros = time.as_secs_f64() * 1e6;
-    let (number, unit) = if micros < 999.5 { (micros, "us") } else { (micros / 1e3, "ms") };
+    let (number, unit) = match micros {
+        ..0.9995 => (micros * 1e3, "ns"),
+        ..999.5 => (micros, "us"),
+        _ => (micros / 1e3, "ms"),
+    };
     let digits = if number < 9.995 { 2 } else { usize::from(number < 99.95) };
     format!("{number:.digits$} {unit}")
 }

@@ -6,6 +6,7 @@ pub mod case_rules;
 pub mod compare;
 pub mod copies;
 pub mod damage;
+pub mod edges;
 pub mod faults;
 pub mod formats;
 pub mod game;

@@ -14,7 +14,7 @@ use bithrowy_tests::reader::{read_case, CASE_CONDITIONS};
 use bithrowy_tests::rules::Broken;
 use bithrowy_tests::slips::Reference;
 use bithrowy_tests::{
-    case_rules, copies, damage, laws, lent, listing, paper, program, rules, shrink, stream, tables, worked,
+    case_rules, copies, damage, edges, laws, lent, listing, paper, program, rules, shrink, stream, tables, worked,
 };
 use library::Library;
 use std::path::Path;
@@ -218,6 +218,8 @@ fn main() {
     let start = Instant::now();
     report("paper, reference", start, paper::check(&Reference(None)));
     report("paper, library", start, paper::check(&Library));
+    report("marks at the edges of words, reference", Instant::now(), edges::check(&Reference(None)));
+    report("marks at the edges of words, library", Instant::now(), edges::check(&Library));
     report("lent places and guards, each element touched", start, lent::check());
     each_rule(seed, Kind::Case, "cases, each rule of 1 to 10 and 15 in both versions, and pairs");
     each_rule(seed, Kind::Equations, "equation files, each rule of 11 and 12 and pairs");

@@ -48,9 +48,11 @@ pub enum Slip {
     BehindUnchecked,
     /// The numbers of records answered after 15, as if only numbers up to 10 refused a case.
     TallyAfterNames,
+    /// The last of the mark words left out of the count.
+    WordUncounted,
 }
 
-pub const SLIPS: [Slip; 18] = [
+pub const SLIPS: [Slip; 19] = [
     Slip::CopiesKept,
     Slip::LabelsMerged,
     Slip::InnerKept,
@@ -69,6 +71,7 @@ pub const SLIPS: [Slip; 18] = [
     Slip::UnusedUnchecked,
     Slip::BehindUnchecked,
     Slip::TallyAfterNames,
+    Slip::WordUncounted,
 ];
 
 impl Slip {
@@ -80,7 +83,7 @@ impl Slip {
 
     /// Is it in the solver? The others are in what comes before it, or in what the routes answer beside it.
     pub fn in_solver(self) -> bool {
-        self == Slip::InnerKept
+        matches!(self, Slip::InnerKept | Slip::WordUncounted)
     }
 }
 
@@ -126,6 +129,18 @@ impl Reference {
         }
     }
 
+    /// What is reported of a set.
+    fn reported(&self, set: &[bool], initial: usize, rounds: u64) -> Numbers {
+        let right = Numbers::report(set, initial, rounds);
+        match self.0 {
+            Some(Slip::WordUncounted) => {
+                let counted = &set[..set.len().min(64 * (MARK_WORDS - 1))];
+                Numbers { count: Numbers::report(counted, 0, 0).count, ..right }
+            }
+            _ => right,
+        }
+    }
+
     /// What direct answers on an accepted case, without the numbers of records.
     fn direct_answer(&self, case: &Case, marks: &mut [u64], limit: u64) -> Numbers {
         if marks.len() < MARK_WORDS {
@@ -135,7 +150,7 @@ impl Reference {
             Err(Spent) => Numbers::refused(14),
             Ok((set, rounds)) => {
                 marks[..MARK_WORDS].copy_from_slice(&mark_words(&set));
-                Numbers::report(&set, case.initial, rounds)
+                self.reported(&set, case.initial, rounds)
             }
         }
     }
@@ -331,7 +346,7 @@ impl Calls for Reference {
                     *byte = value as u8;
                 }
                 marks[..MARK_WORDS].copy_from_slice(&mark_words(&solved.sets[0]));
-                Numbers::report(&solved.sets[0], equations.initial, solved.rounds)
+                self.reported(&solved.sets[0], equations.initial, solved.rounds)
             }
         }
     }

@@ -86,7 +86,7 @@ impl Formula<'_> {
 }
 
 fn report_of(h: &Header, set: &Set, rounds: u64) -> Report {
-    Report { verdict: sets::test(set, h.initial), count: sets::count(set, h.states), rounds }
+    Report { verdict: sets::test(set, h.initial), count: sets::count(set), rounds }
 }
 
 /// Evaluates the formula of a case on sets of states.

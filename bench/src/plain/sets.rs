@@ -35,9 +35,9 @@ pub fn add(set: &mut Set, s: usize) {
     set[s / 64] |= 1 << (s % 64);
 }
 
-/// How many states below n are in the set.
-pub fn count(set: &Set, n: usize) -> usize {
-    (0..n).filter(|&s| test(set, s)).count()
+/// How many states are in the set.
+pub fn count(set: &Set) -> usize {
+    set.iter().map(|word| word.count_ones() as usize).sum()
 }
 
 /// The states in both sets, or (either) in at least one.

@@ -206,5 +206,5 @@ pub fn solve(bytes: &[u8], work: &mut [u8], marks: &mut [u64], limit: u64) -> Re
     file.evaluate(&sets, 0, work);
     let row = sets[0];
     marks[..WORDS].copy_from_slice(&row);
-    Ok(Report { verdict: sets::test(&row, file.initial), count: sets::count(&row, file.states), rounds })
+    Ok(Report { verdict: sets::test(&row, file.initial), count: sets::count(&row), rounds })
 }

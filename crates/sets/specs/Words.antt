@@ -24,7 +24,7 @@ marked ws s = eqb (getD ws (s / 64) 0 / 2 ^ (s % 64) % 2) 1
 abbrev pub markedBelow : List ℕ → ℕ → ℕ
 markedBelow ws n = length (keep (marked ws) (numbersFrom 0 n))
 
--- the sum of the ones of each word
+-- how many bits of the words are 1: the sum of the ones of each word
 abbrev pub onesOf : List ℕ → ℕ
 onesOf ws = sum (map ones ws)
 

@@ -24,23 +24,8 @@ loop-holds : tie.Need-loop-holds Inv-loop μ-loop
 unfolding sum
 loop-holds c = (omega arith, omega arith, λ w. refl)
 
-mul-ones-in : tie.Need-mul-ones-in Inv-loop μ-loop
-mul-ones-in c = omega arith
-
-element-copy-out-ones-in : tie.Need-element-copy-out-ones-in Inv-loop μ-loop
-element-copy-out-ones-in c = omega arith
-
-ones-in-requires : tie.Need-ones-in-requires Inv-loop μ-loop
-ones-in-requires c κs = tt
-
 add-found : tie.Need-add-found Inv-loop μ-loop
 add-found c = omega (arith, c .ones-in .ensures .1)
-
-add-i : tie.Need-add-i Inv-loop μ-loop
-add-i c = omega arith
-
-loop-less : tie.Need-loop-less Inv-loop μ-loop
-loop-less c = omega arith
 
 loop-again : tie.Need-loop-again Inv-loop μ-loop
 loop-again c =
@@ -58,17 +43,6 @@ returns c v few is =
     l .inv .2 long ∙ ap onesOf (take-all (l .i) _ (omega (arith, long)) ∙ is) ∙ ones-size wordCount v few
 
 pub count-spec : {M : Type 1} → statement M
-count-spec =
-    tie.close
-    (tie.spec
-    Inv-loop
-    μ-loop
-    loop-holds
-    mul-ones-in
-    element-copy-out-ones-in
-    ones-in-requires
-    add-found
-    add-i
-    loop-less
-    loop-again
-    returns)
+count-spec = tie.close (tie.spec
+    Inv-loop μ-loop loop-holds (λ c. omega arith) (λ c. omega arith) (λ c κs. tt) add-found
+    (λ c. omega arith) (λ c. omega arith) loop-again returns)

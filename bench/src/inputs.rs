@@ -1,5 +1,5 @@
-//! The cases that are timed: three of a catalogue's size, the largest of version 1, a deep alternation, two of version 2, and one where only
-//! states are counted.
+//! The cases that are timed: three of a catalogue's size, the largest of version 1, a deep alternation, two of version 2, and one with many
+//! marked states and little else.
 
 /// An action formula.
 enum Action {
@@ -376,7 +376,7 @@ fn crowded() -> Vec<u8> {
     named_case(64, &names, &transitions, &nu("again", mu("ends", body)))
 }
 
-/// 256 states without a step, all of them marked: beside opening the case there is little to do but to count them.
+/// 256 states without a step, all of them marked: of all inputs the one where counting them weighs most.
 fn marked() -> Vec<u8> {
     case(256, 1, &[], &True)
 }

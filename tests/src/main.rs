@@ -12,7 +12,7 @@ use bithrowy_tests::names::BROUGHT_UP;
 use bithrowy_tests::random::Random;
 use bithrowy_tests::reader::{read_case, CASE_CONDITIONS};
 use bithrowy_tests::rules::Broken;
-use bithrowy_tests::slips::Reference;
+use bithrowy_tests::slips::{Reference, Slip};
 use bithrowy_tests::{
     case_rules, copies, damage, edges, laws, lent, listing, paper, program, rules, shrink, stream, tables, worked,
 };
@@ -220,6 +220,10 @@ fn main() {
     report("paper, library", start, paper::check(&Library));
     report("marks at the edges of words, reference", Instant::now(), edges::check(&Reference(None)));
     report("marks at the edges of words, library", Instant::now(), edges::check(&Library));
+    assert!(
+        edges::check(&Reference(Some(Slip::WordUncounted))).is_err(),
+        "a word left out of the count is noticed there"
+    );
     report("lent places and guards, each element touched", start, lent::check());
     each_rule(seed, Kind::Case, "cases, each rule of 1 to 10 and 15 in both versions, and pairs");
     each_rule(seed, Kind::Equations, "equation files, each rule of 11 and 12 and pairs");

@@ -140,11 +140,24 @@ fn answer([refusal, verdict, count, rounds]: Line, [records, distinct]: Pair) ->
     RouteNumbers { refusal, verdict, count, rounds, records, distinct }
 }
 
-/// The answers of the equation route and of direct with the program's limit and buffers.
+/// An answer, and the mark words that are left.
+type Left = (RouteNumbers, [u64; MARK_WORDS]);
+
+/// Mark words before a call.
+const UNTOUCHED: [u64; MARK_WORDS] = [9; MARK_WORDS];
+
+/// What the equation route and direct answer and leave, with the program's limit and buffers.
+pub fn both_left(calls: &dyn Calls, bytes: &[u8]) -> (Left, Left) {
+    let (mut file, mut work) = (vec![0; FILE_BUFFER], vec![0; CELLS]);
+    let (mut first, mut second) = (UNTOUCHED, UNTOUCHED);
+    let equation = calls.equation(bytes, &mut file, &mut work, &mut first, LIMIT);
+    let direct = calls.direct(bytes, &mut second, LIMIT);
+    ((equation, first), (direct, second))
+}
+
+/// The answers alone.
 pub fn both_routes(calls: &dyn Calls, bytes: &[u8]) -> (RouteNumbers, RouteNumbers) {
-    let (mut file, mut work, mut marks) = (vec![0; FILE_BUFFER], vec![0; CELLS], [0; 4]);
-    let equation = calls.equation(bytes, &mut file, &mut work, &mut marks, LIMIT);
-    let direct = calls.direct(bytes, &mut marks, LIMIT);
+    let ((equation, _), (direct, _)) = both_left(calls, bytes);
     (equation, direct)
 }
 
@@ -166,27 +179,14 @@ impl Held {
     }
 }
 
-/// The marks that the equation route and direct leave in words that held others.
-fn marks_left(calls: &dyn Calls, bytes: &[u8]) -> [[u64; MARK_WORDS]; 2] {
-    let (mut file, mut work) = (vec![0; FILE_BUFFER], vec![0; CELLS]);
-    let mut marks = [UNTOUCHED; 2];
-    calls.equation(bytes, &mut file, &mut work, &mut marks[0], LIMIT);
-    calls.direct(bytes, &mut marks[1], LIMIT);
-    marks
-}
-
-/// Mark words before a call.
-const UNTOUCHED: [u64; MARK_WORDS] = [9; MARK_WORDS];
-
 /// Holds calls to all values that the paper gives, and to those worked out by hand; answers how many values were
 /// compared.
 pub fn check(calls: &dyn Calls) -> Result<u64, String> {
     let mut held = Held(0);
     for run in [runs(), named_runs(), worked::runs()].concat() {
         let bytes = run.case.bytes();
-        held.to(&run.title(), both_routes(calls, &bytes), (run.equation, run.direct))?;
         let marks = if run.equation.refusal == 0 { [run.marks, 0, 0, 0] } else { UNTOUCHED };
-        held.to(&run.title(), marks_left(calls, &bytes), [marks; 2])?;
+        held.to(&run.title(), both_left(calls, &bytes), ((run.equation, marks), (run.direct, marks)))?;
     }
     for (number, bytes) in [refused_cases(1), refused_cases(2), refused_names()].concat() {
         let refused = RouteNumbers::refused(number);

@@ -1,5 +1,5 @@
 //! Wrong calls planted in the comparison, which must notice each of them: the paper's slips, slips in the numbers of
-//! records and in the names of labels, and faults in what the library leaves.
+//! records, in the names of labels and in the count, and faults in what the library leaves.
 
 use crate::library::Library;
 use crate::{Kind, BUDGET};

@@ -1,5 +1,5 @@
-//! The paper's "Slips seen in such programs", and slips in the numbers of records and in the names of labels, as wrong
-//! versions of the calls. The comparison must notice each of them.
+//! The paper's "Slips seen in such programs", and slips in the numbers of records, in the names of labels and in the count,
+//! as wrong versions of the calls. The comparison must notice each of them.
 
 use crate::calls::{mark_words, Calls, Numbers, Recorded, RouteNumbers, MARK_WORDS};
 use crate::formats::*;
@@ -48,7 +48,7 @@ pub enum Slip {
     BehindUnchecked,
     /// The numbers of records answered after 15, as if only numbers up to 10 refused a case.
     TallyAfterNames,
-    /// The last of the mark words left out of the count.
+    /// The first of the mark words left out of the count.
     WordUncounted,
 }
 
@@ -131,14 +131,11 @@ impl Reference {
 
     /// What is reported of a set.
     fn reported(&self, set: &[bool], initial: usize, rounds: u64) -> Numbers {
-        let right = Numbers::report(set, initial, rounds);
-        match self.0 {
-            Some(Slip::WordUncounted) => {
-                let counted = &set[..set.len().min(64 * (MARK_WORDS - 1))];
-                Numbers { count: Numbers::report(counted, 0, 0).count, ..right }
-            }
-            _ => right,
+        let mut report = Numbers::report(set, initial, rounds);
+        if self.0 == Some(Slip::WordUncounted) {
+            report.count -= set.iter().take(64).filter(|&&marked| marked).count() as u64;
         }
+        report
     }
 
     /// What direct answers on an accepted case, without the numbers of records.

@@ -8,7 +8,7 @@ use borrow.Author.Tests.{lt-ltb, le-ltb}
 use lib.ListN.{length, drop, length-replicate}
 use Rattle.sets.specs.States.{allEmpty}
 use Rattle.sets.specs.Words.{words, marked, wordCount, stateLimit}
-use Rattle.sets.specs.internal.Sizes.{SizeIs}
+use Rattle.sets.specs.internal.Size.{SizeIs}
 use Rattle.sets.specs.Refusals.{Conditions, firstOf, refused, outcomeBy, Outcome, reportOf}
 use Rattle.sets.proofs.Words.{marked-words}
 use Rattle.sets.proofs.Refusals.{refusing, reports, refuses}

@@ -1,10 +1,10 @@
 -- What the routes work out for an accepted case: one set, the formula's meaning, and a number of rounds within a bound.
-use mathlib.Core.Path.{_≡_, sym, _∙_}
+use mathlib.Core.Path.{_≡_, sym, ap, _∙_}
 use mathlib.Core.Bool.{false}
 use mathlib.Core.List.{List}
 use Prim.Native.Nat.{ℕ, suc, _≤_}
 use native.Mathlib.Nat.{le-trans}
-use lib.ListN.{length-replicate}
+use lib.ListN.{length, length-replicate}
 use Rattle.sets.specs.States.{States, Valuation, allEmpty, Sized}
 use Rattle.solver.specs.File.{sizesOf}
 use Rattle.solver.specs.Solution.{powers}
@@ -18,7 +18,7 @@ use Rattle.cases.specs.computed.Meanings.{meaning}
 use Rattle.cases.proofs.TableTrees.{formula-table}
 use Rattle.cases.proofs.Accepting.{passed}
 use Rattle.cases.proofs.ClosedMeaning as closed
-use Rattle.cases.proofs.MeaningLaws.{means-exists, means-unique}
+use Rattle.cases.proofs.MeaningLaws.{means-exists, means-unique, meaning-sized}
 use Rattle.translate.specs.Translating.{file}
 use Rattle.translate.proofs.Promises.{well-formed, read-back}
 use Rattle.routes.specs.Route.{Route, direct, equation, OwnRounds, runOf}
@@ -73,6 +73,10 @@ module _ (b : List ℕ) where
 
     pub run-means : (R : Route) (ρ : Valuation) → Sized (c .states) ρ → (v : States) → Means (c .states) (c .transitions) (c .formula) ρ v → v ≡ runOf R c .0
     run-means R ρ s v m = means-unique (c .states) (c .transitions) (c .formula) ρ s v m ∙ sym (run-meaning R ρ s)
+
+    -- of as many states as the case has
+    pub run-sized : (R : Route) → length (runOf R c .0) ≡ c .states
+    run-sized R = ap length (run-meaning R (allEmpty (c .states)) (none-sized (c .states))) ∙ meaning-sized (c .states) (c .transitions) (c .formula) (allEmpty (c .states)) (none-sized (c .states))
 
     -- Its rounds are at most m + m ^ 2 + .. + m ^ d, for m = n + 1 and the d blocks of the file.
     pub run-bound : (R : Route) → runOf R c .1 ≤ powers (suc (c .states)) (sizesOf (file b) .blocks)

@@ -5,15 +5,15 @@
 use mathlib.Core.Path.{_≡_, refl, sym, ap, _∙_}
 use mathlib.Core.Logic.{_↔_, _⊎_, inl, inr, by-cases}
 use mathlib.Core.List.{List, [], _∷_, _++_, map, List·Memᴰ, List·Memᴰ·head, List·Memᴰ·tail, List·Nodup, Perm}
-use mathlib.Core.Bool.{Bool, true, false}
+use mathlib.Core.Bool.{Bool, true}
 use Prim.Native.Nat.{ℕ, suc, _≤_, _<_}
 use native.Mathlib.Omega.{arith}
 use native.Mathlib.Decide.{ℕ-discrete}
 use borrow.Author.Tests.{ltb-true, lt-ltb}
 use lib.Dec.{T}
-use lib.ListN.{length, take, drop, length-replicate}
+use lib.ListN.{length, take, drop}
 use Rattle.sets.specs.Lists.{every}
-use Rattle.sets.specs.States.{States, Valuation, allEmpty, Sized}
+use Rattle.sets.specs.States.{States, Valuation, Sized}
 use Rattle.sets.specs.Words.{bit, onesOf, markedBelow, Marks, wordCount}
 use Rattle.sets.specs.Refusals.{firstOf, numbersOf, NoneHolds, FirstHolds, refused, byRefusal, Outcome, GivesMarks, Spent, reportOf}
 use Rattle.sets.proofs.Refusals.{apart, absent, member, refusing, answered-member, answered-first, answered-none}
@@ -43,7 +43,7 @@ use Rattle.translate.proofs.Translations.{unrefused}
 use Rattle.routes.specs.Route.{Route, equation, Lent, OwnRounds, runOf, exceeds, runConditions, routeConditions, Enough, workAfter, Ran, EquationRan}
 use Rattle.routes.proofs.RouteLaws.{translate-then-solve, case-refused, case-accepted, number-ran, reported, written, refused-with, kept, given, spent-over, spent-accepted, spent-number, gives-number}
 use Rattle.routes.proofs.DirectAnswers.{ran-first}
-use Rattle.routes.proofs.Outcomes.{meaning-of, one-meaning, own-exists, own-one, runs-alike, run-means, run-bound}
+use Rattle.routes.proofs.Outcomes.{meaning-of, one-meaning, own-exists, own-one, runs-alike, run-means, run-sized, run-bound}
 
 -- ---- Demand 3, of an accepted case with enough memory
 module _ (b : List ℕ) (accepted : Accepted b) where
@@ -88,14 +88,6 @@ module _ {R : Route} {b : List ℕ} {l : Lent} {limit : ℕ} {o : Outcome} {t : 
   pub marks-mean : GivesMarks o → (ρ : Valuation) (v : States) → MeansIn (caseOf b) ρ v → Marks (caseOf b .states) v (l .marks) marks′
   marks-mean g ρ v m =
       rw (written (ran .by) g, ← run-means b (accepted-run g) R ρ (m .0) v (m .1)) (shows v (l .marks) _ refl (means-sized _ _ _ ρ (m .0) v (m .1)))
-
-  -- The count is the sum of the ones of the set's words in the marks, and the number of states below n whose bit is 1.
-  pub count-ones : GivesMarks o → (o .count ≡ onesOf (take wordCount marks′)) × (o .count ≡ markedBelow marks′ (caseOf b .states))
-  unfolding caseOf
-  count-ones g =
-      let ok = accepted-run g in
-      let (v, m) = meaning-exists b ok (allEmpty (caseOf b .states)) (λ k. length-replicate (caseOf b .states) false) in
-      rw (reported (ran .by) g, ← run-means b ok R _ (m .0) v (m .1)) (marks-size (passed b ok .lies .counts .few-states) (marks-mean g _ v m))
 
   -- (d) Any two runs that give marks, by either route and at whatever limits and lent memory, are alike in marks, verdict and count.
   pub alike : {R′ : Route} {l′ : Lent} {limit′ : ℕ} {o′ : Outcome} {t′ : Tally} {marks″ : List ℕ} → Ran R′ b l′ limit′ o′ t′ marks″ → GivesMarks o → GivesMarks o′
@@ -153,6 +145,16 @@ module _ {R : Route} {b : List ℕ} {l : Lent} {limit : ℕ} {o : Outcome} {t : 
   -- A refusal leaves the marks as they were.
   pub marks-kept : ¬ GivesMarks o → marks′ ≡ l .marks
   marks-kept = kept (ran .by)
+
+  -- ---- The count, a word at a time
+
+  -- It is the sum of the ones of the set's words in the marks, and the number of states below n whose bit is 1.
+  pub count-ones : GivesMarks o → (o .count ≡ onesOf (take wordCount marks′)) × (o .count ≡ markedBelow marks′ (caseOf b .states))
+  unfolding caseOf
+  count-ones g =
+      let ok = accepted-run g in
+      rw (reported (ran .by) g)
+      (marks-size (passed b ok .lies .counts .few-states) (shows (runOf R (caseOf b) .0) (l .marks) marks′ (written (ran .by) g) (run-sized b ok R)))
 
 -- ---- How many records were copies, of any bytes
 

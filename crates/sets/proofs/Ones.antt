@@ -1,4 +1,4 @@
--- The ones of a set's words: as many as the set has states, for any number of words and of states.
+-- The ones of a set's words are as many as the states that the words have room for: for any number of words and of states.
 use mathlib.Core.Path.{_≡_, refl, sym, ap, _∙_}
 use mathlib.Core.Logic.{by-cases}
 use mathlib.Core.Bool.{Bool, true, false, cond}
@@ -57,7 +57,7 @@ kept-size p (x ∷ xs) = go (p x) (kept-size p xs)
     go true e = omega arith
     go false e = omega arith
 
--- sets with the same states, of however many each, have equally many
+-- Two lists that have the same states have equally many, also if one is longer.
 same-size : (v w : States) → ((s : ℕ) → has v s ≡ has w s) → size v ≡ size w
 unfolding size
 same-size [] [] e = refl
@@ -65,7 +65,7 @@ same-size [] (c ∷ w) e = rw (← e 0) (omega (arith, same-size [] w (λ s. e (
 same-size (b ∷ v) [] e = rw (e 0) (omega (arith, same-size v [] (λ s. e (suc s))))
 same-size (b ∷ v) (c ∷ w) e = rw (e 0) (ap (λ (m : ℕ). bit c + m) (same-size v w (λ s. e (suc s))))
 
--- the numbers below n of which p says that they are in a set whose states are all below n
+-- As many numbers below n have p as a set of at most n states has states, if p says which are in it.
 below-size : (p : ℕ → Bool) (n : ℕ) (v : States) → length v ≤ n → ((s : ℕ) → s < n → p s ≡ has v s) → length (keep p (numbersFrom 0 n)) ≡ size v
 below-size p n v l is =
     kept-size p (numbersFrom 0 n)
@@ -98,6 +98,6 @@ ones-marked k n v l = sym (below-size (marked (words k v)) n (take (64 * k) v) (
 pub marks-size : {n : ℕ} {v : States} {lent after : List ℕ} → n ≤ stateLimit → Marks n v lent after
     → (size v ≡ onesOf (take wordCount after)) × (size v ≡ markedBelow after n)
 marks-size {n} {v} {lent} {after} few m = (
-  sym (ones-size wordCount v (omega (arith, m .sized))) ∙ ap onesOf (sym (ap (take wordCount) (m .are) ∙ take-words wordCount v (drop wordCount lent))),
+  rw (m .are, take-words wordCount v (drop wordCount lent)) (sym (ones-size wordCount v (omega (arith, m .sized)))),
   sym (below-size (marked after) n v (omega (arith, m .sized)) (λ s h. m .shown s (omega arith))),
 )

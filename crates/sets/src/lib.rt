@@ -10,7 +10,7 @@ ghost use Rattle.sets.specs.Lists.{numbersFrom};
 ghost use Rattle.sets.specs.States.{States, has, start};
 ghost use Rattle.sets.specs.Words.{words, fromBits, marked, wordCount, stateLimit};
 ghost use Rattle.sets.specs.internal.Decides.{Decides};
-ghost use Rattle.sets.specs.internal.Sizes.{SizeIs};
+ghost use Rattle.sets.specs.internal.Size.{SizeIs};
 
 pub const WORDS: usize = 4;
 

@@ -2,14 +2,14 @@
 use mathlib.Core.Path.{_≡_, refl, sym, ap, ap₂, _∙_}
 use mathlib.Core.Bool.{Bool, true, false, or-true}
 use mathlib.Core.List.{List, _++_, map}
-use Prim.Native.Nat.{ℕ, _+_, _<_, _≤_}
+use Prim.Native.Nat.{ℕ, _<_, _≤_}
 use native.Mathlib.Omega.{arith}
 use borrow.Author.Tests.{lt-ltb}
 use lib.Dec.{ltb}
 use lib.ListN.{length, drop, length-replicate}
 use Rattle.sets.specs.States.{States, has, size, allEmpty}
 use Rattle.sets.specs.Words.{words, bit, marked, wordCount}
-use Rattle.sets.specs.internal.Sizes.{SizeIs}
+use Rattle.sets.specs.internal.Size.{SizeIs}
 use Rattle.sets.proofs.Words.{marked-words}
 use Rattle.solver.specs.computed.Solved.{evaluate, run}
 use Rattle.solver.specs.File.{sizesOf, blocks, cells}

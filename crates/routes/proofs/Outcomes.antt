@@ -74,7 +74,7 @@ module _ (b : List ℕ) where
     pub run-means : (R : Route) (ρ : Valuation) → Sized (c .states) ρ → (v : States) → Means (c .states) (c .transitions) (c .formula) ρ v → v ≡ runOf R c .0
     run-means R ρ s v m = means-unique (c .states) (c .transitions) (c .formula) ρ s v m ∙ sym (run-meaning R ρ s)
 
-    -- of as many states as the case has
+    -- The set has as many states as the case.
     pub run-sized : (R : Route) → length (runOf R c .0) ≡ c .states
     run-sized R = ap length (run-meaning R (allEmpty (c .states)) (none-sized (c .states))) ∙ meaning-sized (c .states) (c .transitions) (c .formula) (allEmpty (c .states)) (none-sized (c .states))
 

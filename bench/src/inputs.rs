@@ -376,7 +376,7 @@ fn crowded() -> Vec<u8> {
     named_case(64, &names, &transitions, &nu("again", mu("ends", body)))
 }
 
-/// 256 states without a step, all of them marked: of all inputs the one where counting them weighs most.
+/// 256 states without a step, all of them marked: of these inputs the one where counting them weighs most.
 fn marked() -> Vec<u8> {
     case(256, 1, &[], &True)
 }

@@ -74,11 +74,11 @@ module _ (b : List ℕ) where
     pub run-means : (R : Route) (ρ : Valuation) → Sized (c .states) ρ → (v : States) → Means (c .states) (c .transitions) (c .formula) ρ v → v ≡ runOf R c .0
     run-means R ρ s v m = means-unique (c .states) (c .transitions) (c .formula) ρ s v m ∙ sym (run-meaning R ρ s)
 
-    -- The set has as many states as the case.
+    -- A route's set has as many states as the case.
     pub run-sized : (R : Route) → length (runOf R c .0) ≡ c .states
     run-sized R = ap length (run-meaning R (allEmpty (c .states)) (none-sized (c .states))) ∙ meaning-sized (c .states) (c .transitions) (c .formula) (allEmpty (c .states)) (none-sized (c .states))
 
-    -- Its rounds are at most m + m ^ 2 + .. + m ^ d, for m = n + 1 and the d blocks of the file.
+    -- A route's rounds are at most m + m ^ 2 + .. + m ^ d, for m = n + 1 and the d blocks of the file.
     pub run-bound : (R : Route) → runOf R c .1 ≤ powers (suc (c .states)) (sizesOf (file b) .blocks)
     unfolding runOf
     run-bound direct = le-trans (worked-bound (c .states) (c .transitions) (c .formula) (allEmpty (c .states))) (powers-mono _ _ _ (blocks-formula b accepted))

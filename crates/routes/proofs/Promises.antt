@@ -148,7 +148,7 @@ module _ {R : Route} {b : List ℕ} {l : Lent} {limit : ℕ} {o : Outcome} {t : 
 
   -- ---- The count, a word at a time
 
-  -- It is the sum of the ones of the set's words in the marks, and the number of states below n whose bit is 1.
+  -- The count is the sum of the ones of the set's words in the marks, and the number of states below n whose bit is 1.
   pub count-ones : GivesMarks o → (o .count ≡ onesOf (take wordCount marks′)) × (o .count ≡ markedBelow marks′ (caseOf b .states))
   unfolding caseOf
   count-ones g =

@@ -82,7 +82,6 @@ marked-none ws s h = rw (List·getD-eq-default ws 0 {n = s / 64} (omega arith), 
 -- The sum of the ones of the words of a set of n states is the number of states below n whose bit is 1: for any number of words, also if there is
 -- no room in them for every state.
 pub ones-marked : (k n : ℕ) (v : States) → length v ≡ n → onesOf (words k v) ≡ markedBelow (words k v) n
-unfolding size
 ones-marked k n v l = sym (below-size (marked (words k v)) n (take (64 * k) v) (simp length-take (omega arith)) held ∙ whole)
   where
     held : (s : ℕ) → s < n → marked (words k v) s ≡ has (take (64 * k) v) s

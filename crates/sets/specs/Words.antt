@@ -1,4 +1,4 @@
--- The words that hold a set: state s is bit s mod 64 of word s / 64, and bits from n up are zero.
+-- The words that hold a set: state s is bit s mod 64 of word s / 64, and bits from n up are zero; and how many states words mark.
 use mathlib.Core.Path.{_≡_}
 use mathlib.Core.Bool.{Bool, false, cond}
 use mathlib.Core.List.{List, [], _∷_, _++_, map}

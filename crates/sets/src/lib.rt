@@ -112,7 +112,7 @@ fn equal_words(a: [u64; WORDS], b: [u64; WORDS]) -> bool
 }
 
 // How many bits of a word are 1.
-fn ones_in(word: u64) -> usize
+fn word_ones(word: u64) -> usize
     ensures { λ r. ⌜ (r ≡ ones word) × (r ≤ 64) ⌝ }
 {
     u64::count_ones(word) as usize
@@ -124,7 +124,7 @@ pub fn count(set: &[u64; WORDS]) -> usize
 {
     let mut found: usize = 0;
     for i in 0..set.len() {
-        found += ones_in(set[i]);
+        found += word_ones(set[i]);
     }
     found
 }

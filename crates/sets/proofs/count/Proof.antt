@@ -25,15 +25,15 @@ unfolding sum
 loop-holds c = (omega arith, omega arith, λ w. refl)
 
 add-found : tie.Need-add-found Inv-loop μ-loop
-add-found c = omega (arith, c .ones-in .ensures .1)
+add-found c = omega (arith, c .word-ones .ensures .1)
 
 loop-again : tie.Need-loop-again Inv-loop μ-loop
 loop-again c =
     let l = c .before .before .before .loop in
     let set = c .before .before .before .before .args .set .now in (
       omega arith,
-      omega (arith, c .ones-in .ensures .1),
-      λ w. rw (l .inv .2 w, c .ones-in .ensures .0) (sym (sum-next ones set (l .i) 0 (omega (arith, w)))),
+      omega (arith, c .word-ones .ensures .1),
+      λ w. rw (l .inv .2 w, c .word-ones .ensures .0) (sym (sum-next ones set (l .i) 0 (omega (arith, w)))),
     )
 
 returns : tie.Need-returns Inv-loop μ-loop

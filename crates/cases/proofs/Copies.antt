@@ -24,20 +24,20 @@ take-map-range f s zero m h = refl
 take-map-range f s (suc i) zero h = absurd (omega arith)
 take-map-range f s (suc i) (suc m) h = ap (λ (l : List _). f s ∷ l) (take-map-range f (suc s) i m (omega arith))
 
--- Two records as they are read, number by number.
-module _ (a b x y : Transition) (p : x ≡ a) (q : y ≡ b) where
-  pub other-source : (x .source ≡ y .source → ⊥) → false ≡ sameTransition a b
+-- Two records, number by number.
+module _ (x y : Transition) where
+  pub other-source : (x .source ≡ y .source → ⊥) → false ≡ sameTransition x y
   unfolding sameTransition
-  other-source n = rw (← p, ← q, ne-eqb (x .source) (y .source) n)
+  other-source n = rw (ne-eqb (x .source) (y .source) n)
 
   module _ (e : x .source ≡ y .source) where
-    pub other-label : (x .label ≡ y .label → ⊥) → false ≡ sameTransition a b
+    pub other-label : (x .label ≡ y .label → ⊥) → false ≡ sameTransition x y
     unfolding sameTransition
-    other-label n = rw (← p, ← q, eq-eqb (x .source) (y .source) e, ne-eqb (x .label) (y .label) n)
+    other-label n = rw (eq-eqb (x .source) (y .source) e, ne-eqb (x .label) (y .label) n)
 
-    pub by-target : x .label ≡ y .label → eqb (x .target) (y .target) ≡ sameTransition a b
+    pub by-target : x .label ≡ y .label → eqb (x .target) (y .target) ≡ sameTransition x y
     unfolding sameTransition
-    by-target f = rw (← p, ← q, eq-eqb (x .source) (y .source) e, eq-eqb (x .label) (y .label) f)
+    by-target f = rw (eq-eqb (x .source) (y .source) e, eq-eqb (x .label) (y .label) f)
 
 module _ (record-at : ℕ → Transition) where
   -- Only the first i + 1 records matter, however many the table has.

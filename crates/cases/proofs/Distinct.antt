@@ -258,6 +258,10 @@ copies-some x (t ∷ ts) d = go (sameTransition t x) refl (copies-some x ts)
     go true e rest = or-left (sameTransition x t) _ (rw (same-equal t x (rw e tt)) (same-self x))
     go false e rest = or-right (sameTransition x t) _ (rest (λ z. d (rw (e, z) refl)))
 
+-- A list is within another where each of its members is a member of the other.
+pub mem-within : (ts us : List Transition) → ((x : Transition) → List·Mem x ts → List·Mem x us) → Within ts us
+mem-within ts us h x m = copies-some x us (mem-copies x us (h x (copies-mem x ts (some-copies x ts m))))
+
 pub within-distinct : (ts : List Transition) → Within ts (distinct ts)
 within-distinct ts t m = copies-some t (distinct ts) (stands t ts (some-copies t ts m))
 

@@ -1,17 +1,18 @@
 -- Conditions 1 to 5: what the tests of the code come to, and what follows where none holds.
-use mathlib.Core.Path.{_≡_, refl, ap}
+use mathlib.Core.Path.{_≡_, refl, sym, ap, _∙_}
 use mathlib.Core.Bool.{Bool, true, false, cond, not, _&&_, true≢false}
 use mathlib.Core.List.{List, [], _∷_}
 use Prim.Native.Nat.{ℕ, _≤_, _<_}
 use native.Mathlib.Omega.{arith}
 use borrow.Author.Tests.{le-ltb, lt-ltb, eq-eqb, ne-eqb, eqb-true, not-false, ltb-false}
 use lib.Dec.{T, eqb, eqb→eq}
-use lib.ListN.{length}
+use lib.ListN.{length, take}
+use lib.Seq.{take-all, take-length}
 use Rattle.sets.specs.Lists.{every, forSome}
 use Rattle.sets.specs.Words.{stateLimit}
 use Rattle.sets.specs.Refusals.{firstOf}
 use Rattle.sets.proofs.Refusals.{holds-here, holds-later, none-holds, none-here, bounds}
-use Rattle.cases.specs.File.{Header, headerSize, version, headerOf, labelsStart, transitionsStart, actionsStart, formulaStart, fileEnd, labelLimit, transitionLimit, actionLimit, nodeLimit}
+use Rattle.cases.specs.File.{Header, headerSize, version, hasLabelTable, headerOf, labelRecords, caseWithin, labelsStart, transitionsStart, actionsStart, formulaStart, fileEnd, labelLimit, transitionLimit, actionLimit, nodeLimit}
 use Rattle.cases.specs.Conditions.{tooSmall, otherVersion, versions, badCount, badOffset, badLength, layoutConditions}
 use Rattle.cases.specs.internal.Checks.{commonHeader, CountsFit, Laid}
 
@@ -88,8 +89,6 @@ module _ (h : Header) where
       let t = four (eqb (h .«labels_at») (labelsStart h)) (eqb (h .«transitions_at») (transitionsStart h)) (eqb (h .«actions_at») (actionsStart h)) (eqb (h .«formula_at») (formulaStart h)) e in
       (eqb→eq _ _ (t .0), eqb→eq _ _ (t .1), eqb→eq _ _ (t .2), eqb→eq _ _ (t .3))
 
--- ---- the first that holds, one by one
-
 -- a header has what all versions have
 pub header-least : (v : ℕ) → commonHeader ≤ headerSize v
 unfolding headerSize
@@ -98,6 +97,33 @@ header-least v = go (eqb v 2)
     go : (r : Bool) → commonHeader ≤ cond r 22 20
     go true = omega arith
     go false = omega arith
+
+-- ---- how many bytes a header says that a case has
+
+module _ (b : List ℕ) where
+  -- its label records, where its version has them and where it has not
+  pub records-told : {v : ℕ} → v ≡ version b → hasLabelTable v ≡ true → labelRecords (headerOf b) ≡ headerOf b .labels
+  unfolding labelRecords
+  records-told is e = rw (← is, e)
+
+  pub records-none : {v : ℕ} → v ≡ version b → hasLabelTable v ≡ false → labelRecords (headerOf b) ≡ 0
+  unfolding labelRecords
+  records-none is e = rw (← is, e)
+
+  -- at least the bytes that all headers have
+  pub end-least : commonHeader ≤ fileEnd (headerOf b)
+  end-least = omega (arith, header-least (version b))
+
+  -- all bytes are the case's where they are no more than that, and otherwise so many
+  pub all-within : length b ≤ fileEnd (headerOf b) → take (length b) b ≡ caseWithin b
+  unfolding caseWithin
+  all-within h = take-length b ∙ sym (take-all _ b h)
+
+  pub end-within : {e : ℕ} → e ≡ fileEnd (headerOf b) → take e b ≡ caseWithin b
+  unfolding caseWithin
+  end-within e = rw e
+
+-- ---- the first condition of the layout that holds
 
 module _ (b : List ℕ) where
   pub small-refuses : length b < headerSize (version b) → 1 ≡ firstOf (layoutConditions b)

@@ -157,12 +157,12 @@ join-mono n op mono x y v w g h =
 
 -- Box and diamond grow with the set, and look only at which transitions there are.
 module _ (n : ℕ) (ts us : List Transition) (there : Within ts us) (back : Within us ts) (α : Action) (x y : States) (h : Subset x y) where
-  box-mono : Subset (setOf n (boxIn n ts α x)) (setOf n (boxIn n us α y))
+  pub box-mono : Subset (setOf n (boxIn n ts α x)) (setOf n (boxIn n us α y))
   box-mono = map-mono (boxIn n ts α x) (boxIn n us α y) (λ s.
       all-within ts us back (λ t. not (from s α t) || has x (t .target)) (λ t. not (from s α t) || has y (t .target)) (λ t.
       kept-implies .or (not (from s α t)) (has x (t .target)) (not (from s α t)) (has y (t .target)) (λ g. g) (h (t .target)))) (numbersFrom 0 n)
 
-  diamond-mono : Subset (setOf n (diamondIn n ts α x)) (setOf n (diamondIn n us α y))
+  pub diamond-mono : Subset (setOf n (diamondIn n ts α x)) (setOf n (diamondIn n us α y))
   diamond-mono = map-mono (diamondIn n ts α x) (diamondIn n us α y) (λ s.
       any-within ts us there (λ t. from s α t && has x (t .target)) (λ t. from s α t && has y (t .target)) (λ t.
       kept-implies .and (from s α t) (has x (t .target)) (from s α t) (has y (t .target)) (λ g. g) (h (t .target)))) (numbersFrom 0 n)

@@ -1,7 +1,8 @@
 -- A case: a model and a formula; and the distinct transitions.
 use mathlib.Core.Path.{_≡_}
+use mathlib.Core.Logic.{_↔_}
 use mathlib.Core.Bool.{Bool, cond, _&&_}
-use mathlib.Core.List.{List, [], _∷_, _++_, map}
+use mathlib.Core.List.{List, [], _∷_, _++_, map, List·Mem}
 use Prim.Native.Nat.{ℕ, _+_}
 use lib.Dec.{eqb}
 use lib.ListN.{length, getD, take}
@@ -41,6 +42,13 @@ pub record SameTables (b b′ : List ℕ) : Type 0 where
   pub transitions : transitionTable b ≡ transitionTable b′
   pub actions : actionTable b ≡ actionTable b′
   pub formula : formulaTable b ≡ formulaTable b′
+
+-- Two cases have the same states, initial state and formula, and the same set of transitions: their tables may differ in order and in copies.
+pub record SameTransitionSet (c c′ : Case) : Type 0 where
+  pub states : c .states ≡ c′ .states
+  pub initial : c .initial ≡ c′ .initial
+  pub formula : c .formula ≡ c′ .formula
+  pub transitions : (t : Transition) → List·Mem t (c .transitions) ↔ List·Mem t (c′ .transitions)
 
 -- whether two records are equal
 unfoldable pub sameTransition : Transition → Transition → Bool

@@ -3,7 +3,7 @@ use mathlib.Core.Bool.{Bool, cond}
 use mathlib.Core.List.{List, map}
 use Prim.Native.Nat.{ℕ, _+_, _*_}
 use lib.Dec.{eqb}
-use lib.ListN.{getD, drop}
+use lib.ListN.{getD, take, drop}
 use Rattle.sets.specs.Lists.{numbersFrom}
 use Rattle.cases.specs.Prefix.{Node}
 pub use Rattle.cases.specs.declared.Header.{Header}
@@ -62,6 +62,10 @@ formulaStart h = actionsStart h + 4 * h .actions
 
 abbrev pub fileEnd : Header → ℕ
 fileEnd h = formulaStart h + 4 * h .nodes
+
+-- The case that bytes start with: as many of them as its header's version and counts say, or all there are.
+unfoldable pub caseWithin : List ℕ → List ℕ
+caseWithin b = take (fileEnd (headerOf b)) b
 
 -- In a part of the file that starts with them: a label record is four numbers,
 abbrev pub labelIn : List ℕ → ℕ → Label

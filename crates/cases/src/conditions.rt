@@ -92,7 +92,7 @@ fn is_taken(version: usize) -> bool
 }
 
 // The layout: the header, or the first of conditions 1 to 5 that holds.
-fn check_layout(case: &[u8]) -> Opened
+pub fn check_layout(case: &[u8]) -> Opened
     ensures { λ r. ⌜ Opens (firstOf (layoutConditions (now (case .entry)))) (headerOf (now (case .entry))) r ⌝ }
 {
     if case.len() < HEADER {

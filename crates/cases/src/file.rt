@@ -5,8 +5,8 @@ use crate::Node;
 use crate::Transition;
 ghost use mathlib.Core.Path.{_≡_};
 ghost use Prim.Native.Nat.{_+_, _*_, _^_, _<_, _≤_};
-ghost use lib.ListN.{length};
-ghost use Rattle.cases.specs.File.{u16, version as File·version, hasLabelTable, headerSize, headerOf, labelRecords, transitionsStart, actionsStart, formulaStart, fileEnd, labelIn, transitionIn, nodeIn, labelLimit, transitionLimit, actionLimit};
+ghost use lib.ListN.{length, take};
+ghost use Rattle.cases.specs.File.{u16, version as File·version, hasLabelTable, headerSize, headerOf, labelRecords, transitionsStart, actionsStart, formulaStart, fileEnd, caseWithin, labelIn, transitionIn, nodeIn, labelLimit, transitionLimit, actionLimit};
 ghost use Rattle.cases.specs.internal.Checks.{commonHeader, longestHeader, CountsFit};
 
 // How many bytes the header has that all versions have, and how many the longest one has.
@@ -92,6 +92,33 @@ pub fn label_records(h: Header) -> usize
         return h.labels;
     }
     0
+}
+
+// How many bytes a case has by its header, whatever its counts.
+fn told_length(case: &[u8], version: usize) -> usize
+    requires { ⌜ (version ≡ File·version (now case)) × (commonHeader ≤ length (now case)) ⌝ }
+    ensures { λ r. ⌜ r ≡ fileEnd (headerOf (now (case .entry))) ⌝ }
+{
+    let tables = 6 * number_at(case, 4) + 4 * number_at(case, 10) + 4 * number_at(case, 12);
+    if has_label_table(version) {
+        return header_size(version) + 8 * number_at(case, 6) + tables;
+    }
+    header_size(version) + tables
+}
+
+// Where the case ends that bytes start with: as many of them as its header says, or all there are.
+pub fn case_end(bytes: &[u8]) -> usize
+    ensures { λ r. ⌜ (r ≤ length (now (bytes .entry))) × (take r (now (bytes .entry)) ≡ caseWithin (now (bytes .entry))) ⌝ }
+{
+    let all = bytes.len();
+    if all < HEADER {
+        return all;
+    }
+    let end = told_length(bytes, version(bytes));
+    if all < end {
+        return all;
+    }
+    end
 }
 
 // Where the transitions have to stand, by the version and the counts.

@@ -7,14 +7,17 @@ mod transitions;
 
 pub use actions::action_masks;
 pub use conditions::binders;
+pub use conditions::check_layout;
 pub use conditions::is_binder;
 pub use conditions::number_of;
 pub use conditions::open;
 pub use conditions::subtree_end;
+pub use file::case_end;
 pub use file::node_at;
 pub use file::number_at;
 pub use file::transition_at;
 pub use transitions::first_appearances;
+pub use transitions::same_transition;
 
 pub const LABELS: usize = 64;
 

@@ -2,6 +2,7 @@
 use crate::Header;
 use crate::TRANSITIONS;
 use crate::Tally;
+use crate::Transition;
 use crate::file::transition_at;
 use sets::STATES;
 ghost use mathlib.Core.Path.{_≡_};
@@ -39,13 +40,10 @@ fn links_of(part: &[u8], m: usize) -> [u16; LINKS]
     links
 }
 
-// Whether records j and i are equal.
-fn same_at(part: &[u8], j: usize, i: usize) -> bool
-    requires { ⌜ (6 * j + 6 ≤ length (now part)) × (6 * i + 6 ≤ length (now part)) ⌝ }
-    ensures { λ r. ⌜ r ≡ sameTransition (transitionIn (now (part .entry)) j) (transitionIn (now (part .entry)) i) ⌝ }
+// Whether two transitions are equal.
+pub fn same_transition(x: Transition, y: Transition) -> bool
+    ensures { λ r. ⌜ r ≡ sameTransition x y ⌝ }
 {
-    let x = transition_at(part, j);
-    let y = transition_at(part, i);
     if x.source != y.source {
         return false;
     }
@@ -53,6 +51,14 @@ fn same_at(part: &[u8], j: usize, i: usize) -> bool
         return false;
     }
     x.target == y.target
+}
+
+// Whether records j and i are equal.
+fn same_at(part: &[u8], j: usize, i: usize) -> bool
+    requires { ⌜ (6 * j + 6 ≤ length (now part)) × (6 * i + 6 ≤ length (now part)) ⌝ }
+    ensures { λ r. ⌜ r ≡ sameTransition (transitionIn (now (part .entry)) j) (transitionIn (now (part .entry)) i) ⌝ }
+{
+    same_transition(transition_at(part, j), transition_at(part, i))
 }
 
 // How many records before record i of the transition part equal it. Only those with its source are looked at.

@@ -11,6 +11,7 @@ pub mod SolvedBlocks
 pub mod Shallow
 pub mod BlockCounts
 pub mod DirectLaws
+pub mod Members
 pub mod RepeatedLaws
 pub mod TableLaws
 pub mod RootLaws

@@ -27,7 +27,7 @@ use Rattle.solver.proofs.Starts.{own-values}
 use Rattle.translate.proofs.Promises.{well-formed}
 use Rattle.cases.specs.File.{version, headerOf, labelTable}
 use Rattle.cases.specs.Labels.{sameNames, labelNames}
-use Rattle.cases.specs.Case.{Case, caseOf, SameTables}
+use Rattle.cases.specs.Case.{Case, caseOf, SameTables, SameTransitionSet}
 use Rattle.cases.proofs.Accepting.{passed}
 use Rattle.cases.proofs.AlikeLaws.{different-case, permuted-case}
 use Rattle.cases.specs.declared.Tally.{Tally}
@@ -40,9 +40,10 @@ use Rattle.cases.proofs.MeaningLaws.{means-sized}
 use Rattle.translate.specs.Bytes.{fileOf}
 use Rattle.translate.specs.Translating.{file, translateRefusal, fileAfter}
 use Rattle.translate.proofs.Translations.{unrefused}
-use Rattle.routes.specs.Route.{Route, equation, Lent, OwnRounds, runOf, exceeds, runConditions, routeConditions, Enough, workAfter, Ran, EquationRan}
+use Rattle.routes.specs.Route.{Route, direct, equation, Lent, OwnRounds, runOf, exceeds, runConditions, routeConditions, Enough, workAfter, RanBy, Ran, EquationRan}
 use Rattle.routes.proofs.RouteLaws.{translate-then-solve, case-refused, case-accepted, number-ran, reported, written, refused-with, kept, given, spent-over, spent-accepted, spent-number, gives-number}
 use Rattle.routes.proofs.DirectAnswers.{ran-first}
+use Rattle.routes.proofs.Members.{means-same, run-same, ran-same}
 use Rattle.routes.proofs.Outcomes.{meaning-of, one-meaning, own-exists, own-one, runs-alike, run-means, run-sized, run-bound}
 
 -- ---- Demand 3, of an accepted case with enough memory
@@ -215,6 +216,32 @@ module _ {R : Route} {b : List ℕ} {l : Lent} {limit : ℕ} {o : Outcome} {t : 
         tally-table ∙ tallied-order (caseOf b .transitions) (caseOf b′ .transitions) p
         ∙ sym (ran′ .tally-is ∙ tally-accepted b′ accepted′)
 
+    -- The answer and the marks of an accepted case are by 13 and 14 only.
+    by-run : RanBy (runConditions R (caseOf b) l limit) R (caseOf b) (l .marks) o marks′
+    by-run = ran-first (case-accepted R b l limit accepted) (ran .by)
+
+-- ---- Which transitions there are
+
+-- Two cases with the same states, initial state and formula, and the same set of transitions: neither the order of the records
+-- nor a recorded copy matters.
+module _ (b b′ : List ℕ) (same : SameTransitionSet (caseOf b) (caseOf b′)) where
+  -- Their formula means the same.
+  pub same-meaning : (ρ : Valuation) (v : States) → MeansIn (caseOf b) ρ v → MeansIn (caseOf b′) ρ v
+  same-meaning = means-same same
+
+  module _ (accepted : Accepted b) (accepted′ : Accepted b′) where
+    -- Where both are accepted, direct has the same own rounds,
+    pub same-rounds : (r : ℕ) → OwnRounds direct (caseOf b) r → OwnRounds direct (caseOf b′) r
+    same-rounds r own = rw (own-one b accepted direct r own, run-same same) (own-exists b′ accepted′ direct)
+
+    -- and it answers the same and leaves the same marks, whatever is lent and whatever the limit. The tally counts copies, so it may differ.
+    pub same-answers : {l : Lent} {limit : ℕ} {o o′ : Outcome} {t t′ : Tally} {marks′ marks″ : List ℕ} → Ran direct b l limit o t marks′
+        → Ran direct b′ l limit o′ t′ marks″ → (o ≡ o′) × (marks′ ≡ marks″)
+    same-answers {l} {limit} ran ran′ =
+        let one = ran-same same l limit (by-run ran accepted) in
+        let two = by-run ran′ accepted′ in
+        (one .answers ∙ sym (two .answers), one .marks-are ∙ sym (two .marks-are))
+
 -- ---- Events that fire together
 
 -- Two accepted cases that are the same case: whatever the route, the lent memory and the limit, answer, tally and marks are the same.
@@ -222,8 +249,8 @@ module _ {R : Route} {b b′ : List ℕ} {l : Lent} {limit : ℕ} {o o′ : Outc
     (ran′ : Ran R b′ l limit o′ t′ marks″) (accepted : Accepted b) (accepted′ : Accepted b′) where
   pub same-runs : caseOf b ≡ caseOf b′ → (o ≡ o′) × (t ≡ t′) × (marks′ ≡ marks″) × (file b ≡ file b′)
   same-runs e =
-      let one = ran-first (case-accepted R b l limit accepted) (ran .by) in
-      let two = ran-first (case-accepted R b′ l limit accepted′) (ran′ .by) in (
+      let one = by-run ran accepted in
+      let two = by-run ran′ accepted′ in (
         one .answers ∙ rw e (sym (two .answers)),
         tally-table ran accepted ∙ rw e (sym (tally-table ran′ accepted′)),
         one .marks-are ∙ rw e (sym (two .marks-are)),

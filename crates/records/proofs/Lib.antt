@@ -1,0 +1,7 @@
+-- Laws of the crate's definitions.
+pub mod Moves
+pub mod Heads
+pub mod Tables
+pub mod Places
+pub mod Writing
+pub mod Files

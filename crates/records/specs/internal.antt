@@ -1,0 +1,2 @@
+-- What serves the contracts of inner functions, and laws beneath the promises.
+pub mod Writing

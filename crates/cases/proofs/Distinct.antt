@@ -76,7 +76,7 @@ fresh-append (u ∷ us) seen ws = rw (fresh-append us (seen ++ (u ∷ [])) ws, a
     go false = refl
 
 -- copies in two lists together
-copies-append : (x : Transition) (us ws : List Transition) → copies x (us ++ ws) ≡ copies x us + copies x ws
+pub copies-append : (x : Transition) (us ws : List Transition) → copies x (us ++ ws) ≡ copies x us + copies x ws
 unfolding copies
 copies-append x [] ws = sym (zero-add _)
 copies-append x (u ∷ us) ws = rw (copies-append x us ws) (sym (add-assoc _ _ _))
@@ -198,10 +198,10 @@ member-copies {x} (List·Memᴰ·head {x = y} {xs = ys} e) =
     rw same (omega arith)
 member-copies {x} (List·Memᴰ·tail {x = y} {xs = ys} m) = omega (arith, member-copies m)
 
-mem-copies : (x : Transition) (ts : List Transition) → List·Mem x ts → ¬ (copies x ts ≡ 0)
+pub mem-copies : (x : Transition) (ts : List Transition) → List·Mem x ts → ¬ (copies x ts ≡ 0)
 mem-copies x ts m z = ∥∥₁-elim m ⊥-prop (λ d. omega (arith, member-copies d))
 
-copies-mem : (x : Transition) (ts : List Transition) → ¬ (copies x ts ≡ 0) → List·Mem x ts
+pub copies-mem : (x : Transition) (ts : List Transition) → ¬ (copies x ts ≡ 0) → List·Mem x ts
 unfolding copies
 copies-mem x [] d = absurd (d refl)
 copies-mem x (t ∷ ts) d = go (sameTransition t x) refl (copies-mem x ts)
@@ -211,7 +211,7 @@ copies-mem x (t ∷ ts) d = go (sameTransition t x) refl (copies-mem x ts)
     go false e rest = mem-cons-of-mem t (rest (λ z. d (rw (e, z) refl)))
 
 -- a table in which no record stands twice
-few-nodup : (ts : List Transition) → ((x : Transition) → copies x ts ≤ 1) → List·Nodup ts
+pub few-nodup : (ts : List Transition) → ((x : Transition) → copies x ts ≤ 1) → List·Nodup ts
 unfolding copies
 few-nodup [] h = nodup-nil
 few-nodup (t ∷ ts) h = nodup-cons .1 (

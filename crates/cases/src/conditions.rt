@@ -119,7 +119,7 @@ pub fn check_layout(case: &[u8]) -> Opened
 }
 
 // Whether the ends of a transition are below n, and its label below l.
-fn transition_holds(t: Transition, n: usize, l: usize) -> bool
+pub fn transition_holds(t: Transition, n: usize, l: usize) -> bool
     ensures { λ r. ⌜ r ≡ transitionOk n l t ⌝ }
 {
     if n <= t.source {

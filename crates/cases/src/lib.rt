@@ -12,6 +12,7 @@ pub use conditions::is_binder;
 pub use conditions::number_of;
 pub use conditions::open;
 pub use conditions::subtree_end;
+pub use conditions::transition_holds;
 pub use file::case_end;
 pub use file::node_at;
 pub use file::number_at;

@@ -26,7 +26,7 @@ use Rattle.records.proofs.Tables.{length-tableBytes, table-append, tabl
 
 -- ---- heads
 
-length-number : (b : List ℕ) (at x : ℕ) → length (withNumber b at x) ≡ length b
+pub length-number : (b : List ℕ) (at x : ℕ) → length (withNumber b at x) ≡ length b
 unfolding withNumber
 length-number b at x = simp length-set
 
@@ -93,7 +93,7 @@ module _ (k r : ℕ) (s : List ℕ) where
   number-part : (at : ℕ) → r + at + 2 ≤ k → u16 (drop r (take k s)) at ≡ u16 (drop r s) at
   number-part at g = number-drop r (take k s) at ∙ number-take k s (r + at) g ∙ sym (number-drop r s at)
 
-  record-take : (j : ℕ) → r + 6 * j + 6 ≤ k → transitionIn (drop r (take k s)) j ≡ transitionIn (drop r s) j
+  pub record-take : (j : ℕ) → r + 6 * j + 6 ≤ k → transitionIn (drop r (take k s)) j ≡ transitionIn (drop r s) j
   record-take j h =
       let source = number-part (6 * j) (omega arith) in
       let label = number-part (6 * j + 2) (omega arith) in
@@ -107,7 +107,7 @@ in-table part m j h = table-at (transitionIn part) m j _ h
 -- ---- the last record
 
 -- where the last record is put into a place, it stands in the last place still
-last-stays : (ts : List Transition) (i : ℕ) → 0 < length ts → transitionAt (set ts i (transitionAt ts (length ts - 1))) (length ts - 1) ≡ transitionAt ts (length ts - 1)
+pub last-stays : (ts : List Transition) (i : ℕ) → 0 < length ts → transitionAt (set ts i (transitionAt ts (length ts - 1))) (length ts - 1) ≡ transitionAt ts (length ts - 1)
 last-stays ts i h = by-cases (ℕ-discrete (length ts - 1) i)
     (λ e. rw (← e) (getD-set-same ts (length ts - 1) _ _ (omega arith)))
     (λ d. getD-set-other ts i (length ts - 1) _ _ d)

@@ -2,6 +2,7 @@
 pub mod Moves
 pub mod Heads
 pub mod Tables
-pub mod Places
 pub mod Writing
 pub mod Files
+pub mod Places
+pub mod ReadBack

@@ -98,7 +98,7 @@ module _ (part : List ℕ) (bytes : AllBytes part) where
 -- ---- tables read back
 
 -- a number of 16 bits from its bytes
-back : (x : ℕ) → x < 65536 → x % 256 + 256 * (x / 256 % 256) ≡ x
+pub back : (x : ℕ) → x < 65536 → x % 256 + 256 * (x / 256 % 256) ≡ x
 back x h =
     let high : x / 256 < 256 = omega arith in
     rw (mod-eq-of-lt high) (omega (arith, div-add-mod x 256))

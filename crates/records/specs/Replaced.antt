@@ -4,6 +4,7 @@ use Prim.Native.Nat.{ℕ, _+_, _*_, _/_, _%_}
 use lib.ListN.{length, take, drop, set}
 use Rattle.cases.specs.declared.Header.{Header}
 use Rattle.cases.specs.declared.Transition.{Transition}
+use Rattle.cases.specs.Case.{Case}
 use Rattle.cases.specs.File.{headerOf, transitionsStart, actionsStart}
 
 -- a number of 16 bits, low byte first
@@ -34,6 +35,10 @@ headFor h k head =
 unfoldable pub withTransitions : List ℕ → List Transition → List ℕ
 withTransitions b ts =
     headFor (headerOf b) (length ts) (take (transitionsStart (headerOf b)) b) ++ (tableBytes ts ++ drop (actionsStart (headerOf b)) b)
+
+-- The same of cases: the case c with the transitions ts.
+abbrev pub caseWith : Case → List Transition → Case
+caseWith c ts = record { states = c .states; labels = c .labels; initial = c .initial; transitions = ts; formula = c .formula }
 
 -- A file written into a buffer from its first byte on; all behind it is unchanged.
 abbrev pub writtenTo : List ℕ → List ℕ → List ℕ

@@ -3,6 +3,7 @@ use mathlib.Core.Path.{_≡_}
 use mathlib.Core.List.{List, _++_}
 use Prim.Native.Nat.{ℕ, _+_, _*_, _<_}
 use lib.ListN.{length, getD, take, drop}
+use Rattle.cases.specs.declared.Header.{Header}
 use Rattle.cases.specs.declared.Transition.{Transition}
 use Rattle.records.specs.Replaced.{tableBytes}
 
@@ -23,3 +24,19 @@ pub record WroteMore (done : ℕ) (ts : List Transition) (before after : List �
 pub record WroteAll (ts : List Transition) (before after : List ℕ) (r : ℕ) : Type 0 where
   pub exact : after ≡ tableBytes ts ++ drop (6 * length ts) before
   pub count : r ≡ length ts
+
+-- a header for a table of k transitions, where the tables stand as they have to
+abbrev pub recounted : Header → ℕ → Header
+recounted h k = record {
+  version = h .version;
+  states = h .states;
+  transitions = k;
+  labels = h .labels;
+  initial = h .initial;
+  actions = h .actions;
+  nodes = h .nodes;
+  «labels_at» = h .«labels_at»;
+  «transitions_at» = h .«transitions_at»;
+  «actions_at» = h .«transitions_at» + 6 * k;
+  «formula_at» = h .«transitions_at» + 6 * k + 4 * h .actions;
+}

@@ -1,0 +1,2 @@
+-- Laws of the crate's definitions, and its promises.
+pub mod ModelLaws

@@ -381,6 +381,20 @@ fn marked() -> Vec<u8> {
     case(256, 1, &[], &True)
 }
 
+/// The largest case of version 2: 256 states, 2,048 different transitions, 64 labels, two of them alike each, 128 action nodes and 64 formula
+/// nodes. Eight transitions leave each state, the first record is (0, 0, 1), the last one (255, 0, 7), and none from state 0 has label 63.
+pub fn largest_named() -> Vec<u8> {
+    let names: Vec<Names> =
+        (0..64).map(|i| if i % 2 == 0 { [1 + i / 2, 100, 0, 0] } else { [100, 1 + i / 2, 0, 0] }).collect();
+    let transitions: Vec<Transition> =
+        (0..2048).map(|i| (i % 256, (7 * i + i / 256) % 64, (i + i / 256 + 1) % 256)).collect();
+    let any = |i: u16| either(label(i), either(label(i + 20), label(i + 40)));
+    let steps = (0..20).map(|i| all(if i < 2 { any(i) } else { not(any(i)) }, Variable("all")));
+    let every = steps.reduce(and).expect("20 boxes");
+    let two = some(any(20), some(any(21), True));
+    named_case(256, &names, &transitions, &mu("all", or(two, every)))
+}
+
 pub struct Input {
     pub name: &'static str,
     pub case: Vec<u8>,

@@ -1,5 +1,6 @@
 //! The calls of the proved library.
 
+use crate::plain::editor::Transition;
 use crate::plain::routes::Answer;
 use crate::plain::solver::Report;
 
@@ -90,6 +91,9 @@ mod c {
             j: usize,
             limit: u64,
         ) -> RouteNumbers;
+        pub fn bithrowy_add(model: *mut u8, m: usize, source: u64, label: u64, target: u64) -> u64;
+        pub fn bithrowy_drop(model: *mut u8, m: usize, source: u64, label: u64, target: u64) -> u64;
+        pub fn bithrowy_want(model: *const u8, m: usize, marks: *mut u64, k: usize, limit: u64) -> RouteNumbers;
     }
 }
 
@@ -133,4 +137,19 @@ pub fn equation(case: &[u8], file: &mut [u8], work: &mut [u8], marks: &mut [u64]
             limit,
         )
     }
+}
+
+pub fn add(model: &mut [u8], [source, label, target]: Transition) -> u64 {
+    // SAFETY: as in `translate`.
+    unsafe { c::bithrowy_add(model.as_mut_ptr(), model.len(), source, label, target) }
+}
+
+pub fn drop(model: &mut [u8], [source, label, target]: Transition) -> u64 {
+    // SAFETY: as in `translate`.
+    unsafe { c::bithrowy_drop(model.as_mut_ptr(), model.len(), source, label, target) }
+}
+
+pub fn want(model: &[u8], marks: &mut [u64], limit: u64) -> RouteNumbers {
+    // SAFETY: as in `translate`.
+    unsafe { c::bithrowy_want(model.as_ptr(), model.len(), marks.as_mut_ptr(), marks.len(), limit) }
 }

@@ -1,12 +1,14 @@
 //! Times the proved library beside the same procedures in plain Rust, on the same inputs, in one process, and the program `twosides`
-//! beside a plain one. Prints a table of ratios; fails if an answer differs.
+//! beside a plain one; then edits of the largest case. Prints two tables of ratios; fails if an answer differs.
 
+mod edits;
 mod inputs;
 mod library;
 mod plain;
 
 use inputs::Input;
 use library::{Numbers, RouteNumbers};
+use std::fmt::Debug;
 use std::fs::{self, File};
 use std::hint::black_box;
 use std::path::{Path, PathBuf};
@@ -114,29 +116,39 @@ fn sample(mut take: impl FnMut(Side) -> Duration) -> Times {
     times
 }
 
-/// Times a call. A sample is up to eight calls, each lent memory of its own. The numbers and all lent memory of each call are compared with
-/// those of plain Rust.
-fn time_call(call: Call, input: &Input, equations: &[u8]) -> Times {
-    let fresh = Lent::of(equations.len());
+/// Times what is run with lent memory. A sample is up to eight runs, each lent memory of its own. The answer and all lent memory of each run are
+/// compared with those of plain Rust.
+fn time<L: Clone + PartialEq, A: Clone + PartialEq + Debug>(
+    name: &str,
+    fresh: &L,
+    run: impl Fn(Side, &mut L) -> A,
+) -> Times {
     let mut wanted = fresh.clone();
     let began = Instant::now();
-    let right = run(call, Side::Plain, &input.case, equations, &mut wanted);
-    let calls = (50_000 / began.elapsed().as_nanos().max(1)).clamp(1, 8) as usize;
-    let mut answers = vec![(Answer::Five(Numbers::default()), fresh.clone()); calls];
+    let right = run(Side::Plain, &mut wanted);
+    let runs = (50_000 / began.elapsed().as_nanos().max(1)).clamp(1, 8) as usize;
+    let mut answers = vec![(None, fresh.clone()); runs];
     sample(|side| {
         for (_, lent) in &mut answers {
-            lent.clone_from(&fresh);
+            lent.clone_from(fresh);
         }
         let began = Instant::now();
         for (answer, lent) in &mut answers {
-            *answer = run(black_box(call), side, black_box(&input.case), black_box(equations), lent);
+            *answer = Some(run(black_box(side), lent));
         }
-        let time = began.elapsed() / calls as u32;
+        let time = began.elapsed() / runs as u32;
         for (answer, lent) in &answers {
-            assert!(*answer == right, "{}: {answer:?} instead of {right:?}", input.name);
-            assert!(*lent == wanted, "{}: other lent memory", input.name);
+            assert!(answer.as_ref() == Some(&right), "{name}: {answer:?} instead of {right:?}");
+            assert!(*lent == wanted, "{name}: other lent memory");
         }
         time
+    })
+}
+
+/// Times a call on a case and its equation file.
+fn time_call(call: Call, input: &Input, equations: &[u8]) -> Times {
+    time(input.name, &Lent::of(equations.len()), |side, lent| {
+        run(black_box(call), side, black_box(&input.case), black_box(equations), lent)
     })
 }
 
@@ -210,5 +222,7 @@ fn main() -> std::io::Result<()> {
         });
         println!("| {} |", row.join(" | "));
     }
+    println!();
+    edits::print_table();
     Ok(())
 }

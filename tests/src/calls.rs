@@ -1,4 +1,6 @@
-//! The four calls under test, as a caller sees them.
+//! The calls under test, as a caller sees them: four on files, and four that open and change a model.
+
+use crate::formats::Transition;
 
 /// The five numbers that translate and solve answer; verdict, count and rounds are 0 after a refusal.
 #[repr(C)]
@@ -84,4 +86,13 @@ pub trait Calls {
     fn solve(&self, file: &[u8], work: &mut [u8], marks: &mut [u64], limit: u64) -> Numbers;
     fn direct(&self, case: &[u8], marks: &mut [u64], limit: u64) -> RouteNumbers;
     fn equation(&self, case: &[u8], file: &mut [u8], work: &mut [u8], marks: &mut [u64], limit: u64) -> RouteNumbers;
+}
+
+/// The calls of an editor. A model is lent bytes; the numbers of a transition have 64 bits; a call answers its refusal
+/// number, or 0, and a want what direct answers.
+pub trait Edits {
+    fn open(&self, case: &[u8], model: &mut [u8]) -> u64;
+    fn add(&self, model: &mut [u8], transition: Transition) -> u64;
+    fn drop(&self, model: &mut [u8], transition: Transition) -> u64;
+    fn want(&self, model: &[u8], marks: &mut [u64], limit: u64) -> RouteNumbers;
 }

@@ -112,14 +112,7 @@ pub enum FileTruth {
 /// What the reference says of a case.
 pub enum CaseTruth {
     Refused(u64),
-    Accepted {
-        case: Box<Case>,
-        recorded: Recorded,
-        cap: u64,
-        direct: Option<(Vec<bool>, u64)>,
-        file: Vec<u8>,
-        solve: FileTruth,
-    },
+    Accepted { case: Box<Case>, direct: DirectTruth, file: Vec<u8>, solve: FileTruth },
 }
 
 impl CaseTruth {
@@ -127,8 +120,61 @@ impl CaseTruth {
     fn recorded(&self) -> Recorded {
         match self {
             CaseTruth::Refused(_) => Recorded::default(),
-            CaseTruth::Accepted { recorded, .. } => *recorded,
+            CaseTruth::Accepted { direct, .. } => direct.recorded,
         }
+    }
+}
+
+/// What the reference says of direct on an accepted case.
+pub struct DirectTruth {
+    initial: usize,
+    recorded: Recorded,
+    cap: u64,
+    /// The root's set and the rounds, unless these are above the cap.
+    solved: Option<(Vec<bool>, u64)>,
+}
+
+impl DirectTruth {
+    /// The rounds are counted up to a cap that a budget of cell values gives.
+    pub fn of(case: &Case, budget: u64) -> DirectTruth {
+        let work = case.formula.len() * (case.states + case.transitions.len());
+        let cap = (budget / work as u64).max(30);
+        let recorded = tables::recorded(&case.transitions);
+        DirectTruth { initial: case.initial, recorded, cap, solved: rounds::direct(case, cap).ok() }
+    }
+
+    /// The states where the formula holds, if they were found.
+    pub fn states(&self) -> Option<&Vec<bool>> {
+        self.solved.as_ref().map(|(set, _)| set)
+    }
+
+    fn own_rounds(&self) -> Option<u64> {
+        self.solved.as_ref().map(|(_, rounds)| *rounds)
+    }
+
+    /// The own rounds if they are known, else the cap, at which direct is spent.
+    pub fn rounds_or_cap(&self) -> u64 {
+        self.own_rounds().unwrap_or(self.cap)
+    }
+
+    /// The limits that are tried.
+    pub fn limits(&self) -> Vec<u64> {
+        limits(self.own_rounds(), self.cap)
+    }
+
+    /// The answer with so many mark words and a limit, and the words that are written.
+    pub fn answer(&self, marks: usize, limit: u64) -> (RouteNumbers, Vec<u64>) {
+        let (answer, written) = match &self.solved {
+            _ if marks < MARK_WORDS => (Numbers::refused(13), Vec::new()),
+            Some((set, rounds)) if *rounds <= limit => {
+                (Numbers::report(set, self.initial, *rounds), mark_words(set).to_vec())
+            }
+            solved => {
+                assert!(solved.is_some() || limit <= self.cap);
+                (Numbers::refused(14), Vec::new())
+            }
+        };
+        (RouteNumbers::with(answer, self.recorded), written)
     }
 }
 
@@ -182,14 +228,16 @@ fn sizes(needed: usize) -> Vec<usize> {
     all
 }
 
-fn same<T: PartialEq + Debug>(answer: T, expected: T) -> Check {
+/// Is it answered what was expected?
+pub fn same<T: PartialEq + Debug>(answer: T, expected: T) -> Check {
     if answer != expected {
         return Err(format!("answered {answer:?}, expected {expected:?}"));
     }
     Ok(())
 }
 
-fn unchanged(input: &[u8], copy: &[u8]) -> Check {
+/// Is an input as it was?
+pub fn unchanged(input: &[u8], copy: &[u8]) -> Check {
     if input != copy {
         return Err("the input changed".to_string());
     }
@@ -222,17 +270,16 @@ impl Comparison<'_> {
                 }
                 Ok(())
             }
-            CaseTruth::Accepted { case, recorded, cap, direct, file, solve } => {
-                self.tally.accept(case, *recorded);
+            CaseTruth::Accepted { case, direct, file, solve } => {
+                self.tally.accept(case, direct.recorded);
                 for size in sizes(file.len()) {
                     self.translate(bytes, truth, size)?;
                 }
-                let own = direct.as_ref().map(|(_, rounds)| *rounds);
-                for limit in limits(own, *cap) {
+                for limit in direct.limits() {
                     self.direct(bytes, truth, MARK_WORDS, limit)?;
                 }
                 for marks in sizes(MARK_WORDS) {
-                    self.direct(bytes, truth, marks, own.unwrap_or(*cap))?;
+                    self.direct(bytes, truth, marks, direct.rounds_or_cap())?;
                 }
                 self.equation_route(bytes, truth, file.len(), solve)?;
                 self.solve_all(file, solve)
@@ -309,23 +356,20 @@ impl Comparison<'_> {
             return Err("reference: the equation file is not read as it was written".to_string());
         }
         let solve = self.file_truth(&file)?;
-        let recorded = tables::recorded(&case.transitions);
 
-        let work = case.formula.len() * (case.states + case.transitions.len());
-        let cap = (self.budget / work as u64).max(30);
-        let direct = rounds::direct(&case, cap).ok();
+        let direct = DirectTruth::of(&case, self.budget);
         let game = meaning::states_by_game(&case);
         let search = meaning::states_by_search(&case);
-        self.tally.direct.add(search.is_some() as u64, direct.is_none() as u64);
+        self.tally.direct.add(search.is_some() as u64, direct.states().is_none() as u64);
         let solved = match &solve {
             FileTruth::Accepted { solved: Some(solved), .. } => Some(&solved.sets[0]),
             _ => None,
         };
         let alike = |set: Option<&Vec<bool>>| set.is_none_or(|set| *set == game);
-        if !alike(direct.as_ref().map(|(set, _)| set)) || !alike(search.as_ref()) || !alike(solved) {
+        if !alike(direct.states()) || !alike(search.as_ref()) || !alike(solved) {
             return Err("reference: game, search and rounds give different states".to_string());
         }
-        Ok(CaseTruth::Accepted { case: Box::new(case), recorded, cap, direct, file, solve })
+        Ok(CaseTruth::Accepted { case: Box::new(case), direct, file, solve })
     }
 
     /// What the reference says of an equation file. The rounds' sets, the parity game and the search must agree.
@@ -371,20 +415,13 @@ impl Comparison<'_> {
     fn direct(&mut self, bytes: &[u8], truth: &CaseTruth, size: usize, limit: u64) -> Check {
         self.tally.calls += 1;
         let (expected, written) = match truth {
-            CaseTruth::Refused(number) => (Numbers::refused(*number), Vec::new()),
-            CaseTruth::Accepted { .. } if size < MARK_WORDS => (Numbers::refused(13), Vec::new()),
-            CaseTruth::Accepted { case, direct: Some((set, rounds)), .. } if *rounds <= limit => {
-                (Numbers::report(set, case.initial, *rounds), mark_words(set).to_vec())
-            }
-            CaseTruth::Accepted { cap, direct, .. } => {
-                assert!(direct.is_some() || limit <= *cap);
-                (Numbers::refused(14), Vec::new())
-            }
+            CaseTruth::Refused(number) => (RouteNumbers::refused(*number), Vec::new()),
+            CaseTruth::Accepted { direct, .. } => direct.answer(size, limit),
         };
         let input = bytes.to_vec();
         let mut marks = Lent::words(size, &mut self.random);
         let answer = self.calls.direct(&input, marks.lend(), limit);
-        same(answer, RouteNumbers::with(expected, truth.recorded()))
+        same(answer, expected)
             .and_then(|()| marks.holds(&written, "mark words"))
             .and_then(|()| unchanged(&input, bytes))
             .map_err(|text| format!("direct, marks {size}, limit {limit}: {text}"))

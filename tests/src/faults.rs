@@ -65,6 +65,17 @@ impl Fault {
         }
     }
 
+    /// Spoils a place after a call that answered this refusal number if it comes then; answers whether the place is
+    /// another than the right one.
+    pub fn spoils<T: Copy + PartialEq + Not<Output = T>>(self, refusal: u64, lent: &[T], place: &mut [T]) -> bool {
+        if !self.follows(refusal) {
+            return false;
+        }
+        let right = place.to_vec();
+        self.spoil(lent, place);
+        place != right
+    }
+
     /// Spoils a place, given what it was when it was lent.
     fn spoil<T: Copy + PartialEq + Not<Output = T>>(self, lent: &[T], place: &mut [T]) {
         match self {
@@ -93,10 +104,9 @@ impl Faulty<'_> {
     where
         T: Copy + PartialEq + Not<Output = T>,
     {
-        if at == self.at && self.fault.follows(refusal) {
-            let right = place.to_vec();
-            self.fault.spoil(lent, place);
-            self.spoilt.set(self.spoilt.get() + (place != right) as u64);
+        if at == self.at {
+            let spoilt = self.fault.spoils(refusal, lent, place);
+            self.spoilt.set(self.spoilt.get() + spoilt as u64);
         }
     }
 }

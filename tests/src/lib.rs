@@ -1,5 +1,5 @@
-//! An independent checker for cases and equation files, written from the paper alone, and the tests that hold the built
-//! library against it.
+//! An independent checker for cases, equation files and models that change, written from the paper alone, and the tests
+//! that hold the built library against it.
 
 pub mod calls;
 pub mod case_rules;
@@ -7,6 +7,7 @@ pub mod compare;
 pub mod copies;
 pub mod damage;
 pub mod edges;
+pub mod editing;
 pub mod faults;
 pub mod formats;
 pub mod game;

@@ -1,7 +1,8 @@
 //! Runs all tests of the built library and program: `cargo run --release --manifest-path tests/Cargo.toml`, after
-//! `rt staticlib exports` and with the programs `twosides` and `solvefile` built. The first failure ends it with a non-zero status.
+//! `rt staticlib exports` and with the programs `twosides`, `solvefile` and `editor` built. The first failure ends it with a non-zero status.
 //! An argument is another seed to start from.
 
+mod edited;
 mod library;
 mod planted;
 
@@ -243,9 +244,11 @@ fn main() {
     runs_cases();
     report("files of the program runs, bytes", Instant::now(), stream::files(&root.join("crates/runs")));
     planted::check(seed);
+    edited::check(seed, &root);
     let programs = root.join("target/bin");
     report("program twosides", Instant::now(), program::twosides(&programs));
     report("program solvefile", Instant::now(), program::solvefile(&programs));
+    report("program editor", Instant::now(), program::editor(&programs));
     println!("all passed; {:.1} s", start.elapsed().as_secs_f64());
 }
 

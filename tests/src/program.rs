@@ -1,10 +1,13 @@
-//! The built programs `twosides` and `solvefile`: a file on standard input, lines of numbers on standard output.
+//! The built programs `twosides`, `solvefile` and `editor`: a file or a stream on standard input, lines of numbers on
+//! standard output.
 
 use crate::calls::{Calls, MARK_WORDS};
 use crate::damage::with_number;
+use crate::editing::lists;
+use crate::editing::stream::{of_list, printed, stdin_and_stdout, Stream};
 use crate::formats::*;
 use crate::generate::{case_in, equations, Size};
-use crate::paper::{named_runs, p1_file, runs, LIMIT};
+use crate::paper::{named_runs, p1_file, refused_cases, refused_names, runs, LIMIT};
 use crate::random::Random;
 use crate::reader::read_case;
 use crate::slips::Reference;
@@ -134,7 +137,7 @@ fn both_routes(bytes: &[u8]) -> String {
 fn solved(bytes: &[u8]) -> String {
     let (mut work, mut marks) = (vec![0; CELLS], [0; MARK_WORDS]);
     let x = Reference(None).solve(bytes, &mut work, &mut marks, LIMIT);
-    line('S', &[x.refusal, x.verdict, x.count, x.rounds]) + "\n"
+    line("S", &[x.refusal, x.verdict, x.count, x.rounds]) + "\n"
 }
 
 /// Compares what a program prints with the reference; answers how many runs were compared.
@@ -173,4 +176,71 @@ pub fn twosides(folder: &Path) -> Result<u64, String> {
 pub fn solvefile(folder: &Path) -> Result<u64, String> {
     assert_eq!(solved(&p1_file()), "S 0 1 3 4\n");
     compare(&folder.join("solvefile"), files(), solved)
+}
+
+/// A stream of P1 with each call once; in version 2 it has 74 bytes before its calls.
+fn each_call(case: &[u8]) -> Vec<u8> {
+    let mut stream = Stream::new(case);
+    stream.add((1, 0, 1));
+    stream.drop((0, 0, 1));
+    stream.want(2);
+    stream.0
+}
+
+/// Streams that end in the length, in the case, in a call and behind one.
+fn cut_streams() -> Inputs {
+    let whole = each_call(&named_runs()[0].case.bytes());
+    let calls_at = whole.len() - 23;
+    let lengths = [0, 1, 2, 3, 21, 40, calls_at - 1, calls_at].into_iter().chain(calls_at + 1..=whole.len());
+    lengths.map(|length| ("a stream that is cut", whole[..length].to_vec())).collect()
+}
+
+/// Streams whose case is refused, with calls behind it, and streams with a call that does not exist.
+fn ended_streams() -> Inputs {
+    let refused = [refused_cases(1), refused_cases(2), refused_names()].concat();
+    let mut all: Inputs = refused.iter().map(|(_, bytes)| ("a refused case", each_call(bytes))).collect();
+    let p1 = runs()[0].case.bytes();
+    for byte in [0, 4, 49, 255] {
+        let mut stream = Stream::new(&p1);
+        stream.want(9);
+        stream.0.push(byte);
+        stream.want(9);
+        all.push(("a call that does not exist", stream.0));
+    }
+    let longer = [&p1[..], &[0; 65_535 - 54]].concat();
+    all.push(("a case of 65,535 bytes", each_call(&longer)));
+    let mut short = each_call(&p1);
+    short[0] += 1;
+    all.push(("a length that takes a byte of the calls", short));
+    let mut accepted = Stream::new(&p1).0;
+    accepted[1] = 1;
+    all.push(("a stream that ends in the case, which is accepted", accepted));
+    all
+}
+
+/// The stored stream, streams of lists by chance, and calls on the largest case.
+fn edit_streams() -> Inputs {
+    let mut all = vec![("the stored stream", stdin_and_stdout().0)];
+    all.extend((0..40).map(|seed| ("a list by chance", of_list(&lists::list(&mut Random::new(seed))))));
+    all.extend((0..3).map(|seed| ("a list on a full table", of_list(&lists::full_list(&mut Random::new(seed))))));
+    let mut largest = Stream::new(&worked::largest().bytes());
+    largest.add((0, 0, 0));
+    largest.drop((0, 0, 1));
+    largest.add((255, 63, 255));
+    largest.want(1_000);
+    all.push(("the largest case", largest.0));
+    all
+}
+
+/// The program `editor` of a folder.
+pub fn editor(folder: &Path) -> Result<u64, String> {
+    let p1 = runs()[0].case.bytes();
+    assert_eq!(printed(&each_call(&p1)), "open 0\nadd 0\ndrop 0\nwant 0 1 2 2 2 2\n");
+    let binary = folder.join("editor");
+    let compared = compare(&binary, [cut_streams(), ended_streams(), edit_streams()].concat(), printed)?;
+    let (stdin, stdout) = stdin_and_stdout();
+    if output(&binary, &stdin, 701)? != stdout {
+        return Err("the stored stream, handed over in pieces: other lines".to_string());
+    }
+    Ok(compared + 1)
 }

@@ -5,7 +5,8 @@ use crate::formats::*;
 /// The number of a refusal.
 pub type Refusal = u64;
 
-fn refuse_if(holds: bool, number: Refusal) -> Result<(), Refusal> {
+/// The refusal if its condition holds.
+pub fn refuse_if(holds: bool, number: Refusal) -> Result<(), Refusal> {
     if holds {
         Err(number)
     } else {
@@ -31,7 +32,7 @@ pub fn read_in_order(bytes: &[u8], order: &[Refusal]) -> Result<Case, Refusal> {
 }
 
 /// The tables of a case, whatever they hold, or the first of conditions 1 to 5.
-fn read_tables(bytes: &[u8]) -> Result<Case, Refusal> {
+pub fn read_tables(bytes: &[u8]) -> Result<Case, Refusal> {
     let number = |at: usize| bytes[at] as usize + 256 * bytes[at + 1] as usize;
 
     refuse_if(bytes.len() < CASE_HEADER, 1)?;

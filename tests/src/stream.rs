@@ -180,13 +180,13 @@ pub fn reference_answers(bytes: &[u8]) -> (RouteNumbers, RouteNumbers) {
 pub fn reference_lines(bytes: &[u8]) -> [String; 3] {
     let (equation, direct) = reference_answers(bytes);
     assert_eq!(equation.recorded(), direct.recorded(), "both routes");
-    let route = |letter: char, x: RouteNumbers| line(letter, &[x.refusal, x.verdict, x.count, x.rounds]);
-    [route('E', equation), route('D', direct), line('T', &[direct.records, direct.distinct])]
+    let route = |letter: &str, x: RouteNumbers| line(letter, &[x.refusal, x.verdict, x.count, x.rounds]);
+    [route("E", equation), route("D", direct), line("T", &[direct.records, direct.distinct])]
 }
 
-/// A letter and numbers as the programs print them.
-pub fn line(letter: char, numbers: &[u64]) -> String {
-    numbers.iter().fold(letter.to_string(), |text, number| format!("{text} {number}"))
+/// A word and numbers as the programs print them.
+pub fn line(word: &str, numbers: &[u64]) -> String {
+    numbers.iter().fold(word.to_string(), |text, number| format!("{text} {number}"))
 }
 
 /// What the program reads and what it must print.
@@ -203,13 +203,18 @@ pub fn stdin_and_stdout() -> (Vec<u8>, String) {
 /// The program's files `stdin` and `stdout` in a folder are what is written now; answers how many bytes were compared.
 pub fn files(folder: &Path) -> Result<u64, String> {
     let (stdin, stdout) = stdin_and_stdout();
+    same_files(folder, "cases", &stdin, &stdout)
+}
+
+/// The files `stdin` and `stdout` in a folder, which a program writes, hold these bytes; answers how many were compared.
+pub fn same_files(folder: &Path, writer: &str, stdin: &[u8], stdout: &str) -> Result<u64, String> {
     let mut compared = 0;
-    for (name, expected) in [("stdin", stdin), ("stdout", stdout.into_bytes())] {
+    for (name, expected) in [("stdin", stdin), ("stdout", stdout.as_bytes())] {
         let path = folder.join(name);
         let found = std::fs::read(&path).map_err(|error| format!("cannot read {}: {error}", path.display()))?;
         if found != expected {
-            let at = found.iter().zip(&expected).take_while(|(x, y)| x == y).count();
-            return Err(format!("{} differs from byte {at} on: write it with the program `cases`", path.display()));
+            let at = found.iter().zip(expected).take_while(|(x, y)| x == y).count();
+            return Err(format!("{} differs from byte {at} on: write it with the program `{writer}`", path.display()));
         }
         compared += found.len() as u64;
     }

@@ -97,8 +97,13 @@ fn bad_offset(case: &[u8], h: &Header) -> bool {
         || h.third != h.second + 4 * h.actions
 }
 
+/// Where the file ends.
+pub fn end(h: &Header) -> usize {
+    tables_from(h) + 6 * h.transitions + 4 * h.actions + 4 * h.nodes
+}
+
 fn bad_length(case: &[u8], h: &Header) -> bool {
-    case.len() != tables_from(h) + 6 * h.transitions + 4 * h.actions + 4 * h.nodes
+    case.len() != end(h)
 }
 
 fn bad_model(case: &[u8], h: &Header) -> bool {
@@ -220,28 +225,37 @@ fn too_deep(part: &[u8], f: usize) -> bool {
 }
 
 /// Whether a case is shorter than the header of the version that it says.
-fn too_short(case: &[u8]) -> bool {
+pub fn too_short(case: &[u8]) -> bool {
     case.len() < HEADER || case.len() < NAMED_HEADER && number_at(case, 0) == 2
+}
+
+/// The header of a case, or the first condition on its layout that holds: 1 to 5.
+pub fn layout(case: &[u8]) -> Result<Header, u8> {
+    if too_short(case) {
+        return Err(1);
+    }
+    if !(1..=2).contains(&number_at(case, 0)) {
+        return Err(2);
+    }
+    let h = header(case);
+    if bad_count(&h) {
+        return Err(3);
+    }
+    if bad_offset(case, &h) {
+        return Err(4);
+    }
+    if bad_length(case, &h) {
+        return Err(5);
+    }
+    Ok(h)
 }
 
 /// The first condition that holds of a case: 1 to 6, 15, 7 to 10.
 pub fn refusal(case: &[u8]) -> Option<u8> {
-    if too_short(case) {
-        return Some(1);
-    }
-    if !(1..=2).contains(&number_at(case, 0)) {
-        return Some(2);
-    }
-    let h = header(case);
-    if bad_count(&h) {
-        return Some(3);
-    }
-    if bad_offset(case, &h) {
-        return Some(4);
-    }
-    if bad_length(case, &h) {
-        return Some(5);
-    }
+    let h = match layout(case) {
+        Ok(h) => h,
+        Err(cause) => return Some(cause),
+    };
     if bad_model(case, &h) {
         return Some(6);
     }

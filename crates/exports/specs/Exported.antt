@@ -1,5 +1,5 @@
--- What the calls for C promise: the four numbers of an outcome, the length of the file that was written or the two numbers of a tally, and the
--- lent places as the calls leave them.
+-- What the calls for C promise: the four numbers of an outcome, the length of the file that was written or the two numbers of a tally, or a
+-- refusal number only, and the lent places as the calls leave them.
 use mathlib.Core.Path.{_≡_}
 use mathlib.Core.List.{List}
 use Prim.Native.Nat.{ℕ}
@@ -8,6 +8,8 @@ use Rattle.solver.specs.Outcome.{Answered}
 use Rattle.translate.specs.Translating.{Translated}
 use Rattle.routes.specs.Route.{direct, Lent, marksOnly, Ran, EquationRan}
 use Rattle.cases.specs.declared.Tally.{Tally}
+use Rattle.cases.specs.declared.Transition.{Transition}
+use Rattle.models.specs.Model.{Edited, openConditions, openedModel, addConditions, addedModel, dropConditions, droppedModel}
 use Rattle.exports.specs.declared.Numbers.{Numbers}
 use Rattle.exports.specs.declared.RouteNumbers.{RouteNumbers}
 
@@ -37,3 +39,14 @@ pub record DirectSays (b marks : List ℕ) (limit : ℕ) (n : RouteNumbers) (mar
 
 pub record EquationSays (b : List ℕ) (l : Lent) (limit : ℕ) (n : RouteNumbers) (file′ work′ marks′ : List ℕ) : Type 0 where
   pub ran : EquationRan b l limit (exportedRoute n) (exportedTally n) file′ work′ marks′
+
+-- The calls on a model promise of the number k that they answer, and of the model as they leave it, what `open`, `add` and `drop` promise. What is
+-- wanted of a model is said by DirectSays, of the case that the model starts with.
+pub record OpenSays (b model : List ℕ) (k : ℕ) (model′ : List ℕ) : Type 0 where
+  pub edited : Edited (openConditions b model) (openedModel b model) model k model′
+
+pub record AddSays (model : List ℕ) (t : Transition) (k : ℕ) (model′ : List ℕ) : Type 0 where
+  pub edited : Edited (addConditions model t) (addedModel model t) model k model′
+
+pub record DropSays (model : List ℕ) (t : Transition) (k : ℕ) (model′ : List ℕ) : Type 0 where
+  pub edited : Edited (dropConditions model t) (droppedModel model t) model k model′

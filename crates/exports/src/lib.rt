@@ -1,4 +1,7 @@
-// The calls for programs in C or Rust. A slice is a pointer and a length; the answer is five numbers, and six of a route over a case.
+// The calls for programs in C or Rust. A slice is a pointer and a length. Translating and solving answer five numbers, a route over a case or
+// a model six, and a change of a model one, its refusal number.
+use cases::Transition;
+use models::change_number;
 use routes::Answer;
 use routes::Tallied;
 use routes::numbers_of;
@@ -9,7 +12,8 @@ ghost use mathlib.Core.Path.{_≡_};
 ghost use Rattle.sets.specs.Refusals.{refused};
 ghost use Rattle.translate.specs.Translating.{writtenNumber, writtenLength};
 ghost use Rattle.routes.specs.Route.{routeAnswer, lent};
-ghost use Rattle.exports.specs.Exported.{exportedRoute, exportedTally, TranslateSays, SolveSays, DirectSays, EquationSays};
+ghost use Rattle.cases.specs.File.{caseWithin};
+ghost use Rattle.exports.specs.Exported.{exportedRoute, exportedTally, TranslateSays, SolveSays, DirectSays, EquationSays, OpenSays, AddSays, DropSays};
 ghost use Rattle.exports.specs.internal.Saying.{Says};
 
 // The refusal number (0 if none), the verdict as 1 or 0, the count of marked states, the rounds, and the length of the file that was
@@ -126,4 +130,42 @@ pub extern "C" fn bithrowy_equation(
         (now (file .exit)) (now (work .exit)) (now (marks .exit)) ⌝ }
 {
     route_numbers(routes::equation(case, file, work, marks, limit))
+}
+
+#[no_mangle]
+pub extern "C" fn bithrowy_open(case: &[u8], model: &mut [u8]) -> u64
+    ensures { λ r. ⌜ OpenSays (now (case .entry)) (now (model .entry)) r (now (model .exit)) ⌝ }
+{
+    change_number(models::open(case, model))
+}
+
+#[no_mangle]
+pub extern "C" fn bithrowy_add(model: &mut [u8], source: u64, label: u64, target: u64) -> u64
+    ensures { λ r. ⌜ AddSays (now (model .entry)) (record { source = source; label = label; target = target }) r (now (model .exit)) ⌝ }
+{
+    let t = Transition {
+        source: source as usize,
+        label: label as usize,
+        target: target as usize,
+    };
+    change_number(models::add(model, t))
+}
+
+#[no_mangle]
+pub extern "C" fn bithrowy_drop(model: &mut [u8], source: u64, label: u64, target: u64) -> u64
+    ensures { λ r. ⌜ DropSays (now (model .entry)) (record { source = source; label = label; target = target }) r (now (model .exit)) ⌝ }
+{
+    let t = Transition {
+        source: source as usize,
+        label: label as usize,
+        target: target as usize,
+    };
+    change_number(models::drop(model, t))
+}
+
+#[no_mangle]
+pub extern "C" fn bithrowy_want(model: &[u8], marks: &mut [u64], limit: u64) -> RouteNumbers
+    ensures { λ r. ⌜ DirectSays (caseWithin (now (model .entry))) (now (marks .entry)) limit r (now (marks .exit)) ⌝ }
+{
+    route_numbers(models::want(model, marks, limit))
 }

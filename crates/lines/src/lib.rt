@@ -45,7 +45,7 @@ pub fn by_file(file: &[u8]) -> Numbers
 }
 
 // A space, and a number.
-fn print_number(n: u64) {
+pub fn print_number(n: u64) {
     io::write_all(STDOUT_FILENO, b" ");
     io::print_decimal(STDOUT_FILENO, n);
 }
@@ -65,10 +65,15 @@ pub fn print_route(name: &[u8], run: Tallied) {
     print(name, numbers_of(answer));
 }
 
-// T, how many records the case's transition table has, and how many of them are distinct.
-pub fn print_tally(run: Tallied) {
+// How many records the case's transition table has, and how many of them are distinct.
+pub fn print_records(run: Tallied) {
     let tally = run.tally;
-    io::write_all(STDOUT_FILENO, b"T");
     print_number(tally.records as u64);
     print_number(tally.distinct as u64);
+}
+
+// T, and the numbers of the tally.
+pub fn print_tally(run: Tallied) {
+    io::write_all(STDOUT_FILENO, b"T");
+    print_records(run);
 }

@@ -69,10 +69,11 @@ fn add_laid(model: &mut [u8], end: usize, h: Header, t: Transition) -> Change
         return Change::Refused(Cause::Range);
     }
     let records = h.transitions_at;
-    if find(&model[records..], h.transitions, t) < h.transitions {
+    let count = h.transitions;
+    if find(&model[records..], count, t) < count {
         return Change::Made;
     }
-    if TRANSITIONS <= h.transitions {
+    if TRANSITIONS <= count {
         return Change::Refused(Cause::Full);
     }
     if model.len() - end < 6 {
@@ -102,8 +103,9 @@ fn drop_laid(model: &mut [u8], h: Header, t: Transition) -> Change
         return Change::Refused(Cause::Range);
     }
     let records = h.transitions_at;
-    let place = find(&model[records..], h.transitions, t);
-    if h.transitions <= place {
+    let count = h.transitions;
+    let place = find(&model[records..], count, t);
+    if count <= place {
         return Change::Refused(Cause::Absent);
     }
     remove(model, h, place);

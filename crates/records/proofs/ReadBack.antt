@@ -178,19 +178,26 @@ header v n m l i a f at₁ at₂ at₃ at₄ = record {
 counts-pass : (x : Header) → CountsFit x → badCount x ≡ false
 unfolding badCount every
 counts-pass x c = rw (
-  le-leb 1 (x .states) (c .some-state), le-leb (x .states) stateLimit (c .few-states),
-  le-leb 0 (x .transitions) (omega arith), le-leb (x .transitions) transitionLimit (c .few-transitions),
-  le-leb 1 (x .labels) (c .some-label), le-leb (x .labels) labelLimit (c .few-labels),
-  le-leb 0 (x .actions) (omega arith), le-leb (x .actions) actionLimit (c .few-actions),
-  le-leb 1 (x .nodes) (c .some-node), le-leb (x .nodes) nodeLimit (c .few-nodes),
+  le-leb 1 (x .states) (c .some-state),
+  le-leb (x .states) stateLimit (c .few-states),
+  le-leb 0 (x .transitions) (omega arith),
+  le-leb (x .transitions) transitionLimit (c .few-transitions),
+  le-leb 1 (x .labels) (c .some-label),
+  le-leb (x .labels) labelLimit (c .few-labels),
+  le-leb 0 (x .actions) (omega arith),
+  le-leb (x .actions) actionLimit (c .few-actions),
+  le-leb 1 (x .nodes) (c .some-node),
+  le-leb (x .nodes) nodeLimit (c .few-nodes),
 )
 
 offsets-pass : (x : Header) → x .«labels_at» ≡ labelsStart x → x .«transitions_at» ≡ transitionsStart x → x .«actions_at» ≡ actionsStart x → x .«formula_at» ≡ formulaStart x
     → badOffset x ≡ false
 unfolding badOffset
 offsets-pass x p q r s = rw (
-  eq-eqb (x .«labels_at») (labelsStart x) p, eq-eqb (x .«transitions_at») (transitionsStart x) q,
-  eq-eqb (x .«actions_at») (actionsStart x) r, eq-eqb (x .«formula_at») (formulaStart x) s,
+  eq-eqb (x .«labels_at») (labelsStart x) p,
+  eq-eqb (x .«transitions_at») (transitionsStart x) q,
+  eq-eqb (x .«actions_at») (actionsStart x) r,
+  eq-eqb (x .«formula_at») (formulaStart x) s,
 )
 
 version-passes : (b : List ℕ) → Accepted b → otherVersion versions b ≡ false

@@ -26,36 +26,34 @@ find-requires c κs = let s = c .before .before .before .before .before in let m
 
 returns-2 : tie.Need-returns-2
 returns-2 c =
-    let s = c .before .before .before .before .before .before .before .before in let m = s .args .model .now in let l = laid (caseWithin m) (s .pre .1) (s .pre .0) in
-    let held = is-held m (s .args .t) l (c .before .before .find .ensures) (c .if2 .taken) in
-    makes (add-held m (s .args .t) (s .pre .0) (right-is m (s .args .t) (s .pre .1) (c .before .before .before .before .before .before .transition-holds .ensures) (not-false _ (c .before .before .before .before .before .if1 .left))) held) (held-left m (s .args .t) held)
+    let s = c .before .before .before .before .before .before .before in let m = s .args .model .now in let l = laid (caseWithin m) (s .pre .1) (s .pre .0) in
+    let held = is-held m (s .args .t) l (c .before .find .ensures) (omega (arith, c .if2 .taken)) in
+    makes (add-held m (s .args .t) (s .pre .0) (right-is m (s .args .t) (s .pre .1) (c .before .before .before .before .before .transition-holds .ensures) (not-false _ (c .before .before .before .before .if1 .left))) held) (held-left m (s .args .t) held)
 
 returns-3 : tie.Need-returns-3
 returns-3 c =
-    let s = c .before .before .before .before .before .before .before .before .before .before in let m = s .args .model .now in let l = laid (caseWithin m) (s .pre .1) (s .pre .0) in
-    refuses (add-full m (s .args .t) (s .pre .0) (right-is m (s .args .t) (s .pre .1) (c .before .before .before .before .before .before .before .before .transition-holds .ensures) (not-false _ (c .before .before .before .before .before .before .before .if1 .left))) (is-new m (s .args .t) l (c .before .before .before .before .find .ensures) (c .before .before .if2 .left)) (omega (arith, count-is m (s .args .t) l, c .if3 .taken)))
-    (λ z. omega arith)
+    let s = c .before .before .before .before .before .before .before .before in let m = s .args .model .now in let l = laid (caseWithin m) (s .pre .1) (s .pre .0) in
+    refuses (add-full m (s .args .t) (s .pre .0) (right-is m (s .args .t) (s .pre .1) (c .before .before .before .before .before .before .transition-holds .ensures) (not-false _ (c .before .before .before .before .before .if1 .left))) (is-new m (s .args .t) l (c .before .before .find .ensures) (omega (arith, c .before .if2 .left))) (omega (arith, count-is m (s .args .t) l, c .if3 .taken))) (λ z. omega arith)
 
 sub-if4 : tie.Need-sub-if4
-sub-if4 c = let s = c .before .before .before .before .before .before .before .before .before .before in omega (arith, s .pre .2, within-few (s .args .model .now))
+sub-if4 c = let s = c .before .before .before .before .before .before .before .before in omega (arith, s .pre .2, within-few (s .args .model .now))
 
 returns-4 : tie.Need-returns-4
 returns-4 c =
-    let s = c .before .before .before .before .before .before .before .before .before .before .before in let m = s .args .model .now in let l = laid (caseWithin m) (s .pre .1) (s .pre .0) in
-    refuses (add-memory m (s .args .t) (s .pre .0) (right-is m (s .args .t) (s .pre .1) (c .before .before .before .before .before .before .before .before .before .transition-holds .ensures) (not-false _ (c .before .before .before .before .before .before .before .before .if1 .left))) (is-new m (s .args .t) l (c .before .before .before .before .before .find .ensures) (c .before .before .before .if2 .left))
-    (omega (arith, count-is m (s .args .t) l, c .before .if3 .left)) (omega (arith, s .pre .2, within-few m, c .if4 .taken)))
+    let s = c .before .before .before .before .before .before .before .before .before in let m = s .args .model .now in let l = laid (caseWithin m) (s .pre .1) (s .pre .0) in
+    refuses (add-memory m (s .args .t) (s .pre .0) (right-is m (s .args .t) (s .pre .1) (c .before .before .before .before .before .before .before .transition-holds .ensures) (not-false _ (c .before .before .before .before .before .before .if1 .left))) (is-new m (s .args .t) l (c .before .before .before .find .ensures) (omega (arith, c .before .before .if2 .left))) (omega (arith, count-is m (s .args .t) l, c .before .if3 .left)) (omega (arith, s .pre .2, within-few m, c .if4 .taken)))
     (λ z. omega arith)
 
 insert-requires : tie.Need-insert-requires
 insert-requires c κs =
-    let s = c .before .before .before .before .before .before .before .before .before .before .before .before in let m = s .args .model .now in let l = laid (caseWithin m) (s .pre .1) (s .pre .0) in
+    let s = c .before .before .before .before .before .before .before .before .before .before in let m = s .args .model .now in let l = laid (caseWithin m) (s .pre .1) (s .pre .0) in
     (l, c .before .before .if3 .left, omega (arith, l .ends, s .pre .2, within-few m, c .before .if4 .left))
 
 returns-5 : tie.Need-returns-5
 returns-5 c =
-    let s = c .before .before .before .before .before .before .before .before .before .before .before .before .before .before .before in let m = s .args .model .now in let l = laid (caseWithin m) (s .pre .1) (s .pre .0) in
-    let new = is-new m (s .args .t) l (c .before .before .before .before .before .before .before .before .before .find .ensures) (c .before .before .before .before .before .before .before .if2 .left) in
-    makes (add-new m (s .args .t) (s .pre .0) (right-is m (s .args .t) (s .pre .1) (c .before .before .before .before .before .before .before .before .before .before .before .before .before .transition-holds .ensures) (not-false _ (c .before .before .before .before .before .before .before .before .before .before .before .before .if1 .left))) new (omega (arith, count-is m (s .args .t) l, c .before .before .before .before .before .if3 .left)) (omega (arith, s .pre .2, within-few m, c .before .before .before .before .if4 .left)))
+    let s = c .before .before .before .before .before .before .before .before .before .before .before .before .before in let m = s .args .model .now in let l = laid (caseWithin m) (s .pre .1) (s .pre .0) in
+    let new = (is-new m (s .args .t) l (c .before .before .before .before .before .before .before .find .ensures) (omega (arith, c .before .before .before .before .before .before .if2 .left))) in
+    makes (add-new m (s .args .t) (s .pre .0) (right-is m (s .args .t) (s .pre .1) (c .before .before .before .before .before .before .before .before .before .before .before .transition-holds .ensures) (not-false _ (c .before .before .before .before .before .before .before .before .before .before .if1 .left))) new (omega (arith, count-is m (s .args .t) l, c .before .before .before .before .before .if3 .left)) (omega (arith, s .pre .2, within-few m, c .before .before .before .before .if4 .left)))
     (c .before .before .insert .ensures ∙ new-left m (s .args .t) new)
 
 pub add-laid-spec : {M : Type 1} → statement M

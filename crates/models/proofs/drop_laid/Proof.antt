@@ -30,18 +30,18 @@ find-requires c κs = let s = c .before .before .before .before .before in let m
 
 returns-2 : tie.Need-returns-2
 returns-2 c =
-    let s = c .before .before .before .before .before .before .before .before in let m = s .args .model .now in let l = laid (caseWithin m) (s .pre .1) (s .pre .0) in
-    refuses (drop-absent m (s .args .t) (s .pre .0) (right-is m (s .args .t) (s .pre .1) (c .before .before .before .before .before .before .transition-holds .ensures) (not-false _ (c .before .before .before .before .before .if1 .left))) (is-new m (s .args .t) l (c .before .before .find .ensures) (c .if2 .taken))) (λ z. omega arith)
+    let s = c .before .before .before .before .before .before .before in let m = s .args .model .now in let l = laid (caseWithin m) (s .pre .1) (s .pre .0) in
+    refuses (drop-absent m (s .args .t) (s .pre .0) (right-is m (s .args .t) (s .pre .1) (c .before .before .before .before .before .transition-holds .ensures) (not-false _ (c .before .before .before .before .if1 .left))) (is-new m (s .args .t) l (c .before .find .ensures) (omega (arith, c .if2 .taken)))) (λ z. omega arith)
 
 remove-requires : tie.Need-remove-requires
-remove-requires c κs = let s = c .before .before .before .before .before .before .before .before .before in let m = s .args .model .now in let l = laid (caseWithin m) (s .pre .1) (s .pre .0) in (l, c .before .if2 .left)
+remove-requires c κs = let s = c .before .before .before .before .before .before .before .before in let m = s .args .model .now in let l = laid (caseWithin m) (s .pre .1) (s .pre .0) in (l, omega (arith, c .before .if2 .left))
 
 returns-3 : tie.Need-returns-3
 unfolding droppedModel dropping
 returns-3 c =
-    let s = c .before .before .before .before .before .before .before .before .before .before .before .before in let m = s .args .model .now in let l = laid (caseWithin m) (s .pre .1) (s .pre .0) in
-    let found = c .before .before .before .before .before .before .find .ensures in
-    makes (drop-held m (s .args .t) (s .pre .0) (right-is m (s .args .t) (s .pre .1) (c .before .before .before .before .before .before .before .before .before .before .transition-holds .ensures) (not-false _ (c .before .before .before .before .before .before .before .before .before .if1 .left))) (is-held m (s .args .t) l found (c .before .before .before .before .if2 .left)))
+    let s = c .before .before .before .before .before .before .before .before .before .before .before in let m = s .args .model .now in let l = laid (caseWithin m) (s .pre .1) (s .pre .0) in
+    let found = c .before .before .before .before .before .find .ensures in
+    makes (drop-held m (s .args .t) (s .pre .0) (right-is m (s .args .t) (s .pre .1) (c .before .before .before .before .before .before .before .before .before .transition-holds .ensures) (not-false _ (c .before .before .before .before .before .before .before .before .if1 .left))) (is-held m (s .args .t) l found (omega (arith, c .before .before .before .before .if2 .left))))
     (c .before .before .remove .ensures ∙ ap (λ (i : ℕ). writtenTo m (withTransitions (caseWithin m) (withoutAt (transitionTable (caseWithin m)) i))) (place-is m (s .args .t) l found))
 
 pub drop-laid-spec : {M : Type 1} → statement M

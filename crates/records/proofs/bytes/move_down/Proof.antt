@@ -24,8 +24,8 @@ loop-again c =
       omega arith,
       length-set (l .part) _ _ ∙ l .inv .1,
       ap (λ (q : List ℕ). set q (l .i) (getD q (s .args .by + l .i) 0)) (l .inv .2)
-      ∙ ap (set (take (l .i) behind ++ drop (l .i) p) (l .i)) (not-yet behind p (l .i) (s .args .by) (omega arith))
-      ∙ place-written behind p (l .i) inside (omega arith),
+          ∙ ap (set (take (l .i) behind ++ drop (l .i) p) (l .i)) (not-yet behind p (l .i) (s .args .by) (omega arith))
+          ∙ place-written behind p (l .i) inside (omega arith),
     )
 
 returns : tie.Need-returns Inv-loop μ-loop

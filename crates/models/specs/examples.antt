@@ -1,0 +1,2 @@
+-- Worked values, computed by the checker.
+pub mod Edits

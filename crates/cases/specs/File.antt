@@ -14,7 +14,7 @@ pub use Rattle.cases.specs.declared.Transition.{Transition}
 unfoldable pub u16 : List ℕ → ℕ → ℕ
 u16 b at = getD b at 0 + 256 * getD b (at + 1) 0
 
--- The first number is the version. Here and in `headerOf` alone it is said at which byte a number of the header stands.
+-- The first number is the version. Here, in `headerOf`, and in `headFor` of the crate records alone it is said at which byte a number of the header stands.
 abbrev pub version : List ℕ → ℕ
 version b = u16 b 0
 

@@ -1,29 +1,27 @@
 -- A model holds a set of transitions of the opened case: opening one, adding, dropping and wanting keep it so, and answer by the set.
 use mathlib.Core.Path.{_≡_, refl, sym, ap, subst, _∙_}
 use mathlib.Core.Logic.{by-cases}
-use mathlib.Core.Bool.{Bool, true, false, cond, not, _&&_, true≢false}
+use mathlib.Core.Bool.{Bool, true, false, cond, not, _&&_}
 use mathlib.Core.List.{List, [], _∷_, _++_}
-use Prim.Native.Nat.{ℕ, zero, suc, _+_, _-_, _*_, _≤_, _<_}
+use Prim.Native.Nat.{ℕ, _+_, _-_, _*_, _≤_, _<_}
 use native.Mathlib.Decide.{ℕ-discrete}
 use native.Mathlib.Omega.{arith}
-use borrow.Author.Tests.{le-ltb, leb-true, leb-false, ltb-false, not-false}
+use borrow.Author.Tests.{le-ltb, leb-false, ltb-false, not-false}
 use lib.Dec.{T, ltb, leb}
-use lib.ListN.{length, take, drop, length-append, length-drop}
+use lib.ListN.{length, drop, length-append, length-drop}
 use lib.Seq.{drop-append-seam}
 use Rattle.sets.specs.Lists.{every}
-use Rattle.sets.specs.Refusals.{Conditions, firstOf, byRefusal, Outcome}
+use Rattle.sets.specs.Refusals.{Conditions, firstOf, byRefusal}
 use Rattle.sets.proofs.Refusals.{none-of-first, one-of-first, none-reached, none-here, refusing}
 use Rattle.cases.specs.declared.Header.{Header}
-use Rattle.cases.specs.declared.Tally.{Tally}
 use Rattle.cases.specs.declared.Transition.{Transition}
 use Rattle.cases.specs.File.{headerOf, transitionTable, caseWithin, transitionLimit}
 use Rattle.cases.specs.Case.{distinct}
 use Rattle.cases.specs.Conditions.{transitionOk, layoutConditions, modelConditions, formulaConditions, caseConditions, caseRefusal, Accepted}
 use Rattle.cases.proofs.Accepting.{passed}
-use Rattle.cases.proofs.TableTrees.{holds as is-true, held as is-so}
+use Rattle.cases.proofs.TableTrees.{held as is-so}
 use Rattle.cases.proofs.Tallies.{model-holds, length-transitions}
 use Rattle.cases.proofs.Distinct.{length-distinct}
-use Rattle.routes.specs.Route.{direct, marksOnly, Ran}
 use Rattle.records.specs.Replaced.{withTransitions, writtenTo}
 use Rattle.records.proofs.Files.{with-long}
 use Rattle.records.proofs.ReadBack.{header-with, transitions-with, accepted-with, within-with, with-with}

@@ -1,30 +1,37 @@
 -- What an edit answers and leaves, condition by condition.
 use mathlib.Core.Path.{_≡_, sym, ap, subst, _∙_}
-use mathlib.Core.Bool.{Bool, true, false, cond, not, _&&_}
+use mathlib.Core.Bool.{Bool, true, false, not, _&&_}
 use mathlib.Core.List.{List, [], _∷_, _++_}
 use Prim.Native.Nat.{ℕ, _+_, _-_, _*_, _≤_, _<_}
 use native.Mathlib.Omega.{arith}
+use borrow.Rule.Slice.PartAt.{part-to-end}
 use borrow.Author.Tests.{le-ltb, lt-ltb, le-leb, lt-leb}
-use lib.Dec.{ltb, leb}
-use lib.ListN.{length, take, drop}
+use lib.Dec.{ltb}
+use lib.ListN.{length, take, drop, length-drop}
 use lib.Seq.{length-take-le}
 use Rattle.sets.specs.Lists.{every}
-use Rattle.sets.specs.Refusals.{Conditions, firstOf, byRefusal}
+use Rattle.sets.specs.Refusals.{Conditions, firstOf}
 use Rattle.sets.proofs.Refusals.{refusing, none-of-first, one-of-first, holds-here, holds-later, none-holds}
 use Rattle.cases.specs.declared.Header.{Header}
 use Rattle.cases.specs.declared.Transition.{Transition}
+use Rattle.cases.specs.declared.Cause.{Cause}
+use Rattle.cases.specs.declared.Opened.{Opened}
+use Rattle.cases.specs.declared.Opened.the-variants.{Accepted as Header·Accepted, Refused}
 use Rattle.cases.specs.File.{headerOf, transitionTable, caseWithin, labelLimit, transitionLimit, actionLimit, nodeLimit}
 use Rattle.cases.specs.Conditions.{transitionOk, layoutConditions, modelConditions, formulaConditions, caseConditions, caseRefusal, Accepted}
+use Rattle.cases.specs.Opening.{caseNumber, Opens}
 use Rattle.cases.specs.internal.Checks.{longestHeader, transitionPart, transitionsIn, Laid}
 use Rattle.cases.specs.internal.Links.{FirstFlags}
 use Rattle.cases.proofs.Accepting.{passed}
+use Rattle.cases.proofs.Openings.{accepted, refused}
 use Rattle.cases.proofs.Tallies.{length-transitions, partAt}
 use Rattle.records.specs.Places.{placeOf}
 use Rattle.records.proofs.Heads.{start-few}
+use Rattle.records.proofs.Files.{within-few, lies-in}
 use Rattle.records.proofs.Places.{stands, stands-not}
 use Rattle.records.proofs.ReadBack.{table-within}
 use Rattle.records.specs.Replaced.{withTransitions, writtenTo}
-use Rattle.models.specs.Model.{holds, dropping, addChecks, dropChecks, Edited, modelRoom, openConditions, openedModel, addConditions, addedModel, dropConditions, droppedModel}
+use Rattle.models.specs.Model.{holds, addChecks, dropChecks, Edited, modelRoom, openConditions, addConditions, addedModel, dropConditions}
 
 -- ---- any edit
 
@@ -156,6 +163,24 @@ module _ (model : List ℕ) (t : Transition) {h : Header} (l : Laid (caseWithin 
 
     pub is-new : h .transitions ≤ r → holds (transitionTable (caseWithin model)) t ≡ false
     is-new g = stands-not t (transitionTable (caseWithin model)) (omega (arith, place-is, count-is))
+
+-- where the records lie in the bytes
+pub records-inside : (model : List ℕ) {h : Header} → Laid (caseWithin model) h → (h .«transitions_at» ≤ length model) × (6 * h .transitions ≤ length (partAt model (h .«transitions_at»)))
+records-inside model {h} l =
+    let p = lies-in l model (within-few model) in
+    let r : ℕ = h .«transitions_at» in
+    (omega arith, rw (part-to-end model r) (omega (arith, length-drop r model)))
+
+-- what was found of the bytes up to the end of the case was found of the case
+module _ (model : List ℕ) (e : ℕ) (cut : take e model ≡ caseWithin model) {answer : Opened} (o : Opens (firstOf (layoutConditions (take e model))) (headerOf (take e model)) answer) where
+  same : firstOf (layoutConditions (take e model)) ≡ firstOf (layoutConditions (caseWithin model))
+  same = ap (λ (b : List ℕ). firstOf (layoutConditions b)) cut
+
+  pub laid-out : {h : Header} → answer ≡ Header·Accepted h → (firstOf (layoutConditions (caseWithin model)) ≡ 0) × (h ≡ headerOf (caseWithin model))
+  laid-out is = let a = accepted o is in (sym same ∙ a .0, a .1 ∙ ap headerOf cut)
+
+  pub not-laid-out : {cause : Cause} → answer ≡ Refused cause → (caseNumber cause ≡ firstOf (layoutConditions (caseWithin model))) × ¬ (firstOf (layoutConditions (caseWithin model)) ≡ 0)
+  not-laid-out is = let r = refused o is in (r .0 ∙ same, λ z. r .1 (same ∙ z))
 
 -- a list that is cut at its own length or before
 pub cut-long : (s : List ℕ) (e : ℕ) → e ≤ length s → e ≡ length (take e s)

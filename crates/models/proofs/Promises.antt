@@ -1,15 +1,14 @@
 -- The promises of the editor's calls, of whatever keeps their contracts. A model is a list of bytes of any length and content.
-use mathlib.Core.Path.{_≡_, refl, sym, ap, subst, _∙_}
+use mathlib.Core.Path.{_≡_, refl, sym, subst, _∙_}
 use mathlib.Core.Logic.{_↔_, _⊎_}
 use mathlib.Core.List.{List, [], _∷_, _++_, List·Mem, List·Memᴰ, List·Nodup}
 use Prim.Native.Nat.{ℕ, _≤_, _<_}
-use native.Mathlib.Omega.{arith}
 use lib.Dec.{T}
 use lib.ListN.{length}
 use Rattle.sets.specs.Lists.{every}
 use Rattle.sets.specs.States.{States, Valuation}
 use Rattle.sets.specs.Words.{Marks}
-use Rattle.sets.specs.Refusals.{Conditions, numbersOf, firstOf, NoneHolds, FirstHolds, byRefusal, Outcome, GivesMarks, Spent, reportOf}
+use Rattle.sets.specs.Refusals.{Conditions, numbersOf, firstOf, NoneHolds, FirstHolds, Outcome, GivesMarks, Spent, reportOf}
 use Rattle.sets.proofs.Refusals.{refusing, answered-member, answered-first, answered-none}
 use Rattle.cases.specs.declared.Tally.{Tally}
 use Rattle.cases.specs.declared.Transition.{Transition}
@@ -19,14 +18,14 @@ use Rattle.cases.specs.Conditions.{layoutConditions, modelConditions, formulaCo
 use Rattle.cases.specs.Meaning.{MeansIn}
 use Rattle.cases.specs.Tally.{tallied}
 use Rattle.cases.proofs.Distinct.{few-nodup, distinct-mem, distinct-all}
-use Rattle.routes.specs.Route.{direct, Lent, marksOnly, OwnRounds, Enough, Ran}
-use Rattle.routes.proofs.Promises.{spent-iff, gives-iff, reports, marks-mean, tally-table, same-answers}
+use Rattle.routes.specs.Route.{direct, marksOnly, OwnRounds, Enough, Ran}
+use Rattle.routes.proofs.Promises.{spent-iff, gives-iff, reports, marks-mean, marks-kept, tally-table, same-answers}
 use Rattle.records.specs.Replaced.{withTransitions, caseWith}
 use Rattle.records.proofs.ReadBack.{accepted-with, case-with}
 use Rattle.models.specs.Model.{holds, adding, dropping, addChecks, dropChecks, Edited, openConditions, openedModel, addConditions, addedModel, dropConditions, droppedModel}
-use Rattle.models.specs.History.{Event, Want, Happened, heldAfter, Answers, openedSet}
+use Rattle.models.specs.History.{Event, Add, Drop, Want, Happened, nothing, added, dropped, wanted, heldAfter, Answers, openedSet}
 use Rattle.models.proofs.Sets as sets
-use Rattle.models.proofs.Histories.{Holding, Told, within, open-accepted, open-holding, told, told-at}
+use Rattle.models.proofs.Histories.{Holding, within, open-accepted, open-holding, told, told-at}
 
 -- ---- One call, on bytes of any length and content
 
@@ -60,8 +59,8 @@ drop-none model t e = answered-none (dropConditions model t) (e .number) tt
 
 -- ---- Sets: members by the library's List·Mem
 
--- Held is being a member. Opening a case holds each transition of its table. With a transition the members are it and those that were held; without one
--- that is held, those but it.
+-- Held is being a member. Opening a case holds each transition of its table. With a transition the members are it and those that were held. What dropping leaves is
+-- said of the sets of a history, in which each transition stands once (`history-dropped`).
 pub set-held : (ts : List Transition) (t : Transition) → T (holds ts t) ↔ List·Mem t ts
 set-held = sets.held-member
 
@@ -123,28 +122,32 @@ module _ (b model : List ℕ) {m m′ : List ℕ} {es : List Event} (opened : Ed
   held = heldAfter (openedSet b) es
 
   -- the case that direct runs
-  abbrev run : Case
-  run = caseWith (caseOf b) held
+  abbrev edited : Case
+  edited = caseWith (caseOf b) held
 
   pub wanted-direct : Ran direct (withTransitions b held) (marksOnly marks) limit o y marks′
   wanted-direct = rw (history-model b model opened happened) at ran
 
-  same : caseOf (withTransitions b held) ≡ run
+  same : caseOf (withTransitions b held) ≡ edited
   same = history-case b model opened happened
 
   -- A state is marked exactly if it lies in the formula's meaning for the set.
-  pub wanted-means : GivesMarks o → (ρ : Valuation) (v : States) → MeansIn run ρ v → Marks (caseOf b .states) v marks marks′
+  pub wanted-means : GivesMarks o → (ρ : Valuation) (v : States) → MeansIn edited ρ v → Marks (caseOf b .states) v marks marks′
   wanted-means g ρ v means = rw same at (marks-mean wanted-direct g ρ v (rw same means))
 
+  -- A refused want leaves the marks as they were.
+  pub wanted-kept : ¬ GivesMarks o → marks′ ≡ marks
+  wanted-kept = marks-kept wanted-direct
+
   -- With enough mark words it is spent exactly if direct's own rounds exceed the limit; otherwise they are reported, with verdict and count of the meaning.
-  module _ (enough : Enough direct run (marksOnly marks)) (r : ℕ) (own : OwnRounds direct run r) where
+  module _ (enough : Enough direct edited (marksOnly marks)) (r : ℕ) (own : OwnRounds direct edited r) where
     pub wanted-spent : Spent o ↔ limit < r
     wanted-spent = spent-iff _ (history-accepted b model opened happened) wanted-direct (rw same enough) r (rw same own)
 
     pub wanted-gives : GivesMarks o ↔ r ≤ limit
     wanted-gives = gives-iff _ (history-accepted b model opened happened) wanted-direct (rw same enough) r (rw same own)
 
-    pub wanted-reports : r ≤ limit → (ρ : Valuation) (v : States) → MeansIn run ρ v → o ≡ reportOf (caseOf b .initial) v r
+    pub wanted-reports : r ≤ limit → (ρ : Valuation) (v : States) → MeansIn edited ρ v → o ≡ reportOf (caseOf b .initial) v r
     wanted-reports h ρ v means = rw same at (reports _ (history-accepted b model opened happened) wanted-direct (rw same enough) r (rw same own) h ρ v (rw same means))
 
   -- Both numbers of the tally are the size of the set.
@@ -164,3 +167,26 @@ module _ (b model : List ℕ) {m m′ : List ℕ} {es : List Event} (opened : Ed
       let set-same : SameTransitionSet (caseOf (withTransitions b held)) (caseOf (withTransitions b (heldAfter (openedSet b) fs))) =
       rw (same, same₁) (record { states = refl; initial = refl; formula = refl; transitions = members }) in
       same-answers _ _ set-same (history-accepted b model opened happened) (history-accepted b model₁ opened₁ happened₁) wanted-direct (rw (history-model b model₁ opened₁ happened₁) at ran₁)
+
+-- ---- The same at any place of a history
+
+-- A history is its first calls, and then the others.
+pub history-split : (before : List Event) {after : List Event} {m m′ : List ℕ} → Happened m (before ++ after) m′ → (m₁ : List ℕ) × (Happened m before m₁ × Happened m₁ after m′)
+history-split [] h = (_, (nothing, h))
+history-split (Add t k ∷ es) (added e rest) = let s = history-split es rest in (s .0, (added e (s .1 .0), s .1 .1))
+history-split (Drop t k ∷ es) (dropped e rest) = let s = history-split es rest in (s .0, (dropped e (s .1 .0), s .1 .1))
+history-split (Want marks limit o y marks′ ∷ es) (wanted e rest) = let s = history-split es rest in (s .0, (wanted e (s .1 .0), s .1 .1))
+
+first-wanted : {m m′ marks marks′ : List ℕ} {limit : ℕ} {o : Outcome} {y : Tally} {es : List Event} → Happened m (Want marks limit o y marks′ ∷ es) m′ → Ran direct (caseWithin m) (marksOnly marks) limit o y marks′
+first-wanted (wanted e rest) = e
+
+-- Wherever marks are wanted in a history and given, a state is marked exactly if it lies in the formula's meaning for the set that the calls before it leave, and both numbers of the tally
+-- are the size of that set.
+pub history-means : (b model : List ℕ) {m m′ : List ℕ} (before after : List Event) (marks : List ℕ) (limit : ℕ) (o : Outcome) (y : Tally) (marks′ : List ℕ)
+    → Edited (openConditions b model) (openedModel b model) model 0 m → Happened m (before ++ (Want marks limit o y marks′ ∷ after)) m′
+    → (GivesMarks o → (ρ : Valuation) (v : States) → MeansIn (caseWith (caseOf b) (heldAfter (openedSet b) before)) ρ v → Marks (caseOf b .states) v marks marks′)
+    × (y ≡ record { records = length (heldAfter (openedSet b) before); distinct = length (heldAfter (openedSet b) before) })
+history-means b model before after marks limit o y marks′ opened happened =
+    let s = history-split before happened in
+    let ran = first-wanted (s .1 .1) in
+    (wanted-means b model opened (s .1 .0) ran, wanted-tally b model opened (s .1 .0) ran)

@@ -3,18 +3,18 @@ use mathlib.Core.Path.{_≡_, refl, sym, ap, _∙_}
 use mathlib.Core.Logic.{_↔_, _⊎_, inl, inr, ⊎-elim, by-cases}
 use mathlib.Core.Bool.{Bool, true, false, cond, _||_, true≢false}
 use mathlib.Core.List.{List, [], _∷_, _++_, List·Mem}
-use Prim.Native.Nat.{ℕ, suc, _+_, _-_, _≤_, _<_}
+use Prim.Native.Nat.{ℕ, _+_, _-_, _≤_, _<_}
 use native.Mathlib.Nat.{add-zero}
 use native.Mathlib.Decide.{decLt}
 use native.Mathlib.Omega.{arith}
 use lib.Dec.{T, eqb}
-use lib.ListN.{length, take, set, length-append, length-set}
+use lib.ListN.{length, set, length-set}
 use lib.Seq.{length-take-le}
 use Rattle.sets.specs.Lists.{every, forSome}
 use Rattle.sets.proofs.Lists.{and-both, all-of-both}
 use Rattle.cases.specs.declared.Transition.{Transition}
 use Rattle.cases.specs.Case.{sameTransition, copies, transitionAt, distinct}
-use Rattle.cases.proofs.TableTrees.{holds as is-true, held as is-so}
+use Rattle.cases.proofs.TableTrees.{holds as is-true}
 use Rattle.cases.proofs.MeaningLaws.{same-equal, same-self, all-within}
 use Rattle.cases.proofs.Distinct.{copies-append, copies-mem, mem-copies, mem-within, distinct-once, distinct-within}
 use Rattle.records.specs.Places.{placeOf, withoutAt}

@@ -42,7 +42,7 @@ holds ts t = forSome (λ u. sameTransition u t) ts
 unfoldable pub adding : List Transition → Transition → List Transition
 adding ts t = cond (holds ts t) ts (ts ++ (t ∷ []))
 
--- the set without one
+-- the set without a transition that is held
 unfoldable pub dropping : List Transition → Transition → List Transition
 dropping ts t = withoutAt ts (placeOf t ts)
 

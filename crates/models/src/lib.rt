@@ -30,6 +30,7 @@ pub enum Cause {
     Memory,
 }
 
+// What opening or changing a model answers.
 pub enum Change {
     Made,
     Refused(Cause),

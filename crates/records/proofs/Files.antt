@@ -1,14 +1,14 @@
 -- A case file as its head, its table and what follows; and the file with another table.
 use mathlib.Core.Path.{_≡_, refl, sym, ap, _∙_}
 use mathlib.Core.Logic.{by-cases}
-use mathlib.Core.List.{List, [], _∷_, _++_, map, append-assoc, append-nil}
+use mathlib.Core.List.{List, [], _∷_, _++_, map, append-assoc}
 use Prim.Native.Nat.{ℕ, zero, suc, _+_, _-_, _*_, _/_, _%_, _≤_, _<_}
 use native.Mathlib.Nat.{add-assoc}
 use native.Mathlib.Decide.{ℕ-discrete}
 use native.Mathlib.Omega.{arith}
 use borrow.Rule.Slice.PartAt.{part-to-end}
-use lib.ListN.{length, getD, take, drop, set, length-append, length-drop, length-set, take-append-drop}
-use lib.Seq.{length-take-le, take-add, take-at, drop-at, drop-drop, take-suc, take-all, getD-take, getD-drop, getD-set-same, getD-set-other, set-append-left, drop-append-add}
+use lib.ListN.{length, take, drop, set, length-append, length-drop, length-set, take-append-drop}
+use lib.Seq.{length-take-le, take-at, drop-at, drop-drop, take-suc, take-all, getD-take, getD-drop, getD-set-same, getD-set-other, set-append-left, drop-append-add}
 use Rattle.sets.specs.Lists.{numbersFrom}
 use Rattle.sets.proofs.Lists.{table-at}
 use Rattle.cases.specs.declared.Header.{Header}

@@ -1,14 +1,14 @@
 -- Laws of bytes that are copied, moved and written over.
-use mathlib.Core.Path.{_≡_, refl, sym, ap, _∙_}
+use mathlib.Core.Path.{_≡_, sym, ap, _∙_}
 use mathlib.Core.List.{List, [], _∷_, _++_, append-assoc, append-nil}
-use Prim.Native.Nat.{ℕ, suc, _+_, _-_, _≤_, _<_, _/_, _%_}
+use Prim.Native.Nat.{ℕ, suc, _+_, _-_, _≤_, _<_}
 use native.Mathlib.Nat.{add-assoc}
 use native.Mathlib.Numerals.{add-one}
 use native.Mathlib.Omega.{arith}
 use lib.ListN.{length, getD, take, drop, set, length-append, length-drop, take-append-drop, drop-of-length-le, List·getD-append}
 use lib.Seq.{take-at, drop-at, drop-drop, drop-cons, take-suc, length-take-le, append-snoc, set-at, getD-take, getD-drop, getD-append-add, drop-append-add, take-append-add, drop-append-le, take-append-le, sets-eq}
 use Rattle.cases.specs.declared.Transition.{Transition}
-use Rattle.records.specs.Replaced.{bytes16, recordBytes, withNumber}
+use Rattle.records.specs.Replaced.{recordBytes, withNumber}
 use Rattle.records.specs.internal.Writing.{over}
 
 -- ---- a loop that writes rising places

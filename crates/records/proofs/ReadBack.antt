@@ -2,15 +2,14 @@
 -- action nodes and formula, the transitions that were put in; and it is accepted.
 use mathlib.Core.Path.{_≡_, refl, sym, ap, _∙_}
 use mathlib.Core.Bool.{Bool, true, false, cond, not, _&&_}
-use mathlib.Core.List.{List, [], _∷_, _++_, map, append-assoc}
+use mathlib.Core.List.{List, [], _∷_, _++_, map}
 use Prim.Native.Nat.{ℕ, zero, suc, _+_, _-_, _*_, _/_, _%_, _≤_, _<_}
-use native.Mathlib.Nat.{add-assoc}
 use native.Mathlib.Omega.{arith}
 use borrow.Rule.Slice.PartAt.{part-to-end}
 use borrow.Author.Tests.{le-ltb, lt-ltb, le-leb, eq-eqb}
-use lib.Dec.{T, eqb, ltb, leb}
-use lib.ListN.{length, getD, take, drop, set, length-append, length-drop, length-set, List·getD-append}
-use lib.Seq.{length-take-le, take-at, drop-at, drop-drop, drop-append-add, getD-take, getD-set-same, getD-set-other, set-set, set-comm, ext-getD}
+use lib.Dec.{T, eqb, ltb}
+use lib.ListN.{length, getD, take, drop, set, length-set, List·getD-append}
+use lib.Seq.{take-at, drop-at, drop-drop, getD-set-same, getD-set-other, set-set, set-comm, ext-getD}
 use Rattle.sets.specs.Lists.{numbersFrom, every, forSome}
 use Rattle.sets.specs.Words.{stateLimit}
 use Rattle.sets.proofs.Lists.{length-table, table-at}
@@ -20,7 +19,7 @@ use Rattle.cases.specs.declared.Label.{Label}
 use Rattle.cases.specs.declared.Node.{Node}
 use Rattle.cases.specs.declared.Transition.{Transition}
 use Rattle.cases.specs.File.{u16, version, hasLabelTable, headerSize, headerOf, labelRecords, labelsStart, transitionsStart, actionsStart, formulaStart, fileEnd, labelIn, transitionIn, nodeIn, labelTable, transitionTable, actionTable, formulaTable, caseWithin, labelLimit, transitionLimit, actionLimit, nodeLimit}
-use Rattle.cases.specs.Case.{Case, caseAction, caseOf}
+use Rattle.cases.specs.Case.{Case, caseOf}
 use Rattle.cases.specs.Labels.{alike, alikeLabels}
 use Rattle.cases.specs.Prefix.{arityIn, actionArities, wholeFormulas, formulaAt, actionAt}
 use Rattle.cases.specs.Conditions.{tooSmall, otherVersion, versions, badCount, badOffset, badLength, badModel, badLabels, badActions, badFormula, badVariable, tooDeep, transitionOk, labelOk, actionOk, layoutConditions, modelConditions, formulaConditions, caseConditions, caseRefusal, Accepted}

@@ -6,8 +6,8 @@ use Prim.Native.Nat.{ℕ, zero, suc, _+_, _*_, _/_, _%_, _≤_, _<_}
 use native.Mathlib.Nat.{div-add-mod, mod-eq-of-lt, zero-add}
 use native.Mathlib.Omega.{arith}
 use lib.Dec.{T, ltb, ltb→lt}
-use lib.ListN.{length, getD, take, drop, set, length-append}
-use lib.Seq.{drop-cons, set-split, ext-getD, drop-drop}
+use lib.ListN.{length, getD, take, drop, set}
+use lib.Seq.{drop-cons, set-split, ext-getD}
 use Rattle.sets.specs.Lists.{numbersFrom, every}
 use Rattle.sets.proofs.Lists.{and-left, and-right, length-table, table-at}
 use Rattle.cases.specs.declared.Transition.{Transition}

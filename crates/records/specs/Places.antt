@@ -11,6 +11,6 @@ unfoldable pub placeOf : Transition → List Transition → ℕ
 placeOf t [] = 0
 placeOf t (u ∷ us) = cond (sameTransition u t) 0 (suc (placeOf t us))
 
--- A table without the record at a place: the last record takes its place.
+-- A table without the record at one of its places: the last record takes that place.
 unfoldable pub withoutAt : List Transition → ℕ → List Transition
 withoutAt ts i = take (length ts - 1) (set ts i (transitionAt ts (length ts - 1)))

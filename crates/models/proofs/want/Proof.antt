@@ -1,6 +1,4 @@
 -- `want` meets its contract.
-use mathlib.Core.List.{List}
-use Prim.Native.Nat.{ℕ}
 use borrow.Author.Needs.{needs}
 use Rattle.models.proofs.ModelLaws.{cut-long}
 use Rattle.models.proofs.want.Statement.{statement}

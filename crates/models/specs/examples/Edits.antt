@@ -1,19 +1,18 @@
 -- Worked values: P1's model opened, edited and refused. The bytes were worked out by hand.
 use mathlib.Core.Path.{_≡_, refl}
-use mathlib.Core.Bool.{cond}
 use mathlib.Core.List.{List, [], _∷_, _++_, map}
-use Prim.Native.Nat.{ℕ, zero, suc}
-use lib.ListN.{length, take, replicate}
+use Prim.Native.Nat.{ℕ}
+use lib.ListN.{take, replicate}
 use Rattle.sets.specs.Lists.{numbersFrom, every, forSome, keep}
-use Rattle.sets.specs.Refusals.{firstOf}
+use Rattle.sets.specs.Refusals.{firstOf, refused}
 use Rattle.cases.specs.declared.Transition.{Transition}
-use Rattle.cases.specs.File.{u16, headerSize, headerOf, labelRecords, labelTable, transitionTable, actionTable, formulaTable, caseWithin}
-use Rattle.cases.specs.Prefix.{wholeFormulas, exactly, span}
+use Rattle.cases.specs.File.{u16, headerSize, labelRecords, transitionTable, caseWithin}
 use Rattle.cases.specs.Case.{sameTransition, copies, copiesBefore, distinct}
-use Rattle.cases.specs.Conditions.{tooSmall, otherVersion, badCount, badOffset, badLength, badModel, padded, badLabels, badActions, badFormula, boundOk, badVariable, binderCount, blockTotal, tooDeep, layoutConditions, modelConditions, formulaConditions, caseConditions}
+use Rattle.cases.specs.Conditions.{tooSmall, otherVersion, badCount, badOffset, badLength, layoutConditions}
 use Rattle.records.specs.Replaced.{tableBytes, withNumber, headFor, withTransitions}
 use Rattle.records.specs.Places.{placeOf, withoutAt}
-use Rattle.models.specs.Model.{adding, dropping, addChecks, dropChecks, modelRoom, openConditions, openedModel, addConditions, addedModel, dropConditions, droppedModel}
+use Rattle.models.specs.History.{Add, Drop, Want, heldAfter}
+use Rattle.models.specs.Model.{adding, dropping, addChecks, dropChecks, modelRoom, openedModel, addConditions, addedModel, dropConditions, droppedModel}
 
 abbrev t : ℕ → ℕ → ℕ → Transition
 t s l e = record { source = s; label = l; target = e }
@@ -81,3 +80,20 @@ pub foreign : firstOf (addConditions [] (t 0 0 0)) ∷ firstOf (addConditions (t
     ≡ 1 ∷ 1 ∷ 2 ∷ 5 ∷ 13 ∷ 0 ∷ 17 ∷ 0 ∷ []
 unfolding opened low addConditions dropConditions addChecks dropChecks firstOf caseWithin layoutConditions tooSmall otherVersion badCount badOffset badLength every forSome headerSize labelRecords u16 transitionTable sameTransition numbersFrom
 foreign = refl
+
+-- Version 2: P1 with two label records before its transitions, opened, and with (2,1,0) added.
+pub p1-named : List ℕ
+unfolding low
+p1-named = low (2 ∷ 3 ∷ 3 ∷ 2 ∷ 0 ∷ 1 ∷ 3 ∷ 38 ∷ 56 ∷ 60 ∷ 22 ∷ 7 ∷ 0 ∷ 0 ∷ 0 ∷ 8 ∷ 7 ∷ 0 ∷ 0 ∷ 0 ∷ 0 ∷ 1 ∷ 0 ∷ 0 ∷ 1 ∷ 1 ∷ 1 ∷ 2 ∷ 1 ∷ 0 ∷ 7 ∷ 0 ∷ 4 ∷ 0 ∷ 6 ∷ 0 ∷ [])
+
+pub named : openedModel p1-named [] ∷ addedModel (openedModel p1-named (replicate 80 9)) (t 2 1 0) ∷ []
+    ≡ low (2 ∷ 3 ∷ 2 ∷ 2 ∷ 0 ∷ 1 ∷ 3 ∷ 38 ∷ 50 ∷ 54 ∷ 22 ∷ 7 ∷ 0 ∷ 0 ∷ 0 ∷ 8 ∷ 7 ∷ 0 ∷ 0 ∷ 0 ∷ 0 ∷ 1 ∷ 1 ∷ 1 ∷ 2 ∷ 1 ∷ 0 ∷ 7 ∷ 0 ∷ 4 ∷ 0 ∷ 6 ∷ 0 ∷ [])
+    ∷ (low (2 ∷ 3 ∷ 3 ∷ 2 ∷ 0 ∷ 1 ∷ 3 ∷ 38 ∷ 56 ∷ 60 ∷ 22 ∷ 7 ∷ 0 ∷ 0 ∷ 0 ∷ 8 ∷ 7 ∷ 0 ∷ 0 ∷ 0 ∷ 0 ∷ 1 ∷ 1 ∷ 1 ∷ 2 ∷ 2 ∷ 1 ∷ 0 ∷ 1 ∷ 0 ∷ 7 ∷ 0 ∷ 4 ∷ 0 ∷ 6 ∷ 0 ∷ []) ++ replicate 8 9) ∷ []
+unfolding p1-named low openedModel addedModel caseWithin withTransitions headFor withNumber headerSize labelRecords u16 transitionTable distinct copiesBefore copies sameTransition forSome keep numbersFrom tableBytes
+named = refl
+
+-- A history: an add, an add of the same, one that is refused, a drop, and a want between them; the set that it says.
+pub said : heldAfter (t 0 0 1 ∷ t 1 1 2 ∷ []) (Add (t 2 1 0) 0 ∷ Add (t 2 1 0) 0 ∷ Add (t 9 1 0) 6 ∷ Want [] 0 (refused 13) (record { records = 3; distinct = 3 }) [] ∷ Drop (t 0 0 1) 0 ∷ Drop (t 0 0 1) 17 ∷ [])
+    ≡ t 2 1 0 ∷ t 1 1 2 ∷ []
+unfolding heldAfter adding dropping placeOf withoutAt sameTransition forSome
+said = refl

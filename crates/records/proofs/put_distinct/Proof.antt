@@ -1,9 +1,8 @@
 -- `put_distinct` meets its contract: the flagged ones of the first i records have been written.
 use mathlib.Core.Path.{_≡_, refl, _∙_}
-use Prim.Native.Nat.{_+_, _-_, _≤_}
+use Prim.Native.Nat.{_-_, _≤_}
 use native.Mathlib.Omega.{arith}
 use lib.ListN.{length}
-use borrow.Author.Needs.{needs}
 use Rattle.records.specs.internal.Writing.{WroteAll}
 use Rattle.records.proofs.Writing.{flagged, flagged-none, flagged-next, flagged-few, flagged-all, wrote-on}
 use Rattle.records.proofs.put_distinct.Statement.{statement}

@@ -1,6 +1,4 @@
 -- `put_flagged` meets its contract.
-use mathlib.Core.Path.{_∙_}
-use native.Mathlib.Omega.{arith}
 use borrow.Author.Needs.{needs}
 use Rattle.records.proofs.Writing.{wrote-none, wrote-one}
 use Rattle.records.proofs.put_flagged.Statement.{statement}

@@ -1,10 +1,10 @@
 -- `write_distinct` meets its contract.
 use mathlib.Core.Path.{_≡_, refl, sym, ap, _∙_}
 use mathlib.Core.List.{List}
-use Prim.Native.Nat.{ℕ, _+_, _*_, _-_}
+use Prim.Native.Nat.{ℕ, _-_}
 use native.Mathlib.Omega.{arith}
 use borrow.Rule.Slice.PartAt.{part-to-end}
-use lib.ListN.{length, length-drop}
+use lib.ListN.{length-drop}
 use borrow.Author.Needs.{needs}
 use Rattle.cases.specs.declared.Transition.{Transition}
 use Rattle.cases.specs.Case.{distinct}

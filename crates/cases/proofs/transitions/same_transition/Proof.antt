@@ -1,6 +1,5 @@
 -- `same_transition` meets its contract, number by number.
 use native.Mathlib.Omega.{arith}
-use borrow.Author.Needs.{needs}
 use Rattle.cases.proofs.Copies.{other-source, other-label, by-target}
 use Rattle.cases.proofs.transitions.same_transition.Statement.{statement}
 use Rattle.cases.proofs.transitions.same_transition.Tie as tie

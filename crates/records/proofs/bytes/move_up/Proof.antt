@@ -1,10 +1,10 @@
 -- `move_up` meets its contract: the bytes from i on have been moved.
 use mathlib.Core.Path.{_≡_, refl, ap, _∙_}
-use mathlib.Core.List.{List, _++_}
+use mathlib.Core.List.{List}
 use Prim.Native.Nat.{ℕ, _+_, _-_, _≤_}
 use native.Mathlib.Nat.{add-zero}
 use native.Mathlib.Omega.{arith}
-use lib.ListN.{length, take, drop, set, getD, length-set}
+use lib.ListN.{length, set, getD, length-set}
 use Rattle.records.proofs.Moves.{movedFrom, moved-none, moved-next}
 use Rattle.records.proofs.bytes.move_up.Statement.{statement}
 use Rattle.records.proofs.bytes.move_up.Tie as tie

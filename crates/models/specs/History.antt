@@ -6,9 +6,9 @@ use Rattle.sets.specs.Refusals.{firstOf, byRefusal, Outcome}
 use Rattle.cases.specs.declared.Tally.{Tally}
 use Rattle.cases.specs.declared.Transition.{Transition}
 use Rattle.cases.specs.File.{headerOf, transitionTable, caseWithin}
-use Rattle.cases.specs.Case.{distinct}
+use Rattle.cases.specs.Case.{Case, caseOf, distinct}
 use Rattle.routes.specs.Route.{direct, marksOnly, Ran}
-use Rattle.records.specs.Replaced.{withTransitions}
+use Rattle.records.specs.Replaced.{withTransitions, caseWith}
 use Rattle.models.specs.Model.{adding, dropping, addChecks, dropChecks, Edited, addConditions, addedModel, dropConditions, droppedModel}
 
 -- A call and its answer: a transition with the number answered; or the marks lent and the limit, with the outcome and the tally answered and the
@@ -45,3 +45,10 @@ Answers b ts (Want marks limit o y marks′) = Ran direct (withTransitions b ts)
 -- the set that opening a case holds: its transitions, each once
 abbrev pub openedSet : List ℕ → List Transition
 openedSet b = distinct (transitionTable b)
+
+-- the set that a history says after b was opened, and the opened case with that set in place of its transitions
+abbrev pub heldBy : List ℕ → List Event → List Transition
+heldBy b es = heldAfter (openedSet b) es
+
+abbrev pub editedCase : List ℕ → List Event → Case
+editedCase b es = caseWith (caseOf b) (heldBy b es)

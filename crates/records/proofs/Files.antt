@@ -20,7 +20,7 @@ use Rattle.cases.proofs.LayoutRules.{header-least}
 use Rattle.cases.proofs.Tallies.{length-transitions, partAt}
 use Rattle.records.specs.Replaced.{recordBytes, tableBytes, withNumber, headFor, withTransitions, writtenTo}
 use Rattle.records.specs.Places.{withoutAt}
-use Rattle.records.specs.internal.Writing.{AllBytes, over, WroteAll}
+use Rattle.records.specs.internal.Writing.{AllBytes, over, RecordsWritten}
 use Rattle.records.proofs.Moves.{over-behind, over-inside, lent-back, gap-filled, gap-closed}
 use Rattle.records.proofs.Tables.{length-tableBytes, table-append, table-set, table-again}
 
@@ -289,7 +289,7 @@ module _ {b : List ℕ} {h : Header} (l : Laid b h) where
 
   -- The head was written to the start of a buffer, records behind it, and behind those what follows the table.
   pub opened : (out : List ℕ) (us : List Transition) {k at : ℕ} {x y w : List ℕ} → at ≡ h .«transitions_at» + 6 * k → h .«transitions_at» ≤ length out
-      → x ≡ head ++ drop (length head) out → WroteAll us (partAt x (h .«transitions_at»)) y k
+      → x ≡ head ++ drop (length head) out → RecordsWritten us (partAt x (h .«transitions_at»)) y k
       → w ≡ partAt b (h .«actions_at») ++ drop (length (partAt b (h .«actions_at»))) (partAt (take (h .«transitions_at») x ++ (y ++ drop (length x - h .«transitions_at») (drop (h .«transitions_at») x))) at)
       → headFor h k (take at (take (h .«transitions_at») x ++ (y ++ drop (length x - h .«transitions_at») (drop (h .«transitions_at») x)))
       ++ (w ++ drop (length (take (h .«transitions_at») x ++ (y ++ drop (length x - h .«transitions_at») (drop (h .«transitions_at») x))) - at)

@@ -20,22 +20,22 @@ use Rattle.cases.specs.internal.Links.{FirstFlags}
 use Rattle.cases.proofs.Distinct.{length-keep, length-distinct}
 use Rattle.cases.proofs.FirstAppearances.{flagged-distinct}
 use Rattle.records.specs.Replaced.{recordBytes, tableBytes}
-use Rattle.records.specs.internal.Writing.{over, WroteMore, WroteAll}
+use Rattle.records.specs.internal.Writing.{over, RecordsBehind, RecordsWritten}
 use Rattle.records.proofs.Tables.{length-tableBytes, table-append}
 
 -- a record that is not flagged
-pub wrote-none : (part : List ℕ) (i flag k : ℕ) (out : List ℕ) → ¬ (flag ≡ 1) → WroteMore k (cond (eqb flag 1) (transitionIn part i ∷ []) []) out out k
+pub wrote-none : (part : List ℕ) (i flag k : ℕ) (out : List ℕ) → ¬ (flag ≡ 1) → RecordsBehind k (cond (eqb flag 1) (transitionIn part i ∷ []) []) out out k
 unfolding tableBytes
 wrote-none part i flag k out d = rw (ne-eqb flag 1 d) (record { exact = rw (add-zero (6 * k)) (sym (take-append-drop (6 * k) out)); count = omega arith })
 
 -- one that is
 pub wrote-one : (part : List ℕ) (i k : ℕ) {flag : ℕ} (out : List ℕ) {t : Transition} {after : List ℕ} → 6 * k + 6 ≤ length out → flag ≡ 1 → t ≡ transitionIn part i
-    → after ≡ over out (6 * k) (recordBytes t) → WroteMore k (cond (eqb flag 1) (transitionIn part i ∷ []) []) out after (k + 1)
+    → after ≡ over out (6 * k) (recordBytes t) → RecordsBehind k (cond (eqb flag 1) (transitionIn part i ∷ []) []) out after (k + 1)
 unfolding tableBytes
 wrote-one part i k {flag} out h f is e = rw (eq-eqb flag 1 f, ← is) (record { exact = e; count = refl })
 
 -- records behind others
-pub wrote-on : {ts us : List Transition} {s u v : List ℕ} {k r : ℕ} → WroteAll ts s u k → WroteMore k us u v r → WroteAll (ts ++ us) s v r
+pub wrote-on : {ts us : List Transition} {s u v : List ℕ} {k r : ℕ} → RecordsWritten ts s u k → RecordsBehind k us u v r → RecordsWritten (ts ++ us) s v r
 wrote-on {ts} {us} {s} {u} {v} {k} p q =
     let long : length (tableBytes ts) ≡ 6 * k = omega (arith, length-tableBytes ts, p .count) in
     let rest : List ℕ = drop (6 * length ts) s in
@@ -76,19 +76,19 @@ flagged-next part first i =
     rw (add-one i) (rw here at (kept-next (transitionIn part) (λ j. eqb (getD first j 0) 1) 0 i))
 
 -- they are no more than those records
-pub flagged-few : (part first : List ℕ) (i : ℕ) {s u : List ℕ} {k : ℕ} → WroteAll (flagged part first i) s u k → k ≤ i
+pub flagged-few : (part first : List ℕ) (i : ℕ) {s u : List ℕ} {k : ℕ} → RecordsWritten (flagged part first i) s u k → k ≤ i
 flagged-few part first i w =
     let kept : List ℕ = keep (λ j. eqb (getD first j 0) 1) (numbersFrom 0 i) in
     omega (arith, w .count, length-map kept (transitionIn part), length-keep (λ j. eqb (getD first j 0) 1) (numbersFrom 0 i), length-range 0 i)
 
-pub flagged-none : (part first s : List ℕ) → WroteAll (flagged part first 0) s s 0
+pub flagged-none : (part first s : List ℕ) → RecordsWritten (flagged part first 0) s s 0
 unfolding tableBytes keep numbersFrom
 flagged-none part first s = record { exact = refl; count = refl }
 
-pub flagged-all : {part first s u : List ℕ} {m k : ℕ} → FirstFlags part m first → WroteAll (flagged part first m) s u k → WroteAll (distinct (transitionsIn part m)) s u k
+pub flagged-all : {part first s u : List ℕ} {m k : ℕ} → FirstFlags part m first → RecordsWritten (flagged part first m) s u k → RecordsWritten (distinct (transitionsIn part m)) s u k
 flagged-all {part} {first} {m = m} f w = rw (← flagged-distinct part m first f) w
 
 -- the distinct ones are no more than all
-pub distinct-few : (part : List ℕ) (m : ℕ) {s u : List ℕ} {k : ℕ} → WroteAll (distinct (transitionsIn part m)) s u k → k ≤ m
+pub distinct-few : (part : List ℕ) (m : ℕ) {s u : List ℕ} {k : ℕ} → RecordsWritten (distinct (transitionsIn part m)) s u k → k ≤ m
 unfolding transitionsIn
 distinct-few part m w = omega (arith, w .count, length-distinct (transitionsIn part m), length-table (transitionIn part) m)

@@ -22,7 +22,7 @@ ghost use Rattle.cases.specs.internal.Checks.{transitionsIn, Laid};
 ghost use Rattle.cases.specs.internal.Links.{FirstFlags};
 ghost use Rattle.records.specs.Replaced.{withTransitions, writtenTo};
 ghost use Rattle.records.specs.Places.{placeOf, withoutAt};
-ghost use Rattle.records.specs.internal.Writing.{WroteMore, WroteAll};
+ghost use Rattle.records.specs.internal.Writing.{RecordsBehind, RecordsWritten};
 
 // How many bytes a record has.
 const RECORD: usize = 6;
@@ -45,7 +45,7 @@ pub fn find(part: &[u8], m: usize, t: Transition) -> usize
 // Writes record i of a part behind k others, if it is flagged. Answers how many are then written.
 fn put_flagged(part: &[u8], i: usize, flag: u8, out: &mut [u8], k: usize) -> usize
     requires { ⌜ (6 * i + 6 ≤ length (now part)) × (6 * k + 6 ≤ length (now out)) ⌝ }
-    ensures { λ r. ⌜ WroteMore k (cond (eqb flag 1) (transitionIn (now (part .entry)) i ∷ []) []) (now (out .entry)) (now (out .exit)) r ⌝ }
+    ensures { λ r. ⌜ RecordsBehind k (cond (eqb flag 1) (transitionIn (now (part .entry)) i ∷ []) []) (now (out .entry)) (now (out .exit)) r ⌝ }
 {
     if flag != 1 {
         return k;
@@ -57,7 +57,7 @@ fn put_flagged(part: &[u8], i: usize, flag: u8, out: &mut [u8], k: usize) -> usi
 // Writes those of the m records of a part that are flagged as the first of their kind. Answers how many they are.
 fn put_distinct(part: &[u8], m: usize, first: &[u8], out: &mut [u8]) -> usize
     requires { ⌜ (6 * m ≤ length (now part)) × FirstFlags (now part) m (now first) × (6 * m ≤ length (now out)) ⌝ }
-    ensures { λ r. ⌜ WroteAll (distinct (transitionsIn (now (part .entry)) m)) (now (out .entry)) (now (out .exit)) r ⌝ }
+    ensures { λ r. ⌜ RecordsWritten (distinct (transitionsIn (now (part .entry)) m)) (now (out .entry)) (now (out .exit)) r ⌝ }
 {
     let mut k = 0;
     let mut i = 0;

@@ -3,13 +3,13 @@ use mathlib.Core.Path.{_≡_, refl, _∙_}
 use Prim.Native.Nat.{_-_, _≤_}
 use native.Mathlib.Omega.{arith}
 use lib.ListN.{length}
-use Rattle.records.specs.internal.Writing.{WroteAll}
+use Rattle.records.specs.internal.Writing.{RecordsWritten}
 use Rattle.records.proofs.Writing.{flagged, flagged-none, flagged-next, flagged-few, flagged-all, wrote-on}
 use Rattle.records.proofs.put_distinct.Statement.{statement}
 use Rattle.records.proofs.put_distinct.Tie as tie
 
 abbrev Inv-loop : tie.InvT-loop
-Inv-loop part m first out₀ k₀ i₀ out k i = (i ≤ m) × (length out ≡ length out₀) × WroteAll (flagged part first i) out₀ out k
+Inv-loop part m first out₀ k₀ i₀ out k i = (i ≤ m) × (length out ≡ length out₀) × RecordsWritten (flagged part first i) out₀ out k
 
 abbrev μ-loop : tie.MeasureT-loop
 μ-loop part m first out₀ k₀ i₀ out k i = m - i

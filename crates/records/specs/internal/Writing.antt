@@ -16,12 +16,12 @@ abbrev pub over : List ℕ → ℕ → List ℕ → List ℕ
 over s at vs = take at s ++ (vs ++ drop (at + length vs) s)
 
 -- records were written behind `done` others, and now there are r
-pub record WroteMore (done : ℕ) (ts : List Transition) (before after : List ℕ) (r : ℕ) : Type 0 where
+pub record RecordsBehind (done : ℕ) (ts : List Transition) (before after : List ℕ) (r : ℕ) : Type 0 where
   pub exact : after ≡ over before (6 * done) (tableBytes ts)
   pub count : r ≡ done + length ts
 
 -- records were written from the first byte on, and there are r
-pub record WroteAll (ts : List Transition) (before after : List ℕ) (r : ℕ) : Type 0 where
+pub record RecordsWritten (ts : List Transition) (before after : List ℕ) (r : ℕ) : Type 0 where
   pub exact : after ≡ tableBytes ts ++ drop (6 * length ts) before
   pub count : r ≡ length ts
 

@@ -1,16 +1,16 @@
 -- Laws for the code that checks: tests as truth values, and loops over tables.
-use mathlib.Core.Path.{_≡_, refl, sym, ap, _∙_}
-use mathlib.Core.Bool.{Bool, true, false, not, _&&_, true≢false}
-use mathlib.Core.List.{List, [], _∷_, map}
-use Prim.Native.Nat.{ℕ, zero, suc, _+_, _≤_, _<_}
+use mathlib.Core.Path.{◌≡◌, refl, sym, ap, ◌∙◌}
+use mathlib.Core.Bool.{Bool, true, false, not, ◌&&◌, true≢false}
+use mathlib.Core.List.{List, [], ◌∷◌, map}
+use Prim.Native.Nat.{ℕ, zero, suc, ◌+◌, ◌≤◌, ◌<◌}
 use native.Mathlib.Numerals.{add-one}
 use native.Mathlib.Nat.{zero-add}
 use native.Mathlib.Omega.{arith}
 use lib.Dec.{ltb, leb}
 use borrow.Author.Tests.{lt-leb, le-leb, ltb-true, ltb-false}
-use lib.ListN.{length, drop, drop-of-length-le}
-use Rattle·sets.specs.Lists.{numbers_from, every}
-use Rattle·sets.proofs.Lists.{length_range}
+use lib.ListN.{length, drop, drop_of_length-le}
+use Rattle.sets.specs.Lists.{numbers_from, every}
+use Rattle.sets.proofs.Lists.{length_range}
 
 -- ---- truth values
 
@@ -60,7 +60,7 @@ next_from_lem j (suc k) (suc i) h =
 module _ (k i : ℕ) where
   -- none is left
   pub range_done : k ≤ i → drop i (numbers_from 0 k) ≡ []
-  range_done h = let l : length (numbers_from 0 k) ≤ i = omega (arith, length_range 0 k) in drop-of-length-le (numbers_from 0 k) l
+  range_done h = let l : length (numbers_from 0 k) ≤ i = omega (arith, length_range 0 k) in drop_of_length-le (numbers_from 0 k) l
 
   -- i is the next
   pub range_next : i < k → drop i (numbers_from 0 k) ≡ i ∷ drop (i + 1) (numbers_from 0 k)

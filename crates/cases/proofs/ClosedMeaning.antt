@@ -1,23 +1,23 @@
 -- The formula of a table whose variables are bound has one meaning, whatever sets its variables are given.
-use mathlib.Core.Path.{_≡_, sym, _∙_, subst}
-use mathlib.Core.Bool.{Bool, true, false, not, _||_}
-use mathlib.Core.List.{List, [], _∷_}
+use mathlib.Core.Path.{◌≡◌, sym, ◌∙◌, subst}
+use mathlib.Core.Bool.{Bool, true, false, not, ◌||◌}
+use mathlib.Core.List.{List, [], ◌∷◌}
 use Prim.Native.Nat.{ℕ}
 use lib.Dec.{T, eqb, eqb→eq}
-use Rattle·sets.specs.Lists.{for_some}
-use Rattle·sets.specs.States.{States, Valuation, Sized}
-use Rattle·sets.proofs.Lists.{and_left, and_right}
-use Rattle·cases·specs.specs.Action.{Action}
-use Rattle·cases·specs.specs.Formula.{Formula, False, True, And, Or, Box, Diamond, Variable, Fix}
-use Rattle·cases·specs.specs.internal.Scope.{free}
-use Rattle·cases·specs.specs.declared.Transition.{Transition}
-use Rattle·cases·specs.specs.Prefix.{Node, formula_at}
-use Rattle·cases·specs.specs.Conditions.{bad_variable}
-use Rattle·cases·specs.specs.Meaning.{Means}
-use Rattle·cases·specs.specs.internal.Tables.{FormulaTable}
-use Rattle·cases·proofs.proofs.TableTrees.{held}
-use Rattle·cases·proofs.proofs.Scopes.{scoped, formula_scoped}
-use Rattle·cases·proofs.proofs.MeaningLaws.{means_unique, means_scope}
+use Rattle.sets.specs.Lists.{for_some}
+use Rattle.sets.specs.States.{States, Valuation, Sized}
+use Rattle.sets.proofs.Lists.{and_left, and_right}
+use Rattle.cases.specs.Action.{Action}
+use Rattle.cases.specs.Formula.{Formula, False, True, And, Or, Box, Diamond, Variable, Fix}
+use Rattle.cases.specs.internal.Scope.{free}
+use Rattle.cases.specs.declared.Transition.{Transition}
+use Rattle.cases.specs.Prefix.{Node, formula_at}
+use Rattle.cases.specs.Conditions.{bad_variable}
+use Rattle.cases.specs.Meaning.{Means}
+use Rattle.cases.specs.internal.Tables.{FormulaTable}
+use Rattle.cases.proofs.TableTrees.{held}
+use Rattle.cases.proofs.Scopes.{scoped, formula_scoped}
+use Rattle.cases.proofs.MeaningLaws.{means_unique, means_scope}
 
 either : (a b : Bool) (P : Type 0) → (T a → P) → (T b → P) → T (a || b) → P
 either true b P f g t = f tt

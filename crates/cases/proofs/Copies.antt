@@ -1,21 +1,21 @@
 -- Laws of equal records in a table that is made record by record, and of a walk along those with one source.
-use mathlib.Core.Path.{_≡_, refl, sym, ap, _∙_}
-use mathlib.Core.Logic.{_⊎_, inl, inr, by-cases}
+use mathlib.Core.Path.{◌≡◌, refl, sym, ap, ◌∙◌}
+use mathlib.Core.Logic.{◌⊎◌, inl, inr, by_cases}
 use mathlib.Core.Bool.{Bool, false, cond}
-use mathlib.Core.List.{List, _∷_, map}
-use Prim.Native.Nat.{ℕ, zero, suc, _+_, _-_, _<_, _≤_}
-use native.Mathlib.Nat.{sub-zero, zero-add, eq-or-lt-of-le}
+use mathlib.Core.List.{List, ◌∷◌, map}
+use Prim.Native.Nat.{ℕ, zero, suc, ◌+◌, ◌-◌, ◌<◌, ◌≤◌}
+use native.Mathlib.Nat.{sub-zero, zero-add, eq-or-lt_of_le}
 use native.Mathlib.Decide.{ℕ_discrete}
 use native.Mathlib.Numerals.{add-one}
 use native.Mathlib.Omega.{arith}
-use borrow.Author.Tests.{ne-eqb, eq-eqb}
+use borrow.Author.Tests.{ne_eqb, eq-eqb}
 use lib.Dec.{eqb}
 use lib.ListN.{take}
-use Rattle·sets.specs.Lists.{numbers_from}
-use Rattle·sets.proofs.Lists.{table_at}
-use Rattle·cases·specs.specs.File.{Transition}
-use Rattle·cases·specs.specs.Case.{same_transition, copies, copies_before}
-use Rattle·cases·specs.specs.internal.Links.{first_on}
+use Rattle.sets.specs.Lists.{numbers_from}
+use Rattle.sets.proofs.Lists.{table_at}
+use Rattle.cases.specs.File.{Transition}
+use Rattle.cases.specs.Case.{same_transition, copies, copies_before}
+use Rattle.cases.specs.internal.Links.{first_on}
 
 -- the first i elements of a list made of a range
 pub take_map_range : {B : Type 0} (f : ℕ → B) (s i m : ℕ) → i ≤ m → take i (map f (numbers_from s m)) ≡ map f (numbers_from s i)
@@ -26,18 +26,18 @@ take_map_range f s (suc i) (suc m) h = ap (λ (l : List _). f s ∷ l) (take_map
 
 -- Two records, number by number.
 module _ (x y : Transition) where
-  pub other_source : (x .source ≡ y .source → ⊥) → false ≡ same_transition x y
+  pub other_source : (x.source ≡ y.source → ⊥) → false ≡ same_transition x y
   unfolding same_transition
-  other_source n = rw (ne-eqb (x .source) (y .source) n)
+  other_source n = rw (ne_eqb x.source y.source n)
 
-  module _ (e : x .source ≡ y .source) where
-    pub other_label : (x .label ≡ y .label → ⊥) → false ≡ same_transition x y
+  module _ (e : x.source ≡ y.source) where
+    pub other_label : (x.label ≡ y.label → ⊥) → false ≡ same_transition x y
     unfolding same_transition
-    other_label n = rw (eq-eqb (x .source) (y .source) e, ne-eqb (x .label) (y .label) n)
+    other_label n = rw (eq-eqb x.source y.source e, ne_eqb x.label y.label n)
 
-    pub by_target : x .label ≡ y .label → eqb (x .target) (y .target) ≡ same_transition x y
+    pub by_target : x.label ≡ y.label → eqb x.target y.target ≡ same_transition x y
     unfolding same_transition
-    by_target f = rw (eq-eqb (x .source) (y .source) e, eq-eqb (x .label) (y .label) f)
+    by_target f = rw (eq-eqb x.source y.source e, eq-eqb x.label y.label f)
 
 module _ (record_at : ℕ → Transition) where
   -- Only the first i + 1 records matter, however many the table has.
@@ -66,7 +66,7 @@ module _ (record_at : ℕ → Transition) where
   -- ---- the walk along the records with the source of record i
 
   abbrev source : ℕ → ℕ
-  source j = record_at j .source
+  source j = (record_at j).source
 
   -- the first record from j on, of m, with the source of record i
   abbrev next : ℕ → ℕ → ℕ → ℕ
@@ -82,17 +82,17 @@ module _ (record_at : ℕ → Transition) where
   skip_one : (i j p : ℕ) → j < i → ¬ (source j ≡ source i) → Skipped i (j + 1) p → Skipped i j p
   unfolding same_transition
   skip_one i j p h d k =
-      let other : same_transition (record_at j) (record_at i) ≡ false = rw (ne-eqb (source j) (source i) d) in
+      let other : same_transition (record_at j) (record_at i) ≡ false = rw (ne_eqb (source j) (source i) d) in
       let step : copies_from i j ≡ 0 + copies_from i (j + 1) = rw other at (looked_at i j h) in
-      record { from = omega (arith, k .from); within = k .within; same_source = k .same_source; same_left = omega (arith, k .same_left, step) }
+      record { from = omega (arith, k.from); within = k.within; same_source = k.same_source; same_left = omega (arith, k.same_left, step) }
 
   -- k numbers from j on, with i among them
   skip : (i j k : ℕ) → j ≤ i → i < j + k → Skipped i j (first_on source (source i) j k)
   unfolding first_on
   skip i j zero h l = absurd (omega arith)
-  skip i j (suc k) h l = by-cases (ℕ_discrete (source j) (source i))
+  skip i j (suc k) h l = by_cases (ℕ_discrete (source j) (source i))
       (λ e. rw (eq-eqb (source j) (source i) e) (record { from = omega arith; within = h; same_source = e; same_left = refl }))
-      (λ d. rw (ne-eqb (source j) (source i) d) (further d (eq-or-lt-of-le {n = j} {m = i} h) (λ o. rw (add-one j) (skip i (suc j) k (omega arith) (omega arith)))))
+      (λ d. rw (ne_eqb (source j) (source i) d) (further d (eq-or-lt_of_le {n = j} {m = i} h) (λ o. rw (add-one j) (skip i (suc j) k (omega arith) (omega arith)))))
     where
       further : ¬ (source j ≡ source i) → (j ≡ i) ⊎ (j < i) → (j < i → Skipped i (j + 1) (first_on source (source i) (suc j) k))
           → Skipped i j (first_on source (source i) (suc j) k)
@@ -110,18 +110,18 @@ module _ (record_at : ℕ → Transition) where
     pub sum : count + copies_from i j ≡ copies_from i 0
 
   pub walk_start : (i p : ℕ) → Skipped i 0 p → Walked i p 0
-  walk_start i p k = record { within = k .within; few = omega arith; same_source = k .same_source; sum = zero-add _ ∙ sym (k .same_left) }
+  walk_start i p k = record { within = k.within; few = omega arith; same_source = k.same_source; sum = zero-add _ ∙ sym k.same_left }
 
   -- record j is counted if it is equal
-  module _ {i j count count′ p : ℕ} {same : Bool} (w : Walked i j count) (h : j < i) (k : Skipped i (j + 1) p) where
-    pub walk_next : same ≡ same_transition (record_at j) (record_at i) → count′ ≡ count + cond same 1 0 → count′ ≤ count + 1 → Walked i p count′
+  module _ {i j count count' p : ℕ} {same : Bool} (w : Walked i j count) (h : j < i) (k : Skipped i (j + 1) p) where
+    pub walk_next : same ≡ same_transition (record_at j) (record_at i) → count' ≡ count + cond same 1 0 → count' ≤ count + 1 → Walked i p count'
     walk_next e f few =
         let step : copies_from i j ≡ cond same 1 0 + copies_from i (j + 1) = rw e (looked_at i j h) in
         record {
-          within = k .within;
-          few = omega (arith, k .from, w .few);
-          same_source = k .same_source;
-          sum = omega (arith, w .sum, step, k .same_left);
+          within = k.within;
+          few = omega (arith, k.from, w.few);
+          same_source = k.same_source;
+          sum = omega (arith, w.sum, step, k.same_left);
         }
 
   pub walk_end : (i j count : ℕ) → Walked i j count → i ≤ j → count ≡ copies_before (map record_at (numbers_from 0 (i + 1))) i
@@ -129,4 +129,4 @@ module _ (record_at : ℕ → Transition) where
   walk_end i j count w h =
       let e : i - j ≡ 0 = omega arith in
       let none : copies_from i j ≡ 0 = rw e in
-      omega (arith, counted i, w .sum, none)
+      omega (arith, counted i, w.sum, none)

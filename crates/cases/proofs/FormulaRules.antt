@@ -1,21 +1,21 @@
 -- Conditions 8 to 10: what the tests of the code come to.
-use mathlib.Core.Path.{_≡_, refl, sym, ap, _∙_}
+use mathlib.Core.Path.{◌≡◌, refl, sym, ap, ◌∙◌}
 use mathlib.Core.Bool.{Bool, true, false, cond, not}
 use mathlib.Core.List.{List, map}
-use Prim.Native.Nat.{ℕ, _+_, _≤_, _<_}
+use Prim.Native.Nat.{ℕ, ◌+◌, ◌≤◌, ◌<◌}
 use native.Mathlib.Omega.{arith}
-use borrow.Author.Tests.{le-ltb, lt-ltb, eq-eqb, ne-eqb}
+use borrow.Author.Tests.{le-ltb, lt-ltb, eq-eqb, ne_eqb}
 use lib.Dec.{ltb}
 use lib.ListN.{length}
-use Rattle·sets.specs.Lists.{numbers_from, every}
-use Rattle·sets.proofs.Lists.{length_map_range}
-use Rattle·solver.specs.File.{block_limit}
-use Rattle·cases·specs.specs.Prefix.{Node, arity_in, formula_arities, exactly, end_of}
-use Rattle·cases·specs.specs.File.{node_in}
-use Rattle·cases·specs.specs.Conditions.{node_ok, bad_formula, is_binder, node_at, bound_ok, bad_variable, binder_count, block_total, too_deep}
-use Rattle·cases·specs.specs.internal.Checks.{nodes_in}
-use Rattle·cases·proofs.proofs.Checking.{and_fails, range_done, range_next}
-use Rattle·cases·proofs.proofs.PrefixRules.{nodes_from}
+use Rattle.sets.specs.Lists.{numbers_from, every}
+use Rattle.sets.proofs.Lists.{length_map_range}
+use Rattle.solver.specs.File.{block_limit}
+use Rattle.cases.specs.Prefix.{Node, arity_in, formula_arities, exactly, end_of}
+use Rattle.cases.specs.File.{node_in}
+use Rattle.cases.specs.Conditions.{node_ok, bad_formula, is_binder, node_at, bound_ok, bad_variable, binder_count, block_total, too_deep}
+use Rattle.cases.specs.internal.Checks.{nodes_in}
+use Rattle.cases.proofs.Checking.{and_fails, range_done, range_next}
+use Rattle.cases.proofs.PrefixRules.{nodes_from}
 
 -- ---- 8
 
@@ -34,27 +34,27 @@ module _ (a : ℕ) (table : List Node) where
 
 module _ (table : List Node) (i : ℕ) (x : Node) (is : node_at table i ≡ x) where
   -- another node than a variable
-  pub no_variable : ¬ (x .kind ≡ 6) → true ≡ bound_ok table i
+  pub no_variable : ¬ (x.kind ≡ 6) → true ≡ bound_ok table i
   unfolding bound_ok
-  no_variable d = rw is (simp (ne-eqb (x .kind) 6 d))
+  no_variable d = rw is (simp (ne_eqb x.kind 6 d))
 
-  module _ (variable : x .kind ≡ 6) where
+  module _ (variable : x.kind ≡ 6) where
     -- its argument is no node before it
-    pub bound_late : i ≤ x .arg → false ≡ bound_ok table i
+    pub bound_late : i ≤ x.arg → false ≡ bound_ok table i
     unfolding bound_ok
-    bound_late h = rw is (simp (eq-eqb (x .kind) 6 variable, le-ltb (x .arg) i h, and_fails))
+    bound_late h = rw is (simp (eq-eqb x.kind 6 variable, le-ltb x.arg i h, and_fails))
 
     -- its argument is no binder
-    pub bound_elsewhere : is_binder (node_at table (x .arg)) ≡ false → false ≡ bound_ok table i
+    pub bound_elsewhere : is_binder (node_at table x.arg) ≡ false → false ≡ bound_ok table i
     unfolding bound_ok
-    bound_elsewhere f = rw is (simp (eq-eqb (x .kind) 6 variable, f))
+    bound_elsewhere f = rw is (simp (eq-eqb x.kind 6 variable, f))
 
     -- its argument is a binder before it: the end of the binder's subtree decides
     pub end_decides :
-        is_binder (node_at table (x .arg)) ≡ true → x .arg < i → (end : ℕ) → end ≡ end_of (map (arity_in formula_arities) table) (x .arg)
+        is_binder (node_at table x.arg) ≡ true → x.arg < i → (end : ℕ) → end ≡ end_of (map (arity_in formula_arities) table) x.arg
         → ltb i end ≡ bound_ok table i
     unfolding bound_ok
-    end_decides t h end e = rw is (simp (eq-eqb (x .kind) 6 variable, t, lt-ltb (x .arg) i h, e))
+    end_decides t h end e = rw is (simp (eq-eqb x.kind 6 variable, t, lt-ltb x.arg i h, e))
 
 -- how many nodes there are
 pub length_nodes : (part : List ℕ) (f : ℕ) → length (nodes_in part f) ≡ f

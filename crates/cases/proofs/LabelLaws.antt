@@ -1,26 +1,26 @@
 -- Laws of labels: their names, and the masks of alike labels.
-use mathlib.Core.Path.{_≡_, refl, sym, ap, ap₂, _∙_}
-use mathlib.Core.Bool.{Bool, true, false, cond, not, _&&_, _||_}
-use mathlib.Core.Logic.{by-cases}
-use mathlib.Core.List.{List, [], _∷_, map}
-use Prim.Native.Nat.{ℕ, zero, suc, _+_, _-_, _*_, _^_, _<_, _≤_}
+use mathlib.Core.Path.{◌≡◌, refl, sym, ap, ap₂, ◌∙◌}
+use mathlib.Core.Bool.{Bool, true, false, cond, not, ◌&&◌, ◌||◌}
+use mathlib.Core.Logic.{by_cases}
+use mathlib.Core.List.{List, [], ◌∷◌, map}
+use Prim.Native.Nat.{ℕ, zero, suc, ◌+◌, ◌-◌, ◌*◌, ◌^◌, ◌<◌, ◌≤◌}
 use native.Mathlib.Decide.{ℕ_discrete}
 use native.Mathlib.Nat.{pow-suc, pow-zero}
 use native.Mathlib.Omega.{arith}
-use borrow.Author.Tests.{eq-eqb, ne-eqb}
+use borrow.Author.Tests.{eq-eqb, ne_eqb}
 use lib.Dec.{eqb, leb}
-use lib.ListN.{length, getD}
-use lib.Pow.{pow-mono}
-use Rattle·sets.specs.Lists.{numbers_from, every, keep}
-use Rattle·sets.specs.Words.{from_bits, bit}
-use Rattle·sets.proofs.Lists.{length_table, table_at, all_true, all_of_both, all_of_kept, kept_equal, all_kept}
-use Rattle·sets.proofs.Masks.{number_one}
-use Rattle·cases·specs.specs.File.{Header, Label, has_label_table, label_records, label_in, label_limit, name_limit}
-use Rattle·cases·specs.specs.Labels.{record_numbers, is_name, names_of, occurrences, same_names, label_names, alike, alike_labels}
-use Rattle·cases·specs.specs.Conditions.{padded, label_ok}
-use Rattle·cases·specs.specs.internal.Checks.{labels_in}
-use Rattle·cases·specs.specs.internal.Names.{follows, equally_many, same_as}
-use Rattle·cases·proofs.proofs.Checking.{all_map}
+use lib.ListN.{length, get_or}
+use lib.Pow.{pow_mono}
+use Rattle.sets.specs.Lists.{numbers_from, every, keep}
+use Rattle.sets.specs.Words.{from_bits, bit}
+use Rattle.sets.proofs.Lists.{length_table, table_at, all_true, all_of_both, all_of_kept, kept_equal, all_kept}
+use Rattle.sets.proofs.Masks.{number_one}
+use Rattle.cases.specs.File.{Header, Label, has_label_table, label_records, label_in, label_limit, name_limit}
+use Rattle.cases.specs.Labels.{record_numbers, is_name, names_of, occurrences, same_names, label_names, alike, alike_labels}
+use Rattle.cases.specs.Conditions.{padded, label_ok}
+use Rattle.cases.specs.internal.Checks.{labels_in}
+use Rattle.cases.specs.internal.Names.{follows, equally_many, same_as}
+use Rattle.cases.proofs.Checking.{all_map}
 
 -- ---- condition 15
 
@@ -61,10 +61,10 @@ four_follow true true true true false false true z = and-true z
 four_follow true true true true false false false z = last_of z
 
 pub label_ok_lem : (x : Label) → label_ok x
-    ≡ (leb (x .first) name_limit && (follows (x .first) (x .second) && (follows (x .second) (x .third) && follows (x .third) (x .fourth))))
+    ≡ (leb x.first name_limit && (follows x.first x.second && (follows x.second x.third && follows x.third x.fourth)))
 unfolding every padded
-label_ok_lem x = four_follow (leb (x .first) name_limit) (leb (x .second) name_limit) (leb (x .third) name_limit) (leb (x .fourth) name_limit)
-    (eqb (x .first) 0) (eqb (x .second) 0) (eqb (x .third) 0) (eqb (x .fourth) 0)
+label_ok_lem x = four_follow (leb x.first name_limit) (leb x.second name_limit) (leb x.third name_limit) (leb x.fourth name_limit)
+    (eqb x.first 0) (eqb x.second 0) (eqb x.third 0) (eqb x.fourth 0)
 
 -- each label of a part
 pub labels_all : (part : List ℕ) (k : ℕ) → every label_ok (labels_in part k) ≡ every (λ j. label_ok (label_in part j)) (numbers_from 0 k)
@@ -77,21 +77,21 @@ labels_all part k = all_map label_ok (label_in part) (numbers_from 0 k)
 name_occurrences : (k : ℕ) (xs : List ℕ) → ¬ (k ≡ 0) → occurrences k (keep is_name xs) ≡ occurrences k xs
 unfolding occurrences keep
 name_occurrences k [] d = refl
-name_occurrences k (x ∷ xs) d = by-cases (ℕ_discrete x 0)
-    (λ z. rw (eq-eqb x 0 z, ne-eqb x k (λ e. d (sym e ∙ z))) (omega (arith, name_occurrences k xs d)))
-    (λ n. rw (ne-eqb x 0 n, name_occurrences k xs d) refl)
+name_occurrences k (x ∷ xs) d = by_cases (ℕ_discrete x 0)
+    (λ z. rw (eq-eqb x 0 z, ne_eqb x k (λ e. d (sym e ∙ z))) (omega (arith, name_occurrences k xs d)))
+    (λ n. rw (ne_eqb x 0 n, name_occurrences k xs d) refl)
 
 -- so whether there are equally many of a name
 equally_named : (xs ys : List ℕ) (k : ℕ) → equally_many (keep is_name xs) (keep is_name ys) k ≡ equally_many xs ys k
-equally_named xs ys k = by-cases (ℕ_discrete k 0)
+equally_named xs ys k = by_cases (ℕ_discrete k 0)
     (λ z. rw (eq-eqb k 0 z) refl)
-    (λ d. rw (ne-eqb k 0 d, name_occurrences k xs d, name_occurrences k ys d) refl)
+    (λ d. rw (ne_eqb k 0 d, name_occurrences k xs d, name_occurrences k ys d) refl)
 
 -- The names are the same multiset if there are equally many of each number that is a name.
 pub names_by_numbers : (x y : Label) → same_names (names_of x) (names_of y)
     ≡ (every (equally_many (record_numbers x) (record_numbers y)) (record_numbers x) && every (equally_many (record_numbers x) (record_numbers y)) (record_numbers y))
 unfolding same_names names_of
-names_by_numbers x y = all_of_both equal (names_of x) (names_of y) ∙ ap₂ _&&_ (each (record_numbers x)) (each (record_numbers y))
+names_by_numbers x y = all_of_both equal (names_of x) (names_of y) ∙ ap₂ ◌&&◌ (each (record_numbers x)) (each (record_numbers y))
   where
     equal : ℕ → Bool
     equal k = eqb (occurrences k (names_of x)) (occurrences k (names_of y))
@@ -109,7 +109,7 @@ none_from f i (suc m) h =
     let z : i + 0 ≡ i = omega arith in
     rw (rw z at (h 0)) (omega (arith, none_from f (suc i) m (λ x. let e : suc i + x ≡ i + suc x = omega arith in rw e (h (suc x)))))
 
-number_from : (v : List Bool) (f : ℕ → Bool) (i m : ℕ) → ((x : ℕ) → f (i + x) ≡ getD v x false) → length v ≤ m → from_bits (map f (numbers_from i m)) ≡ from_bits v
+number_from : (v : List Bool) (f : ℕ → Bool) (i m : ℕ) → ((x : ℕ) → f (i + x) ≡ get_or v x false) → length v ≤ m → from_bits (map f (numbers_from i m)) ≡ from_bits v
 unfolding from_bits numbers_from
 number_from [] f i m h l = none_from f i m h
 number_from (b ∷ v) f i zero h l = absurd (omega arith)
@@ -119,8 +119,8 @@ number_from (b ∷ v) f i (suc m) h l =
     rw (rw z at (h 0), rest) refl
 
 -- A set has the number of its members among the numbers below m, if it has no others.
-pub number_has : (v : List Bool) (m : ℕ) → length v ≤ m → from_bits (map (λ x. getD v x false) (numbers_from 0 m)) ≡ from_bits v
-number_has v m l = number_from v (λ x. getD v x false) 0 m (λ x. let e : 0 + x ≡ x = omega arith in rw e refl) l
+pub number_has : (v : List Bool) (m : ℕ) → length v ≤ m → from_bits (map (λ x. get_or v x false) (numbers_from 0 m)) ≡ from_bits v
+number_has v m l = number_from v (λ x. get_or v x false) 0 m (λ x. let e : 0 + x ≡ x = omega arith in rw e refl) l
 
 -- one bit more, below the others
 pub mask_more : (f : ℕ → Bool) (x l m k : ℕ) → x < l → m ≡ from_bits (map f (numbers_from (suc x) (l - suc x))) → k ≡ cond (f x) 1 0
@@ -164,41 +164,41 @@ masking_more part l j x mask k h m e few =
     let z : l - x ≡ suc (l - suc x) = omega arith in
     record {
       within = omega arith;
-      small = rw (z, pow-suc 2 (l - suc x)) (omega (arith, m .small));
-      bits = mask_more (same_as part l j) x l mask k h (m .bits) e;
+      small = rw (z, pow-suc 2 (l - suc x)) (omega (arith, m.small));
+      bits = mask_more (same_as part l j) x l mask k h m.bits e;
     }
 
 pub masking_done : (part : List ℕ) (l j x mask : ℕ) → x ≤ 0 → Masking part l j x mask → mask ≡ from_bits (map (same_as part l j) (numbers_from 0 l))
 masking_done part l j x mask h m =
     let z : x ≡ 0 = omega arith in
     let e : l - 0 ≡ l = omega arith in
-    rw e at (rw z at (m .bits))
+    rw e at (rw z at m.bits)
 
 -- there is room for one bit more
 pub masking_room : {part : List ℕ} {l j x mask : ℕ} → l ≤ label_limit → 0 < x → Masking part l j x mask → 2 * mask + 1 < 2 ^ 64
-masking_room {l = l} {x = x} few h m = omega (arith, m .small, m .within, pow-mono {i = suc (l - x)} {j = 64} (omega (arith, m .within)), pow-suc 2 (l - x))
+masking_room {l = l} {x = x} few h m = omega (arith, m.small, m.within, pow_mono {i = suc (l - x)} {j = 64} (omega (arith, m.within)), pow-suc 2 (l - x))
 
 -- ---- alike labels
 
 -- they are as many as there are labels
-pub length_alike : (h : Header) (table : List Label) (j : ℕ) → length (alike_labels h table j) ≡ h .labels
+pub length_alike : (h : Header) (table : List Label) (j : ℕ) → length (alike_labels h table j) ≡ h.labels
 unfolding alike_labels
-length_alike h table j = length_table (alike h table j) (h .labels)
+length_alike h table j = length_table (alike h table j) h.labels
 
 -- the number of the labels that are alike to label j, by whether there are label records
 abbrev alike_by : Header → List ℕ → ℕ → Bool → ℕ
 alike_by h part j r =
-    let table : List Label = labels_in part (cond r (h .labels) 0) in
-    from_bits (map (λ x. cond r (same_names (label_names table j) (label_names table x)) (eqb j x)) (numbers_from 0 (h .labels)))
+    let table : List Label = labels_in part (cond r h.labels 0) in
+    from_bits (map (λ x. cond r (same_names (label_names table j) (label_names table x)) (eqb j x)) (numbers_from 0 h.labels))
 
 -- with label records, those with the same names
-pub alike_names : (h : Header) (part : List ℕ) (j : ℕ) → has_label_table (h .version) ≡ true
-    → from_bits (map (same_as part (h .labels) j) (numbers_from 0 (h .labels))) ≡ from_bits (alike_labels h (labels_in part (label_records h)) j)
+pub alike_names : (h : Header) (part : List ℕ) (j : ℕ) → has_label_table h.version ≡ true
+    → from_bits (map (same_as part h.labels j) (numbers_from 0 h.labels)) ≡ from_bits (alike_labels h (labels_in part (label_records h)) j)
 unfolding alike_labels alike label_records
 alike_names h part j e = ap (alike_by h part j) (sym e)
 
 -- without, the label itself
-pub alike_own : (h : Header) (part : List ℕ) (j : ℕ) → has_label_table (h .version) ≡ false → j < h .labels
+pub alike_own : (h : Header) (part : List ℕ) (j : ℕ) → has_label_table h.version ≡ false → j < h.labels
     → 2 ^ j ≡ from_bits (alike_labels h (labels_in part (label_records h)) j)
 unfolding alike_labels alike label_records
-alike_own h part j e k = sym (number_one j (h .labels) k) ∙ ap (alike_by h part j) (sym e)
+alike_own h part j e k = sym (number_one j h.labels k) ∙ ap (alike_by h part j) (sym e)

@@ -1,20 +1,20 @@
 -- Conditions 1 to 5: what the tests of the code come to, and what follows where none holds.
-use mathlib.Core.Path.{_≡_, refl, sym, ap, _∙_}
-use mathlib.Core.Bool.{Bool, true, false, cond, not, _&&_, true≢false}
-use mathlib.Core.List.{List, [], _∷_}
-use Prim.Native.Nat.{ℕ, _≤_, _<_}
+use mathlib.Core.Path.{◌≡◌, refl, sym, ap, ◌∙◌}
+use mathlib.Core.Bool.{Bool, true, false, cond, not, ◌&&◌, true≢false}
+use mathlib.Core.List.{List, [], ◌∷◌}
+use Prim.Native.Nat.{ℕ, ◌≤◌, ◌<◌}
 use native.Mathlib.Omega.{arith}
-use borrow.Author.Tests.{le-ltb, lt-ltb, eq-eqb, ne-eqb, eqb-true, not-false, ltb-false}
+use borrow.Author.Tests.{le-ltb, lt-ltb, eq-eqb, ne_eqb, eqb-true, not-false, ltb-false}
 use lib.Dec.{T, eqb, eqb→eq}
 use lib.ListN.{length, take}
-use lib.Seq.{take-all, take-length}
-use Rattle·sets.specs.Lists.{every, for_some}
-use Rattle·sets.specs.Words.{state_limit}
-use Rattle·sets.specs.Refusals.{first_of}
-use Rattle·sets.proofs.Refusals.{holds_here, holds_later, none_holds, none_here, bounds}
-use Rattle·cases·specs.specs.File.{Header, header_size, version, has_label_table, header_of, label_records, case_within, labels_start, transitions_start, actions_start, formula_start, file_end, label_limit, transition_limit, action_limit, node_limit}
-use Rattle·cases·specs.specs.Conditions.{too_small, other_version, versions, bad_count, bad_offset, bad_length, layout_conditions}
-use Rattle·cases·specs.specs.internal.Checks.{common_header, CountsFit, Laid}
+use lib.Seq.{take_all, take-length}
+use Rattle.sets.specs.Lists.{every, for_some}
+use Rattle.sets.specs.Words.{state_limit}
+use Rattle.sets.specs.Refusals.{first_of}
+use Rattle.sets.proofs.Refusals.{holds_here, holds_later, none_holds, none_here, bounds}
+use Rattle.cases.specs.File.{Header, header_size, version, has_label_table, header_of, label_records, case_within, labels_start, transitions_start, actions_start, formula_start, file_end, label_limit, transition_limit, action_limit, node_limit}
+use Rattle.cases.specs.Conditions.{too_small, other_version, versions, bad_count, bad_offset, bad_length, layout_conditions}
+use Rattle.cases.specs.internal.Checks.{common_header, CountsFit, Laid}
 
 -- ---- 3
 
@@ -40,54 +40,54 @@ module _ (h : Header) where
   unfolding bad_count
   counts_hold e =
       let t = five _ _ _ _ _ e in
-      let states = bounds 1 state_limit (h .states) (t .0) in
-      let labels = bounds 1 label_limit (h .labels) (t .2) in
-      let nodes = bounds 1 node_limit (h .nodes) (t .4) in
+      let states = bounds 1 state_limit h.states t.0 in
+      let labels = bounds 1 label_limit h.labels t.2 in
+      let nodes = bounds 1 node_limit h.nodes t.4 in
       record {
-        some_state = states .0;
-        few_states = states .1;
-        few_transitions = bounds 0 transition_limit (h .transitions) (t .1) .1;
-        some_label = labels .0;
-        few_labels = labels .1;
-        few_actions = bounds 0 action_limit (h .actions) (t .3) .1;
-        some_node = nodes .0;
-        few_nodes = nodes .1;
+        some_state = states.0;
+        few_states = states.1;
+        few_transitions = (bounds 0 transition_limit h.transitions t.1).1;
+        some_label = labels.0;
+        few_labels = labels.1;
+        few_actions = (bounds 0 action_limit h.actions t.3).1;
+        some_node = nodes.0;
+        few_nodes = nodes.1;
       }
 
   -- ---- 4
 
-  pub labels_differ : ¬ (h .«labels_at» ≡ labels_start h) → true ≡ bad_offset h
+  pub labels_differ : ¬ (h.labels_at ≡ labels_start h) → true ≡ bad_offset h
   unfolding bad_offset
-  labels_differ d = simp (ne-eqb (h .«labels_at») (labels_start h) d)
+  labels_differ d = simp (ne_eqb h.labels_at (labels_start h) d)
 
-  module _ (labels : h .«labels_at» ≡ labels_start h) where
-    pub transitions_differ : ¬ (h .«transitions_at» ≡ transitions_start h) → true ≡ bad_offset h
+  module _ (labels : h.labels_at ≡ labels_start h) where
+    pub transitions_differ : ¬ (h.transitions_at ≡ transitions_start h) → true ≡ bad_offset h
     unfolding bad_offset
-    transitions_differ d = simp (eq-eqb (h .«labels_at») (labels_start h) labels, ne-eqb (h .«transitions_at») (transitions_start h) d)
+    transitions_differ d = simp (eq-eqb h.labels_at (labels_start h) labels, ne_eqb h.transitions_at (transitions_start h) d)
 
-    module _ (transitions : h .«transitions_at» ≡ transitions_start h) where
-      pub actions_differ : ¬ (h .«actions_at» ≡ actions_start h) → true ≡ bad_offset h
+    module _ (transitions : h.transitions_at ≡ transitions_start h) where
+      pub actions_differ : ¬ (h.actions_at ≡ actions_start h) → true ≡ bad_offset h
       unfolding bad_offset
       actions_differ d = simp (
-        eq-eqb (h .«labels_at») (labels_start h) labels,
-        eq-eqb (h .«transitions_at») (transitions_start h) transitions,
-        ne-eqb (h .«actions_at») (actions_start h) d,
+        eq-eqb h.labels_at (labels_start h) labels,
+        eq-eqb h.transitions_at (transitions_start h) transitions,
+        ne_eqb h.actions_at (actions_start h) d,
       )
 
-      pub formula_decides : h .«actions_at» ≡ actions_start h → not (eqb (h .«formula_at_lem») (formula_start h)) ≡ bad_offset h
+      pub formula_decides : h.actions_at ≡ actions_start h → not (eqb h.formula_at (formula_start h)) ≡ bad_offset h
       unfolding bad_offset
       formula_decides actions = simp (
-        eq-eqb (h .«labels_at») (labels_start h) labels,
-        eq-eqb (h .«transitions_at») (transitions_start h) transitions,
-        eq-eqb (h .«actions_at») (actions_start h) actions,
+        eq-eqb h.labels_at (labels_start h) labels,
+        eq-eqb h.transitions_at (transitions_start h) transitions,
+        eq-eqb h.actions_at (actions_start h) actions,
       )
 
   offsets_hold : bad_offset h ≡ false
-      → (h .«labels_at» ≡ labels_start h) × (h .«transitions_at» ≡ transitions_start h) × (h .«actions_at» ≡ actions_start h) × (h .«formula_at_lem» ≡ formula_start h)
+      → (h.labels_at ≡ labels_start h) × (h.transitions_at ≡ transitions_start h) × (h.actions_at ≡ actions_start h) × (h.formula_at ≡ formula_start h)
   unfolding bad_offset
   offsets_hold e =
-      let t = four (eqb (h .«labels_at») (labels_start h)) (eqb (h .«transitions_at») (transitions_start h)) (eqb (h .«actions_at») (actions_start h)) (eqb (h .«formula_at_lem») (formula_start h)) e in
-      (eqb→eq _ _ (t .0), eqb→eq _ _ (t .1), eqb→eq _ _ (t .2), eqb→eq _ _ (t .3))
+      let t = four (eqb h.labels_at (labels_start h)) (eqb h.transitions_at (transitions_start h)) (eqb h.actions_at (actions_start h)) (eqb h.formula_at (formula_start h)) e in
+      (eqb→eq _ _ t.0, eqb→eq _ _ t.1, eqb→eq _ _ t.2, eqb→eq _ _ t.3)
 
 -- a header has what all versions have
 pub header_least : (v : ℕ) → common_header ≤ header_size v
@@ -102,7 +102,7 @@ header_least v = go (eqb v 2)
 
 module _ (b : List ℕ) where
   -- its label records, where its version has them and where it has not
-  pub records_told : {v : ℕ} → v ≡ version b → has_label_table v ≡ true → label_records (header_of b) ≡ header_of b .labels
+  pub records_told : {v : ℕ} → v ≡ version b → has_label_table v ≡ true → label_records (header_of b) ≡ (header_of b).labels
   unfolding label_records
   records_told is e = rw (← is, e)
 
@@ -117,7 +117,7 @@ module _ (b : List ℕ) where
   -- all bytes are the case's where they are no more than that, and otherwise so many
   pub all_within : length b ≤ file_end (header_of b) → take (length b) b ≡ case_within b
   unfolding case_within
-  all_within h = take-length b ∙ sym (take-all _ b h)
+  all_within h = take-length b ∙ sym (take_all _ b h)
 
   pub end_within : {e : ℕ} → e ≡ file_end (header_of b) → take e b ≡ case_within b
   unfolding case_within
@@ -182,20 +182,20 @@ laid_header : (b : List ℕ) → first_of (layout_conditions b) ≡ 0 → Laid b
 unfolding layout_conditions
 laid_header b z =
     let small = none_here 1 _ _ (λ e. omega arith) z in
-    let version = none_here 2 _ _ (λ e. omega arith) (small .1) in
-    let count = none_here 3 _ _ (λ e. omega arith) (version .1) in
-    let offset = none_here 4 _ _ (λ e. omega arith) (count .1) in
-    let ends = none_here 5 _ _ (λ e. omega arith) (offset .1) in
-    let at = offsets_hold (header_of b) (offset .0) in
+    let version = none_here 2 _ _ (λ e. omega arith) small.1 in
+    let count = none_here 3 _ _ (λ e. omega arith) version.1 in
+    let offset = none_here 4 _ _ (λ e. omega arith) count.1 in
+    let ends = none_here 5 _ _ (λ e. omega arith) offset.1 in
+    let at = offsets_hold (header_of b) offset.0 in
     record {
       read = refl;
-      header = small_not b (small .0);
-      counts = counts_hold (header_of b) (count .0);
-      labels = at .0;
-      transitions = at .1;
-      actions = at .2;
-      formula = at .3;
-      ends = length_holds b (ends .0);
+      header = small_not b small.0;
+      counts = counts_hold (header_of b) count.0;
+      labels = at.0;
+      transitions = at.1;
+      actions = at.2;
+      formula = at.3;
+      ends = length_holds b ends.0;
     }
 
 pub laid : (b : List ℕ) {h : Header} → h ≡ header_of b → first_of (layout_conditions b) ≡ 0 → Laid b h

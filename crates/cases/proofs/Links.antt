@@ -1,21 +1,21 @@
 -- Laws of the records of a part that are linked by their source.
-use mathlib.Core.Path.{_≡_, refl, sym, ap, _∙_}
-use mathlib.Core.Logic.{_⊎_, inl, inr, by-cases}
+use mathlib.Core.Path.{◌≡◌, refl, sym, ap, ◌∙◌}
+use mathlib.Core.Logic.{◌⊎◌, inl, inr, by_cases}
 use mathlib.Core.Bool.{cond}
 use mathlib.Core.List.{List}
-use Prim.Native.Nat.{ℕ, suc, _+_, _-_, _*_, _<_, _≤_}
-use native.Mathlib.Nat.{eq-or-lt-of-le}
+use Prim.Native.Nat.{ℕ, suc, ◌+◌, ◌-◌, ◌*◌, ◌<◌, ◌≤◌}
+use native.Mathlib.Nat.{eq-or-lt_of_le}
 use native.Mathlib.Decide.{ℕ_discrete}
 use native.Mathlib.Numerals.{add-one}
 use native.Mathlib.Omega.{arith}
-use borrow.Author.Tests.{ne-eqb, eq-eqb}
+use borrow.Author.Tests.{ne_eqb, eq-eqb}
 use lib.Dec.{eqb}
-use lib.ListN.{length, getD, set, replicate, length-set, length-replicate, getD-replicate}
-use lib.Seq.{getD-set-same, getD-set-other}
-use Rattle·sets.specs.Words.{state_limit}
-use Rattle·cases·specs.specs.File.{Transition, transition_in, transition_limit}
-use Rattle·cases·specs.specs.internal.Links.{source_in, first_on, next_from, Sourced, LinkedFrom, LinkedAt}
-use Rattle·cases·proofs.proofs.Copies.{Skipped, Walked, skips}
+use lib.ListN.{length, get_or, set, replicate, length-set, length-replicate, get_or-replicate}
+use lib.Seq.{get_or-set_same, get_or-set_other}
+use Rattle.sets.specs.Words.{state_limit}
+use Rattle.cases.specs.File.{Transition, transition_in, transition_limit}
+use Rattle.cases.specs.internal.Links.{source_in, first_on, next_from, Sourced, LinkedFrom, LinkedAt}
+use Rattle.cases.proofs.Copies.{Skipped, Walked, skips}
 
 -- none is left from m on
 next_none : (part : List ℕ) (m s : ℕ) → next_from part m s m ≡ transition_limit
@@ -31,7 +31,7 @@ next_one part m s j h = let e : m - j ≡ suc (m - suc j) = omega arith in rw (e
 pub linked_none : (part : List ℕ) (m : ℕ) → LinkedFrom part m m (replicate (state_limit + transition_limit) transition_limit)
 linked_none part m = record {
   long = length-replicate (state_limit + transition_limit) transition_limit;
-  state = λ s h. getD-replicate (state_limit + transition_limit) s transition_limit 0 (omega arith) ∙ sym (next_none part m s);
+  state = λ s h. get_or-replicate (state_limit + transition_limit) s transition_limit 0 (omega arith) ∙ sym (next_none part m s);
   after = λ j h l. absurd (omega arith);
 }
 
@@ -41,19 +41,19 @@ module _ (part : List ℕ) (m j : ℕ) (links : List ℕ) (sourced : Sourced par
   own = source_in part j
 
   abbrev once : List ℕ
-  once = set links (state_limit + j) (getD links own 0)
+  once = set links (state_limit + j) (get_or links own 0)
 
   abbrev twice : List ℕ
   twice = set once own j
 
   own_small : own < state_limit
-  own_small = sourced .source j h
+  own_small = sourced.source j h
 
   once_long : length once ≡ state_limit + transition_limit
-  once_long = length-set links (state_limit + j) _ ∙ l .long
+  once_long = length-set links (state_limit + j) _ ∙ l.long
 
   place_inside : state_limit + j < length links
-  place_inside = omega (arith, l .long, sourced .few)
+  place_inside = omega (arith, l.long, sourced.few)
 
   own_inside : own < length once
   own_inside = omega (arith, once_long, own_small)
@@ -61,58 +61,58 @@ module _ (part : List ℕ) (m j : ℕ) (links : List ℕ) (sourced : Sourced par
   linked_next : LinkedFrom part m j twice
   linked_next = record { long = length-set once own j ∙ once_long; state = state_is; after = after_is }
     where
-      state_is : (s : ℕ) → s < state_limit → getD twice s 0 ≡ next_from part m s j
-      state_is s g = by-cases (ℕ_discrete own s)
-          (λ e. rw (← e) (getD-set-same once own j 0 own_inside ∙ sym (next_one part m own j h ∙ rw (eq-eqb own own refl))))
-          (λ d. getD-set-other once own s j 0 (λ z. d (sym z)) ∙ getD-set-other links (state_limit + j) s _ 0 (λ z. omega arith) ∙ l .state s g
-          ∙ sym (next_one part m s j h ∙ rw (ne-eqb own s d)))
+      state_is : (s : ℕ) → s < state_limit → get_or twice s 0 ≡ next_from part m s j
+      state_is s g = by_cases (ℕ_discrete own s)
+          (λ e. rw (← e) (get_or-set_same once own j 0 own_inside ∙ sym (next_one part m own j h ∙ rw (eq-eqb own own refl))))
+          (λ d. get_or-set_other once own s j 0 (λ z. d (sym z)) ∙ get_or-set_other links (state_limit + j) s _ 0 (λ z. omega arith) ∙ l.state s g
+          ∙ sym (next_one part m s j h ∙ rw (ne_eqb own s d)))
 
-      after_is : (k : ℕ) → j ≤ k → k < m → getD twice (state_limit + k) 0 ≡ next_from part m (source_in part k) (k + 1)
-      after_is k g f = getD-set-other once own (state_limit + k) j 0 (λ z. omega (arith, own_small)) ∙ by_order (eq-or-lt-of-le {n = j} {m = k} g)
+      after_is : (k : ℕ) → j ≤ k → k < m → get_or twice (state_limit + k) 0 ≡ next_from part m (source_in part k) (k + 1)
+      after_is k g f = get_or-set_other once own (state_limit + k) j 0 (λ z. omega (arith, own_small)) ∙ by_order (eq-or-lt_of_le {n = j} {m = k} g)
         where
-          by_order : (j ≡ k) ⊎ (j < k) → getD once (state_limit + k) 0 ≡ next_from part m (source_in part k) (k + 1)
-          by_order (inl e) = rw (← e) (getD-set-same links (state_limit + j) _ 0 place_inside ∙ l .state own own_small)
-          by_order (inr o) = getD-set-other links (state_limit + j) (state_limit + k) _ 0 (λ z. omega arith) ∙ l .after k (omega arith) f
+          by_order : (j ≡ k) ⊎ (j < k) → get_or once (state_limit + k) 0 ≡ next_from part m (source_in part k) (k + 1)
+          by_order (inl e) = rw (← e) (get_or-set_same links (state_limit + j) _ 0 place_inside ∙ l.state own own_small)
+          by_order (inr o) = get_or-set_other links (state_limit + j) (state_limit + k) _ 0 (λ z. omega arith) ∙ l.after k (omega arith) f
 
 -- the same in the loop's words: the record before i was read as t
 pub linked_step : (part : List ℕ) (m i : ℕ) (links : List ℕ) → Sourced part m → 0 < i → i ≤ m → LinkedFrom part m i links
     → (t : Transition) → t ≡ transition_in part (i - 1)
-    → LinkedFrom part m (i - 1) (set (set links (state_limit + (i - 1)) (getD links (t .source) 0)) (t .source) (i - 1))
+    → LinkedFrom part m (i - 1) (set (set links (state_limit + (i - 1)) (get_or links t.source 0)) t.source (i - 1))
 linked_step part m i links sourced o h l t e =
     let back : i - 1 + 1 ≡ i = omega arith in
     rw e (linked_next part m (i - 1) links sourced (omega arith) (rw back l))
 
-pub source_read : {part : List ℕ} {m i : ℕ} → Sourced part m → i < m → (t : Transition) → t ≡ transition_in part i → t .source < state_limit
-source_read sourced h t e = rw e (sourced .source _ h)
+pub source_read : {part : List ℕ} {m i : ℕ} → Sourced part m → i < m → (t : Transition) → t ≡ transition_in part i → t.source < state_limit
+source_read sourced h t e = rw e (sourced.source _ h)
 
 -- ---- the walk to record i along those with its source
 
 module _ {part links : List ℕ} {i : ℕ} (at : LinkedAt part links i) where
   abbrev total : ℕ
-  total = at .count
+  total = at.count
 
   abbrev filled : LinkedFrom part total 0 links
-  filled = at .linked .filled
+  filled = at.linked.filled
 
-  pub source_small : (t : Transition) → t ≡ transition_in part i → t .source < state_limit
-  source_small = source_read (at .linked .sourced) (at .inside)
+  pub source_small : (t : Transition) → t ≡ transition_in part i → t.source < state_limit
+  source_small = source_read at.linked.sourced at.inside
 
-  pub source_inside : (t : Transition) → t ≡ transition_in part i → t .source < length links
-  source_inside t e = omega (arith, source_small t e, filled .long)
+  pub source_inside : (t : Transition) → t ≡ transition_in part i → t.source < length links
+  source_inside t e = omega (arith, source_small t e, filled.long)
 
   pub place_there : {j : ℕ} → j ≤ i → state_limit + j < length links
-  place_there h = omega (arith, filled .long, at .linked .sourced .few, at .inside)
+  place_there h = omega (arith, filled.long, at.linked.sourced.few, at.inside)
 
   pub record_there : {j : ℕ} → j ≤ i → 6 * j + 6 ≤ length part
-  record_there h = omega (arith, at .linked .sourced .inside, at .inside)
+  record_there h = omega (arith, at.linked.sourced.inside, at.inside)
 
   -- it starts at the first of them
-  pub first_skips : (t : Transition) → t ≡ transition_in part i → Skipped (transition_in part) i 0 (getD links (t .source) 0)
+  pub first_skips : (t : Transition) → t ≡ transition_in part i → Skipped (transition_in part) i 0 (get_or links t.source 0)
   first_skips t e =
-      rw (ap (λ (x : Transition). x .source) e, filled .state (source_in part i) (at .linked .sourced .source i (at .inside)))
-      (skips (transition_in part) total i 0 (at .inside) (omega arith))
+      rw (ap (λ (x : Transition). x.source) e, filled.state (source_in part i) (at.linked.sourced.source i at.inside))
+      (skips (transition_in part) total i 0 at.inside (omega arith))
 
   -- and goes on with the next
-  pub next_skips : {j copies : ℕ} → Walked (transition_in part) i j copies → j < i → Skipped (transition_in part) i (j + 1) (getD links (state_limit + j) 0)
+  pub next_skips : {j copies : ℕ} → Walked (transition_in part) i j copies → j < i → Skipped (transition_in part) i (j + 1) (get_or links (state_limit + j) 0)
   next_skips {j} w h =
-      rw (filled .after j (omega arith) (omega (arith, at .inside)), w .same_source) (skips (transition_in part) total i (j + 1) (at .inside) (omega arith))
+      rw (filled.after j (omega arith) (omega (arith, at.inside)), w.same_source) (skips (transition_in part) total i (j + 1) at.inside (omega arith))

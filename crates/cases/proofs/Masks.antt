@@ -1,32 +1,32 @@
 -- Laws of the masks of action formulas, and of reading an action table from its end.
-use mathlib.Core.Path.{_≡_, refl, sym, ap, _∙_}
-use mathlib.Core.Bool.{Bool, false, cond, _&&_}
-use mathlib.Core.List.{List, [], _∷_, map}
+use mathlib.Core.Path.{◌≡◌, refl, sym, ap, ◌∙◌}
+use mathlib.Core.Bool.{Bool, false, cond, ◌&&◌}
+use mathlib.Core.List.{List, [], ◌∷◌, map}
 use mathlib.Core.Option.{some}
-use mathlib.Core.Logic.{by-cases}
+use mathlib.Core.Logic.{by_cases}
 use native.Mathlib.Decide.{ℕ_discrete}
-use Prim.Native.Nat.{ℕ, suc, _+_, _-_, _^_, _<_, _≤_}
+use Prim.Native.Nat.{ℕ, suc, ◌+◌, ◌-◌, ◌^◌, ◌<◌, ◌≤◌}
 use native.Mathlib.Numerals.{add-one}
 use native.Mathlib.Omega.{arith}
 use borrow.Author.Tests.{eq-eqb, not-false}
-use lib.Bits.{bitAnd, bitOr}
+use lib.Bits.{bit_and, bit_or}
 use lib.Dec.{T, eqb, ltb, leb, ltb→lt}
-use lib.ListN.{length, getD, set, drop, length-set, length-drop, length-map, drop-of-length-le, List·get_or_map}
-use lib.Seq.{drop-cons, drop-drop, drop-length, getD-drop, getD-set-same, getD-set-other, drop-set-lt}
-use Rattle·sets.specs.Lists.{numbers_from, every}
-use Rattle·sets.specs.Words.{from_bits}
-use Rattle·sets.proofs.Lists.{drop_map, length_range, length_table, table_at, and_left, and_right, all_at}
-use Rattle·sets.proofs.Masks.{bitwise_and, bitwise_or, number_false, number_true, number_bitwise, number_not}
-use Rattle·cases·specs.specs.Action.{Action, accepts}
-use Rattle·cases·specs.specs.Prefix.{Node, arity_in, action_arities, whole_formulas, trees, place_action, action_at}
-use Rattle·cases·specs.specs.File.{node_in, header_of, action_table, label_limit, action_limit}
-use Rattle·cases·specs.specs.Conditions.{node_at, action_ok, bad_actions}
-use Rattle·cases·specs.specs.internal.Checks.{nodes_in}
-use Rattle·cases·specs.specs.internal.Masks.{mask_of, action_of, WholeActions}
-use Rattle·cases·specs.specs.internal.Tables.{made, action_operator}
-use Rattle·cases·proofs.proofs.LabelLaws.{number_has}
-use Rattle·cases·proofs.proofs.Trees.{first, placed, row_after}
-use Rattle·cases·proofs.proofs.TableTrees.{held, action_table_lem, each_action_kind, placing_actions}
+use lib.ListN.{length, get_or, set, drop, length-set, length-drop, length-map, drop_of_length-le, get_or-map}
+use lib.Seq.{drop-cons, drop-drop, drop-length, get_or-drop, get_or-set_same, get_or-set_other, drop-set-lt}
+use Rattle.sets.specs.Lists.{numbers_from, every}
+use Rattle.sets.specs.Words.{from_bits}
+use Rattle.sets.proofs.Lists.{drop_map, length_range, length_table, table_at, and_left, and_right, all_at}
+use Rattle.sets.proofs.Masks.{bitwise_and, bitwise_or, number_false, number_true, number_bitwise, number_not}
+use Rattle.cases.specs.Action.{Action, accepts}
+use Rattle.cases.specs.Prefix.{Node, arity_in, action_arities, whole_formulas, trees, place_action, action_at}
+use Rattle.cases.specs.File.{node_in, header_of, action_table, label_limit, action_limit}
+use Rattle.cases.specs.Conditions.{node_at, action_ok, bad_actions}
+use Rattle.cases.specs.internal.Checks.{nodes_in}
+use Rattle.cases.specs.internal.Masks.{mask_of, action_of, WholeActions}
+use Rattle.cases.specs.internal.Tables.{made, action_operator}
+use Rattle.cases.proofs.LabelLaws.{number_has}
+use Rattle.cases.proofs.Trees.{first, placed, row_after}
+use Rattle.cases.proofs.TableTrees.{held, action_table_lem, each_action_kind, placing_actions}
 
 -- ---- the mask of a formula by those of its operands
 
@@ -50,15 +50,15 @@ pub mask_not : (a : Action) → (2 ^ 64 - 1) - mask_of a ≡ mask_of (Action.Not
 unfolding accepts
 mask_not a = rw (length_range 0 label_limit) at (number_not (accepts a) labels)
 
-pub mask_and : (a b : Action) → bitAnd (mask_of a) (mask_of b) ≡ mask_of (Action.And a b)
+pub mask_and : (a b : Action) → bit_and (mask_of a) (mask_of b) ≡ mask_of (Action.And a b)
 unfolding accepts
 mask_and a b = number_bitwise bitwise_and (accepts a) (accepts b) labels
 
-pub mask_or : (a b : Action) → bitOr (mask_of a) (mask_of b) ≡ mask_of (Action.Or a b)
+pub mask_or : (a b : Action) → bit_or (mask_of a) (mask_of b) ≡ mask_of (Action.Or a b)
 unfolding accepts
 mask_or a b = number_bitwise bitwise_or (accepts a) (accepts b) labels
 
-pub mask_implies : (a b : Action) → bitOr ((2 ^ 64 - 1) - mask_of a) (mask_of b) ≡ mask_of (Action.Implies a b)
+pub mask_implies : (a b : Action) → bit_or ((2 ^ 64 - 1) - mask_of a) (mask_of b) ≡ mask_of (Action.Implies a b)
 unfolding accepts
 mask_implies a b = rw (mask_not a) (number_bitwise bitwise_or (accepts (Action.Not a)) (accepts b) labels)
 
@@ -70,14 +70,14 @@ taken x = arity_in action_arities x
 
 -- the formula of a node on top of others
 abbrev formula_of : (ℕ → List Bool) → Node → List Action → Action
-formula_of alike x st = action_of alike (x .kind) (x .arg) (getD st 0 Action.False) (getD st 1 Action.False)
+formula_of alike x st = action_of alike x.kind x.arg (get_or st 0 Action.False) (get_or st 1 Action.False)
 
 -- the first and the second of some formulas
-top_first : (st : List Action) → first Action.False st ≡ getD st 0 Action.False
+top_first : (st : List Action) → first Action.False st ≡ get_or st 0 Action.False
 top_first [] = refl
 top_first (a ∷ st) = refl
 
-top_second : (st : List Action) → first Action.False (drop 1 st) ≡ getD st 1 Action.False
+top_second : (st : List Action) → first Action.False (drop 1 st) ≡ get_or st 1 Action.False
 top_second [] = refl
 top_second (a ∷ st) = top_first st
 
@@ -105,60 +105,60 @@ masked_none alike table ws i l e h = record {
   room = (h, omega arith, omega arith);
   formulas = [];
   read = rw (← e, drop-length table);
-  held = drop-of-length-le ws {i = action_limit} (omega arith);
+  held = drop_of_length-le ws {i = action_limit} (omega arith);
 }
 
 -- mask k is that of formula k, and 0 where there is none
-mask_held : (ws : List ℕ) (at : ℕ) (st : List Action) (k : ℕ) → drop at ws ≡ map mask_of st → getD ws (at + k) 0 ≡ mask_of (getD st k Action.False)
+mask_held : (ws : List ℕ) (at : ℕ) (st : List Action) (k : ℕ) → drop at ws ≡ map mask_of st → get_or ws (at + k) 0 ≡ mask_of (get_or st k Action.False)
 mask_held ws at st k e =
-    sym (getD-drop at ws k 0) ∙ ap (λ (l : List ℕ). getD l k 0) e ∙ ap (λ (d : ℕ). getD (map mask_of st) k d) mask_false ∙ List·get_or_map mask_of st k Action.False
+    sym (get_or-drop at ws k 0) ∙ ap (λ (l : List ℕ). get_or l k 0) e ∙ ap (λ (d : ℕ). get_or (map mask_of st) k d) mask_false ∙ get_or-map mask_of st k Action.False
 
 module _ (alike : ℕ → List Bool) {l : ℕ} (table : List Node) (good : WholeActions l table) (ws : List ℕ) (at i : ℕ) (below : i < length table) (m : Masked alike table ws at (suc i)) where
   -- as many formulas are there as node i takes
-  there : taken (node_at table i) ≤ length (m .formulas)
+  there : taken (node_at table i) ≤ length m.formulas
   there =
-      let rows = row_after Action.False (place_action alike) action_arities 6 (placing_actions alike) table (good .known) 0 (good .whole) i below in
-      let same : trees (place_action alike) (suc i) (drop (suc i) table) ≡ some (rows .0 .row) = rw (add-one i) at (rows .0 .is) in
-      let e : rows .0 .row ≡ m .formulas = cc (same, m .read) in
-      rw e at (rows .1)
+      let rows = row_after Action.False (place_action alike) action_arities 6 (placing_actions alike) table good.known 0 good.whole i below in
+      let same : trees (place_action alike) (suc i) (drop (suc i) table) ≡ some rows.0.row = rw (add-one i) at rows.0.is in
+      let e : rows.0.row ≡ m.formulas = cc (same, m.read) in
+      rw e at rows.1
 
   -- node i on top of the formulas after it
-  on_top : trees (place_action alike) i (drop i table) ≡ some (formula_of alike (node_at table i) (m .formulas) ∷ drop (taken (node_at table i)) (m .formulas))
+  on_top : trees (place_action alike) i (drop i table) ≡ some (formula_of alike (node_at table i) m.formulas ∷ drop (taken (node_at table i)) m.formulas)
   unfolding placing_actions
   on_top =
-      let known = good .known i below in
+      let known = good.known i below in
       ap (trees (place_action alike) i) (drop-cons table i (record { kind = 0; arg = 0 }) below)
-      ∙ placed Action.False (place_action alike) action_arities 6 (placing_actions alike) i (node_at table i) (drop (suc i) table) (m .formulas) known (m .read) there
-      ∙ rw (top_first (m .formulas), top_second (m .formulas), operator_makes alike (node_at table i .arg) (getD (m .formulas) 0 Action.False) (getD (m .formulas) 1 Action.False) (node_at table i .kind) known)
+      ∙ placed Action.False (place_action alike) action_arities 6 (placing_actions alike) i (node_at table i) (drop (suc i) table) m.formulas known m.read there
+      ∙ rw (top_first m.formulas, top_second m.formulas, operator_makes alike (node_at table i).arg (get_or m.formulas 0 Action.False) (get_or m.formulas 1 Action.False) (node_at table i).kind known)
 
   -- so there is a place for the mask of node i
   room_for : (1 ≤ at + taken (node_at table i)) × (at + taken (node_at table i) ≤ action_limit)
-  room_for = omega (arith, there, ap length (m .held), length-map (m .formulas) mask_of, length-drop at ws, m .long, m .room)
+  room_for = omega (arith, there, ap length m.held, length-map m.formulas mask_of, length-drop at ws, m.long, m.room)
 
   -- the mask of node i takes the place of its operands' masks
   masked_more : (n v : ℕ) → suc n ≡ at + taken (node_at table i)
-      → v ≡ mask_of (formula_of alike (node_at table i) (m .formulas)) → Masked alike table (set ws n v) n i
+      → v ≡ mask_of (formula_of alike (node_at table i) m.formulas) → Masked alike table (set ws n v) n i
   masked_more n v e q = record {
-    long = length-set ws n v ∙ m .long;
-    room = omega (arith, room_for, m .room);
-    formulas = formula_of alike (node_at table i) (m .formulas) ∷ drop (taken (node_at table i)) (m .formulas);
+    long = length-set ws n v ∙ m.long;
+    room = omega (arith, room_for, m.room);
+    formulas = formula_of alike (node_at table i) m.formulas ∷ drop (taken (node_at table i)) m.formulas;
     read = on_top;
     held = stored;
   }
     where
       inside : n < length (set ws n v)
-      inside = rw (length-set ws n v) (omega (arith, room_for, m .long))
+      inside = rw (length-set ws n v) (omega (arith, room_for, m.long))
 
-      stored : drop n (set ws n v) ≡ mask_of (formula_of alike (node_at table i) (m .formulas)) ∷ map mask_of (drop (taken (node_at table i)) (m .formulas))
+      stored : drop n (set ws n v) ≡ mask_of (formula_of alike (node_at table i) m.formulas) ∷ map mask_of (drop (taken (node_at table i)) m.formulas)
       stored =
           drop-cons (set ws n v) n 0 inside
           ∙ rw (
-            getD-set-same ws n v 0 (omega (arith, room_for, m .long)),
+            get_or-set_same ws n v 0 (omega (arith, room_for, m.long)),
             drop-set-lt (suc n) ws n v (omega arith),
             e,
             ← drop-drop (taken (node_at table i)) at ws,
-            m .held,
-            drop_map mask_of (m .formulas) (taken (node_at table i)),
+            m.held,
+            drop_map mask_of m.formulas (taken (node_at table i)),
             q,
           )
 
@@ -171,12 +171,12 @@ module _ (alike : ℕ → List Bool) {l : ℕ} (part : List ℕ) (a : ℕ) (good
   node_read i x h e = table_at (node_in part) a i (record { kind = 0; arg = 0 }) h ∙ sym e
 
   -- its kind is known, and its label is small
-  pub node_known : (i : ℕ) (x : Node) → i < a → x ≡ node_in part i → (x .kind ≤ 6) × (x .kind ≡ 2 → x .arg < l)
+  pub node_known : (i : ℕ) (x : Node) → i < a → x ≡ node_in part i → (x.kind ≤ 6) × (x.kind ≡ 2 → x.arg < l)
   unfolding nodes_in
   node_known i x h e =
       let inside : i < length (nodes_in part a) = rw (length_table (node_in part) a) h in
       let r = node_read i x h e in
-      (rw r at (good .known i inside), rw r at (good .small i inside))
+      (rw r at (good.known i inside), rw r at (good.small i inside))
 
   module _ (ws : List ℕ) (at i : ℕ) (above : 0 < i) (within : i ≤ a) (m : Masked alike (nodes_in part a) ws at i) (x : Node) (e : x ≡ node_in part (i - 1)) where
     -- the node before node i
@@ -190,67 +190,67 @@ module _ (alike : ℕ → List Bool) {l : ℕ} (part : List ℕ) (a : ℕ) (good
         rw z m
 
     -- there is a place for its mask
-    pub turn_fits : (1 ≤ at + getD action_arities (x .kind) 0) × (at + getD action_arities (x .kind) 0 ≤ action_limit)
+    pub turn_fits : (1 ≤ at + get_or action_arities x.kind 0) × (at + get_or action_arities x.kind 0 ≤ action_limit)
     turn_fits = rw (node_read (i - 1) x (omega arith) e) at (room_for alike (nodes_in part a) good ws at (i - 1) inside next)
 
     -- its mask is stored
-    pub turn_masked : (k v : ℕ) → k ≡ getD action_arities (x .kind) 0
-        → ((p q : Action) → getD ws at 0 ≡ mask_of p → getD ws (at + 1) 0 ≡ mask_of q → v ≡ mask_of (action_of alike (x .kind) (x .arg) p q))
+    pub turn_masked : (k v : ℕ) → k ≡ get_or action_arities x.kind 0
+        → ((p q : Action) → get_or ws at 0 ≡ mask_of p → get_or ws (at + 1) 0 ≡ mask_of q → v ≡ mask_of (action_of alike x.kind x.arg p q))
         → Masked alike (nodes_in part a) (set ws (at + k - 1) v) (at + k - 1) (i - 1)
     turn_masked k v q f =
         let r = node_read (i - 1) x (omega arith) e in
         let z : at + 0 ≡ at = omega arith in
-        let st = next .formulas in
+        let st = next.formulas in
         masked_more alike (nodes_in part a) good ws at (i - 1) inside next (at + k - 1) v
         (rw r (omega (arith, turn_fits, q)))
-        (rw r (f (getD st 0 Action.False) (getD st 1 Action.False) (rw z at (mask_held ws at st 0 (next .held))) (mask_held ws at st 1 (next .held))))
+        (rw r (f (get_or st 0 Action.False) (get_or st 1 Action.False) (rw z at (mask_held ws at st 0 next.held)) (mask_held ws at st 1 next.held)))
 
 -- after the last turn, the first mask is that of the formula at node j
-pub masked_first : (alike : ℕ → List Bool) (table : List Node) (ws : List ℕ) (at j : ℕ) → Masked alike table ws at j → getD ws at 0 ≡ mask_of (action_at alike table j)
+pub masked_first : (alike : ℕ → List Bool) (table : List Node) (ws : List ℕ) (at j : ℕ) → Masked alike table ws at j → get_or ws at 0 ≡ mask_of (action_at alike table j)
 unfolding action_at
 masked_first alike table ws at j m =
     let z : at + 0 ≡ at = omega arith in
-    rw z at (mask_held ws at (m .formulas) 0 (m .held)) ∙ ap mask_of (rw (m .read) (sym (top_first (m .formulas))))
+    rw z at (mask_held ws at m.formulas 0 m.held) ∙ ap mask_of (rw m.read (sym (top_first m.formulas)))
 
 -- so the mask that was stored is that of the formula at node j
 pub stored_first : (alike : ℕ → List Bool) (table : List Node) (ws : List ℕ) (n v j : ℕ) → n < length ws → Masked alike table (set ws n v) n j
     → v ≡ mask_of (action_at alike table j)
-stored_first alike table ws n v j h m = sym (getD-set-same ws n v 0 h) ∙ masked_first alike table (set ws n v) n j m
+stored_first alike table ws n v j h m = sym (get_or-set_same ws n v 0 h) ∙ masked_first alike table (set ws n v) n j m
 
 -- ---- the masks of all nodes, by node
 
 -- The masks of the action formulas from i on have their places.
 pub record Kept (action : ℕ → Action) (a i : ℕ) (all : List ℕ) : Type 0 where
   pub long : length all ≡ action_limit
-  pub at : (k : ℕ) → i ≤ k → k < a → getD all k 0 ≡ mask_of (action k)
+  pub at : (k : ℕ) → i ≤ k → k < a → get_or all k 0 ≡ mask_of (action k)
 
 pub kept_none : (action : ℕ → Action) (a : ℕ) (all : List ℕ) → length all ≡ action_limit → Kept action a a all
 kept_none action a all l = record { long = l; at = λ k low high. absurd (omega arith) }
 
 pub kept_more : (action : ℕ → Action) (a i v : ℕ) (all : List ℕ) → i < action_limit → v ≡ mask_of (action i) → Kept action a (suc i) all → Kept action a i (set all i v)
 kept_more action a i v all h e m = record {
-  long = length-set all i v ∙ m .long;
-  at = λ k low high. by-cases (ℕ_discrete k i)
-      (λ same. rw same (getD-set-same all i v 0 (omega (arith, m .long)) ∙ e))
-      (λ other. getD-set-other all i k v 0 other ∙ m .at k (omega arith) high);
+  long = length-set all i v ∙ m.long;
+  at = λ k low high. by_cases (ℕ_discrete k i)
+      (λ same. rw same (get_or-set_same all i v 0 (omega (arith, m.long)) ∙ e))
+      (λ other. get_or-set_other all i k v 0 other ∙ m.at k (omega arith) high);
 }
 
 -- ---- condition 7
 
 -- a label node that passes has a label
-label_small : (l : ℕ) (x : Node) → T (action_ok l x) → x .kind ≡ 2 → x .arg < l
-label_small l x t e = ltb→lt (x .arg) l (rw (eq-eqb (x .kind) 2 e) at (and_right (leb (x .kind) 6) (cond (eqb (x .kind) 2) (ltb (x .arg) l) (eqb (x .arg) 0)) t))
+label_small : (l : ℕ) (x : Node) → T (action_ok l x) → x.kind ≡ 2 → x.arg < l
+label_small l x t e = ltb→lt x.arg l (rw (eq-eqb x.kind 2 e) at (and_right (leb x.kind 6) (cond (eqb x.kind 2) (ltb x.arg l) (eqb x.arg 0)) t))
 
 -- an action table that passes can be read
-pub whole_actions : (b : List ℕ) → bad_actions b ≡ false → WholeActions (header_of b .labels) (action_table b)
+pub whole_actions : (b : List ℕ) → bad_actions b ≡ false → WholeActions (header_of b).labels (action_table b)
 unfolding bad_actions
 whole_actions b e =
     let t : List Node = action_table b in
-    let oks : Bool = every (action_ok (header_of b .labels)) t in
+    let oks : Bool = every (action_ok (header_of b).labels) t in
     let fits : Bool = whole_formulas 0 (map (arity_in action_arities) t) in
     let each : T oks = and_left oks fits (held (oks && fits) (not-false (oks && fits) e)) in
     record {
-      known = action_table_lem b e .kinds;
-      small = λ i g k. label_small (header_of b .labels) (node_at t i) (all_at (action_ok (header_of b .labels)) t i (record { kind = 0; arg = 0 }) g each) k;
-      whole = action_table_lem b e .whole;
+      known = (action_table_lem b e).kinds;
+      small = λ i g k. label_small (header_of b).labels (node_at t i) (all_at (action_ok (header_of b).labels) t i (record { kind = 0; arg = 0 }) g each) k;
+      whole = (action_table_lem b e).whole;
     }

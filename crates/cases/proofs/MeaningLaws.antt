@@ -1,33 +1,33 @@
 -- The meaning of a formula: it exists, it is one, and it grows with the valuation. It depends on the free variables only, and on the
 -- transitions only through which there are.
-use mathlib.Core.Path.{_≡_, refl, sym, ap, ap₂, subst, _∙_}
-use mathlib.Core.Bool.{Bool, true, false, not, cond, _&&_, _||_}
-use mathlib.Core.List.{List, [], _∷_, map}
-use Prim.Native.Nat.{ℕ, zero, suc, _<_}
+use mathlib.Core.Path.{◌≡◌, refl, sym, ap, ap₂, subst, ◌∙◌}
+use mathlib.Core.Bool.{Bool, true, false, not, cond, ◌&&◌, ◌||◌}
+use mathlib.Core.List.{List, [], ◌∷◌, map}
+use Prim.Native.Nat.{ℕ, zero, suc, ◌<◌}
 use native.Mathlib.Omega.{arith}
 use borrow.Author.Tests.{eq-eqb}
-use lib.Dec.{T, eqb, eqb→eq, eqb-refl, T-not, not-T}
-use lib.ListN.{length, getD, take, replicate, length-replicate}
-use Rattle·sets.specs.Lists.{numbers_from, every, for_some}
-use Rattle·sets.specs.States.{States, has, Subset, start, Extremal, Valuation, update, Sized}
-use Rattle·sets.specs.computed.Iteration.{Worked, repeated, same}
-use Rattle·sets.proofs.Lists.{length_map_range, and_left, and_right, and_both, or_left, or_right, Implies, kept_implies}
-use Rattle·sets.proofs.Order.{before_eq, subset_antisym, extremal_map, extremal_one}
-use Rattle·sets.proofs.FixedPoint.{extremal, fixed_mono}
-use Rattle·sets.proofs.Valuation.{update_sized, update_mono}
-use Rattle·cases·specs.specs.Action.{Action}
-use Rattle·cases·specs.specs.Formula.{Formula, False, True, And, Or, Box, Diamond, Variable, Fix}
-use Rattle·cases·specs.specs.internal.Scope.{free, Within}
-use Rattle·cases·specs.specs.File.{Transition}
-use Rattle·cases·specs.specs.Case.{same_transition}
-use Rattle·cases·specs.specs.Meaning.{set_of, from, box_in, diamond_in, Means}
-use Rattle·cases·specs.specs.computed.Meanings.{meaning}
+use lib.Dec.{T, eqb, eqb→eq, eqb_refl, T_not, not_T}
+use lib.ListN.{length, get_or, take, replicate, length-replicate}
+use Rattle.sets.specs.Lists.{numbers_from, every, for_some}
+use Rattle.sets.specs.States.{States, has, Subset, start, Extremal, Valuation, update, Sized}
+use Rattle.sets.specs.computed.Iteration.{Worked, repeated, same}
+use Rattle.sets.proofs.Lists.{length_map_range, and_left, and_right, and_both, or_left, or_right, Implies, kept_implies}
+use Rattle.sets.proofs.Order.{before_eq, subset_antisym, extremal_map, extremal_one}
+use Rattle.sets.proofs.FixedPoint.{extremal, fixed_mono}
+use Rattle.sets.proofs.Valuation.{update_sized, update_mono}
+use Rattle.cases.specs.Action.{Action}
+use Rattle.cases.specs.Formula.{Formula, False, True, And, Or, Box, Diamond, Variable, Fix}
+use Rattle.cases.specs.internal.Scope.{free, Within}
+use Rattle.cases.specs.File.{Transition}
+use Rattle.cases.specs.Case.{same_transition}
+use Rattle.cases.specs.Meaning.{set_of, from, box_in, diamond_in, Means}
+use Rattle.cases.specs.computed.Meanings.{meaning}
 
 -- ---- any and all
 
 -- the contrary of an implication
 contrary : (a b : Bool) → Implies a b → Implies (not b) (not a)
-contrary a b h t = not-T a (λ s. T-not b t (h s))
+contrary a b h t = not_T a (λ s. T_not b t (h s))
 
 -- all have p if none has not
 pub all_not : {A : Type 0} (p : A → Bool) (xs : List A) → every p xs ≡ not (for_some (λ x. not (p x)) xs)
@@ -40,7 +40,7 @@ all_not p (x ∷ xs) = go (p x) (all_not p xs)
     go false e = refl
 
 -- an element with p makes any true
-pub any_at : {A : Type 0} (p : A → Bool) (d : A) (xs : List A) (j : ℕ) → j < length xs → T (p (getD xs j d)) → T (for_some p xs)
+pub any_at : {A : Type 0} (p : A → Bool) (d : A) (xs : List A) (j : ℕ) → j < length xs → T (p (get_or xs j d)) → T (for_some p xs)
 unfolding for_some
 any_at p d [] j h t = absurd (omega arith)
 any_at p d (x ∷ xs) zero h t = or_left (p x) (for_some p xs) t
@@ -50,7 +50,7 @@ any_at p d (x ∷ xs) (suc j) h t = or_right (p x) (for_some p xs) (any_at p d x
 pub record First {A : Type 0} (p : A → Bool) (d : A) (xs : List A) : Type 0 where
   pub index : ℕ
   pub below : index < length xs
-  pub holds : T (p (getD xs index d))
+  pub holds : T (p (get_or xs index d))
   pub new : T (not (for_some p (take index xs)))
 
 -- where any is true there is a first element with p
@@ -63,7 +63,7 @@ any_first p d (x ∷ xs) t = go (p x) refl t (any_first p d xs)
     go true e u next = record { index = 0; below = omega arith; holds = subst T (sym e) tt; new = tt }
     go false e u next =
         let f = next u in
-        record { index = suc (f .index); below = omega (arith, f .below); holds = f .holds; new = rw e (f .new) }
+        record { index = suc f.index; below = omega (arith, f.below); holds = f.holds; new = rw e f.new }
 
 -- ---- members of a list of transitions
 
@@ -79,30 +79,30 @@ transition s l e = record { source = s; label = l; target = e }
 pub same_equal : (t u : Transition) → T (same_transition t u) → t ≡ u
 unfolding same_transition
 same_equal t u h =
-    let g = and_left (eqb (t .source) (u .source) && eqb (t .label) (u .label)) (eqb (t .target) (u .target)) h in
-    let a : t .source ≡ u .source = eqb→eq (t .source) (u .source) (and_left (eqb (t .source) (u .source)) (eqb (t .label) (u .label)) g) in
-    let b : t .label ≡ u .label = eqb→eq (t .label) (u .label) (and_right (eqb (t .source) (u .source)) (eqb (t .label) (u .label)) g) in
-    let c : t .target ≡ u .target = eqb→eq (t .target) (u .target) (and_right (eqb (t .source) (u .source) && eqb (t .label) (u .label)) (eqb (t .target) (u .target)) h) in
-    let e : transition (t .source) (t .label) (t .target) ≡ transition (u .source) (u .label) (u .target) = cc in
+    let g = and_left (eqb t.source u.source && eqb t.label u.label) (eqb t.target u.target) h in
+    let a : t.source ≡ u.source = eqb→eq t.source u.source (and_left (eqb t.source u.source) (eqb t.label u.label) g) in
+    let b : t.label ≡ u.label = eqb→eq t.label u.label (and_right (eqb t.source u.source) (eqb t.label u.label) g) in
+    let c : t.target ≡ u.target = eqb→eq t.target u.target (and_right (eqb t.source u.source && eqb t.label u.label) (eqb t.target u.target) h) in
+    let e : transition t.source t.label t.target ≡ transition u.source u.label u.target = cc in
     e
 
 pub same_self : (t : Transition) → T (same_transition t t)
 unfolding same_transition
-same_self t = rw (eq-eqb (t .source) (t .source) refl, eq-eqb (t .label) (t .label) refl, eq-eqb (t .target) (t .target) refl) tt
+same_self t = rw (eq-eqb t.source t.source refl, eq-eqb t.label t.label refl, eq-eqb t.target t.target refl) tt
 
 -- a member with p makes any true
 member_any : (p : Transition → Bool) (t : Transition) → T (p t) → (ts : List Transition) → T (for_some (same_transition t) ts) → T (for_some p ts)
 member_any p t h ts m =
     let f = any_first (same_transition t) t ts m in
-    any_at p t ts (f .index) (f .below) (subst (λ u. T (p u)) (same_equal t (getD ts (f .index) t) (f .holds)) h)
+    any_at p t ts f.index f.below (subst (λ u. T (p u)) (same_equal t (get_or ts f.index t) f.holds) h)
 
 -- So any grows with the property and the members; all grows with the property, and with fewer members.
 pub any_within : (ts us : List Transition) → Within ts us → (p q : Transition → Bool) → ((t : Transition) → Implies (p t) (q t)) → Implies (for_some p ts) (for_some q us)
 any_within ts us w p q h m =
     let d : Transition = transition 0 0 0 in
     let f = any_first p d ts m in
-    let t : Transition = getD ts (f .index) d in
-    member_any q t (h t (f .holds)) us (w t (any_at (same_transition t) d ts (f .index) (f .below) (same_self t)))
+    let t : Transition = get_or ts f.index d in
+    member_any q t (h t f.holds) us (w t (any_at (same_transition t) d ts f.index f.below (same_self t)))
 
 pub all_within : (ts us : List Transition) → Within us ts → (p q : Transition → Bool) → ((t : Transition) → Implies (p t) (q t)) → Implies (every p ts) (every q us)
 all_within ts us w p q h =
@@ -118,13 +118,13 @@ module _ (n : ℕ) (ts : List Transition) where
   body_of i a ρ v = (meaning n ts a (update ρ i v), 0)
 
 -- a loop of steps that keep the number of states keeps it
-repeated_sized : (n : ℕ) (f : States → Worked) → ((v : States) → length v ≡ n → length (f v .0) ≡ n)
-    → (m : ℕ) (v : States) → length v ≡ n → length (repeated m f v .0) ≡ n
+repeated_sized : (n : ℕ) (f : States → Worked) → ((v : States) → length v ≡ n → length (f v).0 ≡ n)
+    → (m : ℕ) (v : States) → length v ≡ n → length (repeated m f v).0 ≡ n
 unfolding repeated
 repeated_sized n f h zero v o = o
-repeated_sized n f h (suc m) v o = go (same (f v .0) v) refl (repeated_sized n f h m (f v .0) (h v o))
+repeated_sized n f h (suc m) v o = go (same (f v).0 v) refl (repeated_sized n f h m (f v).0 (h v o))
   where
-    go : (b : Bool) → same (f v .0) v ≡ b → length (repeated m f (f v .0) .0) ≡ n → length (repeated (suc m) f v .0) ≡ n
+    go : (b : Bool) → same (f v).0 v ≡ b → length (repeated m f (f v).0).0 ≡ n → length (repeated (suc m) f v).0 ≡ n
     go true e l = rw (e, repeated) o
     go false e l = rw (e, repeated) l
 
@@ -159,13 +159,13 @@ join_mono n op mono x y v w g h =
 module _ (n : ℕ) (ts us : List Transition) (there : Within ts us) (back : Within us ts) (α : Action) (x y : States) (h : Subset x y) where
   pub box_mono : Subset (set_of n (box_in n ts α x)) (set_of n (box_in n us α y))
   box_mono = map_mono (box_in n ts α x) (box_in n us α y) (λ s.
-      all_within ts us back (λ t. not (from s α t) || has x (t .target)) (λ t. not (from s α t) || has y (t .target)) (λ t.
-      kept_implies .or (not (from s α t)) (has x (t .target)) (not (from s α t)) (has y (t .target)) (λ g. g) (h (t .target)))) (numbers_from 0 n)
+      all_within ts us back (λ t. not (from s α t) || has x t.target) (λ t. not (from s α t) || has y t.target) (λ t.
+      kept_implies.or (not (from s α t)) (has x t.target) (not (from s α t)) (has y t.target) (λ g. g) (h t.target))) (numbers_from 0 n)
 
   pub diamond_mono : Subset (set_of n (diamond_in n ts α x)) (set_of n (diamond_in n us α y))
   diamond_mono = map_mono (diamond_in n ts α x) (diamond_in n us α y) (λ s.
-      any_within ts us there (λ t. from s α t && has x (t .target)) (λ t. from s α t && has y (t .target)) (λ t.
-      kept_implies .and (from s α t) (has x (t .target)) (from s α t) (has y (t .target)) (λ g. g) (h (t .target)))) (numbers_from 0 n)
+      any_within ts us there (λ t. from s α t && has x t.target) (λ t. from s α t && has y t.target) (λ t.
+      kept_implies.and (from s α t) (has x t.target) (from s α t) (has y t.target) (λ g. g) (h t.target))) (numbers_from 0 n)
 
 -- The sets of the free variables of a grow from ρ to σ.
 abbrev pub Below : Formula → Valuation → Valuation → Type 0
@@ -187,18 +187,18 @@ unfolding meaning free
 meaning_below n False ts us there back ρ σ r q h = λ s t. t
 meaning_below n True ts us there back ρ σ r q h = λ s t. t
 meaning_below n (And a b) ts us there back ρ σ r q h =
-    join_mono n _&&_ (kept_implies .and) (meaning n ts a ρ) (meaning n ts b ρ) (meaning n us a σ) (meaning n us b σ)
+    join_mono n ◌&&◌ kept_implies.and (meaning n ts a ρ) (meaning n ts b ρ) (meaning n us a σ) (meaning n us b σ)
     (meaning_below n a ts us there back ρ σ r q (λ i t. h i (or_left (free i a) (free i b) t)))
     (meaning_below n b ts us there back ρ σ r q (λ i t. h i (or_right (free i a) (free i b) t)))
 meaning_below n (Or a b) ts us there back ρ σ r q h =
-    join_mono n _||_ (kept_implies .or) (meaning n ts a ρ) (meaning n ts b ρ) (meaning n us a σ) (meaning n us b σ)
+    join_mono n ◌||◌ kept_implies.or (meaning n ts a ρ) (meaning n ts b ρ) (meaning n us a σ) (meaning n us b σ)
     (meaning_below n a ts us there back ρ σ r q (λ i t. h i (or_left (free i a) (free i b) t)))
     (meaning_below n b ts us there back ρ σ r q (λ i t. h i (or_right (free i a) (free i b) t)))
 meaning_below n (Box α a) ts us there back ρ σ r q h =
     box_mono n ts us there back α (meaning n ts a ρ) (meaning n us a σ) (meaning_below n a ts us there back ρ σ r q h)
 meaning_below n (Diamond α a) ts us there back ρ σ r q h =
     diamond_mono n ts us there back α (meaning n ts a ρ) (meaning n us a σ) (meaning_below n a ts us there back ρ σ r q h)
-meaning_below n (Variable i) ts us there back ρ σ r q h = h i (eqb-refl i)
+meaning_below n (Variable i) ts us there back ρ σ r q h = h i (eqb_refl i)
 meaning_below n (Fix sign i a) ts us there back ρ σ r q h =
     fixed_mono n (body_of n ts i a ρ) (body_of n us i a σ)
     (λ v o. meaning_sized n ts a (update ρ i v) (update_sized ρ i v r o))
@@ -248,26 +248,26 @@ only_equal : (x : States) → Only (λ v. v ≡ x) x
 only_equal x = record { holds = refl; one = λ v e. e }
 
 only_from : {P : States → Type 0} {x : States} (f : States → States) → Only P x → Only (λ v. (y : States) × P y × (v ≡ f y)) (f x)
-only_from {x = x} f p = record { holds = (x, p .holds, refl); one = λ v m. m .2 ∙ ap f (p .one (m .0) (m .1)) }
+only_from {x = x} f p = record { holds = (x, p.holds, refl); one = λ v m. m.2 ∙ ap f (p.one m.0 m.1) }
 
 only_join : {P Q : States → Type 0} {x y : States} (f : States → States → States) → Only P x → Only Q y
     → Only (λ v. (u : States) × (w : States) × P u × Q w × (v ≡ f u w)) (f x y)
 only_join {x = x} {y = y} f p q = record {
-  holds = (x, y, p .holds, q .holds, refl);
-  one = λ v m. m .4 ∙ ap₂ f (p .one (m .0) (m .2)) (q .one (m .1) (m .3));
+  holds = (x, y, p.holds, q.holds, refl);
+  one = λ v m. m.4 ∙ ap₂ f (p.one m.0 m.2) (q.one m.1 m.3);
 }
 
 module _ (n : ℕ) (ts : List Transition) where
   -- a binder's set, where the body's meaning is known for every set: the iteration stops at the least or greatest fixed point
   only_fix : (sign : Bool) (i : ℕ) (a : Formula) (ρ : Valuation) → Sized n ρ
       → ((u : States) → length u ≡ n → Only (Means n ts a (update ρ i u)) (meaning n ts a (update ρ i u)))
-      → Only (Extremal n sign (λ u. Means n ts a (update ρ i u) u)) (repeated (suc n) (body_of n ts i a ρ) (start n sign) .0)
+      → Only (Extremal n sign (λ u. Means n ts a (update ρ i u) u)) (repeated (suc n) (body_of n ts i a ρ) (start n sign)).0
   only_fix sign i a ρ r body = record { holds = least; one = λ v m. extremal_one m least }
     where
-      least : Extremal n sign (λ u. Means n ts a (update ρ i u) u) (repeated (suc n) (body_of n ts i a ρ) (start n sign) .0)
+      least : Extremal n sign (λ u. Means n ts a (update ρ i u) u) (repeated (suc n) (body_of n ts i a ρ) (start n sign)).0
       least = extremal_map
-          (λ u o e. subst (Means n ts a (update ρ i u)) e (body u o .holds))
-          (λ u o m. sym (body u o .one u m))
+          (λ u o e. subst (Means n ts a (update ρ i u)) e (body u o).holds)
+          (λ u o m. sym ((body u o).one u m))
           (extremal n sign (body_of n ts i a ρ)
           (λ v o. meaning_sized n ts a (update ρ i v) (update_sized ρ i v r o))
           (λ v w o l g. meaning_mono n ts a (update ρ i v) (update ρ i w) (update_sized ρ i v r o) (update_sized ρ i w r l) (update_mono ρ ρ i v w (λ k s t. t) g)))
@@ -286,11 +286,11 @@ module _ (n : ℕ) (ts : List Transition) where
 
   -- The meaning exists,
   pub means_exists : (a : Formula) (ρ : Valuation) → Sized n ρ → Means n ts a ρ (meaning n ts a ρ)
-  means_exists a ρ r = means_only a ρ r .holds
+  means_exists a ρ r = (means_only a ρ r).holds
 
   -- is one,
   pub means_unique : (a : Formula) (ρ : Valuation) → Sized n ρ → (v : States) → Means n ts a ρ v → v ≡ meaning n ts a ρ
-  means_unique a ρ r = means_only a ρ r .one
+  means_unique a ρ r = (means_only a ρ r).one
 
   -- and has n states.
   pub means_sized : (a : Formula) (ρ : Valuation) → Sized n ρ → (v : States) → Means n ts a ρ v → length v ≡ n

@@ -1,29 +1,29 @@
 -- Operands due, node by node: the arities of kinds, and loops over the nodes of a part.
-use mathlib.Core.Path.{_≡_, refl, sym, ap, _∙_}
+use mathlib.Core.Path.{◌≡◌, refl, sym, ap, ◌∙◌}
 use mathlib.Core.Bool.{Bool, false}
-use mathlib.Core.List.{List, [], _∷_, map}
-use Prim.Native.Nat.{ℕ, zero, suc, _+_, _-_, _≤_, _<_}
+use mathlib.Core.List.{List, [], ◌∷◌, map}
+use Prim.Native.Nat.{ℕ, zero, suc, ◌+◌, ◌-◌, ◌≤◌, ◌<◌}
 use native.Mathlib.Nat.{zero-add}
 use native.Mathlib.Omega.{arith}
 use lib.Dec.{eqb}
-use lib.ListN.{getD, drop}
-use Rattle·sets.specs.Lists.{numbers_from, every}
-use Rattle·sets.proofs.Lists.{get_or_map_range, drop_map}
-use Rattle·cases·specs.specs.Prefix.{Node, arity_in, action_arities, formula_arities, whole_formulas, exactly, span}
-use Rattle·cases·specs.specs.File.{node_in}
-use Rattle·cases·specs.specs.internal.Checks.{nodes_in}
-use Rattle·cases·proofs.proofs.Checking.{range_done, range_next, all_map}
+use lib.ListN.{get_or, drop}
+use Rattle.sets.specs.Lists.{numbers_from, every}
+use Rattle.sets.proofs.Lists.{get_or_map_range, drop_map}
+use Rattle.cases.specs.Prefix.{Node, arity_in, action_arities, formula_arities, whole_formulas, exactly, span}
+use Rattle.cases.specs.File.{node_in}
+use Rattle.cases.specs.internal.Checks.{nodes_in}
+use Rattle.cases.proofs.Checking.{range_done, range_next, all_map}
 
 -- ---- arities
 
 -- action kinds: false, true and label; and, or and implies; past the last
-pub action_none : (kind : ℕ) → kind < 3 → 0 ≡ getD action_arities kind 0
+pub action_none : (kind : ℕ) → kind < 3 → 0 ≡ get_or action_arities kind 0
 action_none zero h = refl
 action_none (suc zero) h = refl
 action_none (suc (suc zero)) h = refl
 action_none (suc (suc (suc kind))) h = absurd (omega arith)
 
-pub action_two : (kind : ℕ) → 3 < kind → kind < 7 → 2 ≡ getD action_arities kind 0
+pub action_two : (kind : ℕ) → 3 < kind → kind < 7 → 2 ≡ get_or action_arities kind 0
 action_two zero g h = absurd (omega arith)
 action_two (suc zero) g h = absurd (omega arith)
 action_two (suc (suc zero)) g h = absurd (omega arith)
@@ -34,19 +34,19 @@ action_two (suc (suc (suc (suc (suc (suc zero)))))) g h = refl
 action_two (suc (suc (suc (suc (suc (suc (suc kind))))))) g h = absurd (omega arith)
 
 -- formula kinds: false and true; and, or; box, diamond, mu and nu
-pub formula_none : (kind : ℕ) → kind < 2 → 0 ≡ getD formula_arities kind 0
+pub formula_none : (kind : ℕ) → kind < 2 → 0 ≡ get_or formula_arities kind 0
 formula_none zero h = refl
 formula_none (suc zero) h = refl
 formula_none (suc (suc kind)) h = absurd (omega arith)
 
-pub formula_two : (kind : ℕ) → 2 ≤ kind → kind < 4 → 2 ≡ getD formula_arities kind 0
+pub formula_two : (kind : ℕ) → 2 ≤ kind → kind < 4 → 2 ≡ get_or formula_arities kind 0
 formula_two zero g h = absurd (omega arith)
 formula_two (suc zero) g h = absurd (omega arith)
 formula_two (suc (suc zero)) g h = refl
 formula_two (suc (suc (suc zero))) g h = refl
 formula_two (suc (suc (suc (suc kind)))) g h = absurd (omega arith)
 
-pub formula_one : (kind : ℕ) → 4 ≤ kind → ¬ (kind ≡ 6) → kind < 9 → 1 ≡ getD formula_arities kind 0
+pub formula_one : (kind : ℕ) → 4 ≤ kind → ¬ (kind ≡ 6) → kind < 9 → 1 ≡ get_or formula_arities kind 0
 formula_one zero g d h = absurd (omega arith)
 formula_one (suc zero) g d h = absurd (omega arith)
 formula_one (suc (suc zero)) g d h = absurd (omega arith)
@@ -76,7 +76,7 @@ due_step (suc due) k ks d = let e : due + k ≡ suc due - 1 + k = omega arith in
 -- ---- the loops
 
 -- a node of a part, as an element of its table
-pub node_in_lem : (part : List ℕ) (k i : ℕ) (d : Node) → i < k → getD (nodes_in part k) i d ≡ node_in part i
+pub node_in_lem : (part : List ℕ) (k i : ℕ) (d : Node) → i < k → get_or (nodes_in part k) i d ≡ node_in part i
 unfolding nodes_in
 node_in_lem part k i d h = get_or_map_range (node_in part) 0 k i d h ∙ ap (node_in part) (zero-add i)
 

@@ -1,15 +1,15 @@
 -- Spans of subtrees in a table in prefix order, by its list of arities.
-use mathlib.Core.Path.{_≡_, refl, sym, ap, _∙_}
+use mathlib.Core.Path.{◌≡◌, refl, sym, ap, ◌∙◌}
 use mathlib.Core.Bool.{true}
-use mathlib.Core.List.{List, [], _∷_}
-use Prim.Native.Nat.{ℕ, zero, suc, _+_, _-_, _≤_, _<_}
-use native.Mathlib.Nat.{zero-add, add-zero, add-comm}
+use mathlib.Core.List.{List, [], ◌∷◌}
+use Prim.Native.Nat.{ℕ, zero, suc, ◌+◌, ◌-◌, ◌≤◌, ◌<◌}
+use native.Mathlib.Nat.{zero-add, add-zero, add_comm}
 use native.Mathlib.Numerals.{add-one}
 use native.Mathlib.Omega.{arith}
 use borrow.Author.Tests.{eqb-true, eq-eqb}
-use lib.ListN.{length, getD, drop, length-drop}
+use lib.ListN.{length, get_or, drop, length-drop}
 use lib.Seq.{drop-cons, drop-drop}
-use Rattle·cases·specs.specs.Prefix.{whole_formulas, exactly, span, end_of}
+use Rattle.cases.specs.Prefix.{whole_formulas, exactly, span, end_of}
 
 -- no formulas have no nodes
 pub span_none : (ks : List ℕ) → span 0 ks ≡ 0
@@ -52,20 +52,20 @@ span_nested (suc due) (k ∷ ks) (suc j) h =
 -- ---- nodes, by the list of all arities
 module _ (ks : List ℕ) where
   -- a node's subtree is the node and its operands' subtrees
-  pub end_next : (i : ℕ) → i < length ks → end_of ks i ≡ i + 1 + span (getD ks i 0) (drop (i + 1) ks)
+  pub end_next : (i : ℕ) → i < length ks → end_of ks i ≡ i + 1 + span (get_or ks i 0) (drop (i + 1) ks)
   unfolding span
   end_next i h =
-      let one : span 1 (getD ks i 0 ∷ drop (suc i) ks) ≡ suc (span (getD ks i 0) (drop (suc i) ks)) =
-      ap (λ (due : ℕ). suc (span due (drop (suc i) ks))) (zero-add (getD ks i 0)) in
-      let here : span 1 (drop i ks) ≡ suc (span (getD ks i 0) (drop (suc i) ks)) = rw (drop-cons ks i 0) one in
+      let one : span 1 (get_or ks i 0 ∷ drop (suc i) ks) ≡ suc (span (get_or ks i 0) (drop (suc i) ks)) =
+      ap (λ (due : ℕ). suc (span due (drop (suc i) ks))) (zero-add (get_or ks i 0)) in
+      let here : span 1 (drop i ks) ≡ suc (span (get_or ks i 0) (drop (suc i) ks)) = rw (drop-cons ks i 0) one in
       rw (add-one i) (omega arith)
 
   -- a leaf's subtree is the node
-  pub end_leaf : (i : ℕ) → i < length ks → getD ks i 0 ≡ 0 → end_of ks i ≡ i + 1
+  pub end_leaf : (i : ℕ) → i < length ks → get_or ks i 0 ≡ 0 → end_of ks i ≡ i + 1
   end_leaf i h k = end_next i h ∙ rw (k, span_none) (omega arith)
 
   -- the subtree of a node with one operand ends with the operand's
-  pub end_one : (i : ℕ) → i < length ks → getD ks i 0 ≡ 1 → end_of ks i ≡ end_of ks (i + 1)
+  pub end_one : (i : ℕ) → i < length ks → get_or ks i 0 ≡ 1 → end_of ks i ≡ end_of ks (i + 1)
   end_one i h k = end_next i h ∙ rw k
 
   -- two subtrees that follow one another
@@ -77,7 +77,7 @@ module _ (ks : List ℕ) where
       omega arith
 
   -- with two operands, the second's subtree starts where the first's ends, and the node's ends with it
-  pub end_two : (i : ℕ) → i < length ks → getD ks i 0 ≡ 2 → end_of ks i ≡ end_of ks (end_of ks (i + 1))
+  pub end_two : (i : ℕ) → i < length ks → get_or ks i 0 ≡ 2 → end_of ks i ≡ end_of ks (end_of ks (i + 1))
   end_two i h k =
       let both : i + 1 + span 2 (drop (i + 1) ks) ≡ end_of ks (end_of ks (i + 1)) = ends_twice (i + 1) in
       end_next i h ∙ rw k both
@@ -125,13 +125,13 @@ whole_span (suc m) n (k ∷ ks) e =
     let then : m + n + k ≡ m + k + n = omega arith in
     let left : whole_formulas (suc (m + n)) (k ∷ ks) ≡ true = rw first at e in
     let more : (m + k ≤ span (m + k) ks) × (whole_formulas n (drop (span (m + k) ks) ks) ≡ true) = whole_span (m + k) n ks (rw then at left) in
-    (omega arith, more .1)
+    (omega arith, more.1)
 
 -- where n formulas are due before node i, which has k operands, k and more are due after it
 whole_next : (n k : ℕ) (ks : List ℕ) → whole_formulas n (k ∷ ks) ≡ true → (m : ℕ) × (whole_formulas (k + m) ks ≡ true)
 unfolding whole_formulas
 whole_next zero k ks e = (0, rw (add-zero k) e)
-whole_next (suc n) k ks e = (n, rw (add-comm k n) e)
+whole_next (suc n) k ks e = (n, rw (add_comm k n) e)
 
 -- from any node on, the table has whole formulas
 pub whole_rest : (n : ℕ) (ks : List ℕ) (i : ℕ) → whole_formulas n ks ≡ true → (m : ℕ) × (whole_formulas m (drop i ks) ≡ true)
@@ -139,49 +139,49 @@ whole_rest n ks zero e = (n, e)
 whole_rest n [] (suc i) e = (n, e)
 whole_rest n (k ∷ ks) (suc i) e =
     let next : (m : ℕ) × (whole_formulas (k + m) ks ≡ true) = whole_next n k ks e in
-    whole_rest (k + next .0) ks i (next .1)
+    whole_rest (k + next.0) ks i next.1
 
 -- ---- operands of a table of whole formulas
 module _ (n : ℕ) (ks : List ℕ) (whole : whole_formulas n ks ≡ true) (i : ℕ) (inside : i < length ks) where
   -- after a node its operands are due
-  pub operands_due : (m : ℕ) × (whole_formulas (getD ks i 0 + m) (drop (i + 1) ks) ≡ true)
+  pub operands_due : (m : ℕ) × (whole_formulas (get_or ks i 0 + m) (drop (i + 1) ks) ≡ true)
   operands_due =
       let rest : (m : ℕ) × (whole_formulas m (drop i ks) ≡ true) = whole_rest n ks i whole in
-      let node : whole_formulas (rest .0) (getD ks i 0 ∷ drop (suc i) ks) ≡ true = rw (drop-cons ks i 0) at (rest .1) in
-      rw (add-one i) (whole_next (rest .0) (getD ks i 0) (drop (suc i) ks) node)
+      let node : whole_formulas rest.0 (get_or ks i 0 ∷ drop (suc i) ks) ≡ true = rw (drop-cons ks i 0) at rest.1 in
+      rw (add-one i) (whole_next rest.0 (get_or ks i 0) (drop (suc i) ks) node)
 
   -- a node with operands has the first in its subtree
-  pub first_inside : 1 ≤ getD ks i 0 → i + 1 < end_of ks i
+  pub first_inside : 1 ≤ get_or ks i 0 → i + 1 < end_of ks i
   first_inside k =
-      let due : getD ks i 0 ≤ span (getD ks i 0) (drop (i + 1) ks) =
-      whole_span (getD ks i 0) (operands_due .0) (drop (i + 1) ks) (operands_due .1) .0 in
+      let due : get_or ks i 0 ≤ span (get_or ks i 0) (drop (i + 1) ks) =
+      (whole_span (get_or ks i 0) operands_due.0 (drop (i + 1) ks) operands_due.1).0 in
       omega (arith, end_next ks i inside)
 
   -- the first operand is a node
-  pub first_node : 1 ≤ getD ks i 0 → i + 1 < length ks
+  pub first_node : 1 ≤ get_or ks i 0 → i + 1 < length ks
   first_node k = omega (arith, first_inside k, end_inside ks i (omega arith))
 
   -- whose subtree lies in the node's
 
   -- a node with two operands has the second after the first's subtree, in its own
-  pub second_inside : getD ks i 0 ≡ 2 → (i + 1 < end_of ks (i + 1)) × (end_of ks (i + 1) < end_of ks i)
+  pub second_inside : get_or ks i 0 ≡ 2 → (i + 1 < end_of ks (i + 1)) × (end_of ks (i + 1) < end_of ks i)
   second_inside k =
-      let m : ℕ = operands_due .0 in
-      let both : getD ks i 0 + m ≡ 1 + (1 + m) = omega arith in
-      let due : whole_formulas (1 + (1 + m)) (drop (i + 1) ks) ≡ true = rw both at (operands_due .1) in
+      let m : ℕ = operands_due.0 in
+      let both : get_or ks i 0 + m ≡ 1 + (1 + m) = omega arith in
+      let due : whole_formulas (1 + (1 + m)) (drop (i + 1) ks) ≡ true = rw both at operands_due.1 in
       let more : whole_formulas (1 + m) (drop (span 1 (drop (i + 1) ks)) (drop (i + 1) ks)) ≡ true =
-      whole_span 1 (1 + m) (drop (i + 1) ks) due .1 in
+      (whole_span 1 (1 + m) (drop (i + 1) ks) due).1 in
       let rest : whole_formulas (1 + m) (drop (end_of ks (i + 1)) ks) ≡ true = rw drop-drop at more in
-      omega (arith, end_two ks i inside k, after_node ks (i + 1) (first_node (omega arith)), whole_span 1 m (drop (end_of ks (i + 1)) ks) rest .0)
+      omega (arith, end_two ks i inside k, after_node ks (i + 1) (first_node (omega arith)), (whole_span 1 m (drop (end_of ks (i + 1)) ks) rest).0)
 
   -- the second operand is a node
-  pub second_node : getD ks i 0 ≡ 2 → end_of ks (i + 1) < length ks
-  second_node k = omega (arith, second_inside k .1, end_inside ks i (omega arith))
+  pub second_node : get_or ks i 0 ≡ 2 → end_of ks (i + 1) < length ks
+  second_node k = omega (arith, (second_inside k).1, end_inside ks i (omega arith))
   -- whose subtree lies in the node's too
 
 -- What holds of each node if it holds of its operands holds of every node.
 module _ (n : ℕ) (ks : List ℕ) (whole : whole_formulas n ks ≡ true) (P : ℕ → Type 0)
-    (each : (i : ℕ) → i < length ks → (1 ≤ getD ks i 0 → P (i + 1)) → (getD ks i 0 ≡ 2 → P (end_of ks (i + 1))) → P i) where
+    (each : (i : ℕ) → i < length ks → (1 ≤ get_or ks i 0 → P (i + 1)) → (get_or ks i 0 ≡ 2 → P (end_of ks (i + 1))) → P i) where
   by_operands_in : (left i : ℕ) → length ks ≤ i + left → i < length ks → P i
   by_operands_in zero i l h = absurd (omega arith)
   by_operands_in (suc left) i l h =

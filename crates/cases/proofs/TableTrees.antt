@@ -1,22 +1,22 @@
 -- The formula at each node of a formula table, and the action formula at each node of an action table.
-use mathlib.Core.Path.{_≡_, refl}
-use mathlib.Core.Bool.{Bool, true, false, _&&_}
-use mathlib.Core.List.{List, [], _∷_, map}
-use Prim.Native.Nat.{ℕ, zero, suc, _+_, _≤_, _<_}
+use mathlib.Core.Path.{◌≡◌, refl}
+use mathlib.Core.Bool.{Bool, true, false, ◌&&◌}
+use mathlib.Core.List.{List, [], ◌∷◌, map}
+use Prim.Native.Nat.{ℕ, zero, suc, ◌+◌, ◌≤◌, ◌<◌}
 use native.Mathlib.Omega.{arith}
 use borrow.Author.Tests.{leb-true, not-false}
 use lib.Dec.{T, leb}
-use lib.ListN.{length, getD}
-use Rattle·sets.specs.Lists.{every}
-use Rattle·sets.proofs.Lists.{and_left, and_right, all_at}
-use Rattle·cases·specs.specs.Action.{Action}
-use Rattle·cases·specs.specs.Formula.{Formula}
-use Rattle·cases·specs.specs.Prefix.{Node, arity_in, action_arities, formula_arities, whole_formulas, exactly, end_of, place_action, place_formula, action_at, formula_at}
-use Rattle·cases·specs.specs.Conditions.{node_at, node_ok, action_ok, bad_actions, bad_formula}
-use Rattle·cases·specs.specs.File.{header_of, action_table}
-use Rattle·cases·specs.specs.internal.Tables.{made, action_operator, formula_operator, ActionTable, FormulaTable}
-use Rattle·cases·proofs.proofs.Spans.{exactly_whole}
-use Rattle·cases·proofs.proofs.Trees.{operands, replace, Placing, node_tree}
+use lib.ListN.{length, get_or}
+use Rattle.sets.specs.Lists.{every}
+use Rattle.sets.proofs.Lists.{and_left, and_right, all_at}
+use Rattle.cases.specs.Action.{Action}
+use Rattle.cases.specs.Formula.{Formula}
+use Rattle.cases.specs.Prefix.{Node, arity_in, action_arities, formula_arities, whole_formulas, exactly, end_of, place_action, place_formula, action_at, formula_at}
+use Rattle.cases.specs.Conditions.{node_at, node_ok, action_ok, bad_actions, bad_formula}
+use Rattle.cases.specs.File.{header_of, action_table}
+use Rattle.cases.specs.internal.Tables.{made, action_operator, formula_operator, ActionTable, FormulaTable}
+use Rattle.cases.proofs.Spans.{exactly_whole}
+use Rattle.cases.proofs.Trees.{operands, replace, Placing, node_tree}
 
 -- a test that holds is true
 pub holds : (b : Bool) → T b → b ≡ true
@@ -54,55 +54,55 @@ each_action_kind P p0 p1 p2 p3 p4 p5 p6 (suc (suc (suc (suc (suc (suc (suc k))))
 -- action nodes are placed by their operators
 unfoldable pub placing_actions : (alike : ℕ → List Bool) → Placing (place_action alike) action_arities 6
 placing_actions alike = record {
-  operator = λ i x. action_operator alike (x .arg) (x .kind);
-  places = λ i x. each_action_kind (λ k. place_action alike i (record { kind = k; arg = x .arg }) ≡ replace (action_operator alike (x .arg) k))
-      refl refl refl refl refl refl refl (x .kind);
-  takes = λ i x. each_action_kind (λ k. operands (action_operator alike (x .arg) k) ≡ getD action_arities k 0)
-      refl refl refl refl refl refl refl (x .kind);
+  operator = λ i x. action_operator alike x.arg x.kind;
+  places = λ i x. each_action_kind (λ k. place_action alike i (record { kind = k; arg = x.arg }) ≡ replace (action_operator alike x.arg k))
+      refl refl refl refl refl refl refl x.kind;
+  takes = λ i x. each_action_kind (λ k. operands (action_operator alike x.arg k) ≡ get_or action_arities k 0)
+      refl refl refl refl refl refl refl x.kind;
 }
 
 -- formula nodes too
 pub placing_formulas : (action : ℕ → Action) → Placing (place_formula action) formula_arities 8
 placing_formulas action = record {
-  operator = λ i x. formula_operator action i (x .arg) (x .kind);
-  places = λ i x. each_kind (λ k. place_formula action i (record { kind = k; arg = x .arg }) ≡ replace (formula_operator action i (x .arg) k))
-      refl refl refl refl refl refl refl refl refl (x .kind);
-  takes = λ i x. each_kind (λ k. operands (formula_operator action i (x .arg) k) ≡ getD formula_arities k 0)
-      refl refl refl refl refl refl refl refl refl (x .kind);
+  operator = λ i x. formula_operator action i x.arg x.kind;
+  places = λ i x. each_kind (λ k. place_formula action i (record { kind = k; arg = x.arg }) ≡ replace (formula_operator action i x.arg k))
+      refl refl refl refl refl refl refl refl refl x.kind;
+  takes = λ i x. each_kind (λ k. operands (formula_operator action i x.arg k) ≡ get_or formula_arities k 0)
+      refl refl refl refl refl refl refl refl refl x.kind;
 }
 
 -- The action formula at its node i, by the node's kind k.
-pub action_at_lem : (alike : ℕ → List Bool) (t : List Node) → ActionTable t → (i k : ℕ) → i < length t → node_at t i .kind ≡ k
+pub action_at_lem : (alike : ℕ → List Bool) (t : List Node) → ActionTable t → (i k : ℕ) → i < length t → (node_at t i).kind ≡ k
     → action_at alike t i
-    ≡ made (action_operator alike (node_at t i .arg) k) (action_at alike t (i + 1)) (action_at alike t (end_of (map (arity_in action_arities) t) (i + 1)))
+    ≡ made (action_operator alike (node_at t i).arg k) (action_at alike t (i + 1)) (action_at alike t (end_of (map (arity_in action_arities) t) (i + 1)))
 unfolding action_at placing_actions
 action_at_lem alike t table i k h e =
-    rw (← e) (node_tree Action.False (place_action alike) action_arities 6 (placing_actions alike) t (table .kinds) 0 (table .whole) i h)
+    rw (← e) (node_tree Action.False (place_action alike) action_arities 6 (placing_actions alike) t table.kinds 0 table.whole i h)
 
 -- The formula at its node i, by the node's kind k.
-pub formula_at_lem : (action : ℕ → Action) (t : List Node) → FormulaTable t → (i k : ℕ) → i < length t → node_at t i .kind ≡ k
+pub formula_at_lem : (action : ℕ → Action) (t : List Node) → FormulaTable t → (i k : ℕ) → i < length t → (node_at t i).kind ≡ k
     → formula_at action t i
-    ≡ made (formula_operator action i (node_at t i .arg) k) (formula_at action t (i + 1)) (formula_at action t (end_of (map (arity_in formula_arities) t) (i + 1)))
+    ≡ made (formula_operator action i (node_at t i).arg k) (formula_at action t (i + 1)) (formula_at action t (end_of (map (arity_in formula_arities) t) (i + 1)))
 unfolding formula_at placing_formulas
 formula_at_lem action t table i k h e =
     rw (← e)
-    (node_tree Formula.False (place_formula action) formula_arities 8 (placing_formulas action) t (table .kinds)
-    1 (exactly_whole 1 (map (arity_in formula_arities) t) (table .whole)) i h)
+    (node_tree Formula.False (place_formula action) formula_arities 8 (placing_formulas action) t table.kinds
+    1 (exactly_whole 1 (map (arity_in formula_arities) t) table.whole) i h)
 
 -- it has a root
 pub root : (t : List Node) → FormulaTable t → 0 < length t
 unfolding exactly
-root [] table = absurd (let z : _≡_ {A = ℕ} 0 1 = cc (table .whole) in omega arith)
+root [] table = absurd (let z : ◌≡◌ {A = ℕ} 0 1 = cc table.whole in omega arith)
 root (x ∷ t) table = omega arith
 
 -- a node that passes condition 8 has a known kind
-formula_kind : (a : ℕ) (x : Node) (r : Bool) → leb (x .kind) 8 ≡ r → T (node_ok a x) → x .kind ≤ 8
-formula_kind a x true e h = leb-true (x .kind) 8 e
+formula_kind : (a : ℕ) (x : Node) (r : Bool) → leb x.kind 8 ≡ r → T (node_ok a x) → x.kind ≤ 8
+formula_kind a x true e h = leb-true x.kind 8 e
 formula_kind a x false e h = absurd (rw e at h)
 
 -- and one that passes condition 7
-action_kind : (l : ℕ) (x : Node) (r : Bool) → leb (x .kind) 6 ≡ r → T (action_ok l x) → x .kind ≤ 6
-action_kind l x true e h = leb-true (x .kind) 6 e
+action_kind : (l : ℕ) (x : Node) (r : Bool) → leb x.kind 6 ≡ r → T (action_ok l x) → x.kind ≤ 6
+action_kind l x true e h = leb-true x.kind 6 e
 action_kind l x false e h = absurd (rw e at h)
 
 -- A table of which condition 8 does not hold is one.
@@ -121,11 +121,11 @@ formula_table_lem a t e =
 pub action_table_lem : (b : List ℕ) → bad_actions b ≡ false → ActionTable (action_table b)
 unfolding bad_actions
 action_table_lem b e =
-    let oks : Bool = every (action_ok (header_of b .labels)) (action_table b) in
+    let oks : Bool = every (action_ok (header_of b).labels) (action_table b) in
     let fits : Bool = whole_formulas 0 (map (arity_in action_arities) (action_table b)) in
     let good : T (oks && fits) = held (oks && fits) (not-false (oks && fits) e) in
     record {
-      kinds = λ i h. action_kind (header_of b .labels) (node_at (action_table b) i) _ refl
-          (all_at (action_ok (header_of b .labels)) (action_table b) i (record { kind = 0; arg = 0 }) h (and_left oks fits good));
+      kinds = λ i h. action_kind (header_of b).labels (node_at (action_table b) i) _ refl
+          (all_at (action_ok (header_of b).labels) (action_table b) i (record { kind = 0; arg = 0 }) h (and_left oks fits good));
       whole = holds fits (and_right oks fits good);
     }

@@ -1,42 +1,42 @@
 -- The transition table of an accepted case: its records, their sources, and its tally.
-use mathlib.Core.Path.{_≡_}
-use mathlib.Core.Bool.{Bool, true, false, _&&_}
+use mathlib.Core.Path.{◌≡◌}
+use mathlib.Core.Bool.{Bool, true, false, ◌&&◌}
 use mathlib.Core.List.{List, Perm}
-use Prim.Native.Nat.{ℕ, _-_, _<_, _≤_}
+use Prim.Native.Nat.{ℕ, ◌-◌, ◌<◌, ◌≤◌}
 use native.Mathlib.Omega.{arith}
 use borrow.Author.Tests.{not-false}
-use borrow.Rule.Slice.PartAt.{part-to-end}
+use borrow.Author.Rules.{part_to_end}
 use lib.Dec.{T, ltb, ltb→lt}
 use lib.ListN.{length, take, drop}
-use Rattle·sets.specs.Lists.{every}
-use Rattle·sets.specs.Words.{state_limit}
-use Rattle·sets.proofs.Refusals.{refusing}
-use Rattle·sets.proofs.Lists.{and_left, and_right, all_at, length_table, table_at}
-use Rattle·cases·specs.specs.File.{Header, Transition, header_of, transition_table, transition_in, transition_limit}
-use Rattle·cases·specs.specs.Case.{case_of, distinct}
-use Rattle·cases·specs.specs.Conditions.{transition_ok, bad_model, case_refusal, Accepted}
-use Rattle·cases·specs.specs.Tally.{tallied, no_tally, tally_of}
-use Rattle·cases·specs.specs.internal.Checks.{transition_part, transitions_in}
-use Rattle·cases·specs.specs.internal.Links.{source_in, Sourced, FirstFlags}
-use Rattle·cases·proofs.proofs.TableTrees.{holds, held}
-use Rattle·cases·proofs.proofs.ModelRules.{transitions_inside}
-use Rattle·cases·proofs.proofs.Distinct.{perm_length, perm_distinct}
-use Rattle·cases·proofs.proofs.Accepting.{Passed, passed}
+use Rattle.sets.specs.Lists.{every}
+use Rattle.sets.specs.Words.{state_limit}
+use Rattle.sets.proofs.Refusals.{refusing}
+use Rattle.sets.proofs.Lists.{and_left, and_right, all_at, length_table, table_at}
+use Rattle.cases.specs.File.{Header, Transition, header_of, transition_table, transition_in, transition_limit}
+use Rattle.cases.specs.Case.{case_of, distinct}
+use Rattle.cases.specs.Conditions.{transition_ok, bad_model, case_refusal, Accepted}
+use Rattle.cases.specs.Tally.{tallied, no_tally, tally_of}
+use Rattle.cases.specs.internal.Checks.{transition_part, transitions_in}
+use Rattle.cases.specs.internal.Links.{source_in, Sourced, FirstFlags}
+use Rattle.cases.proofs.TableTrees.{holds, held}
+use Rattle.cases.proofs.ModelRules.{transitions_inside}
+use Rattle.cases.proofs.Distinct.{perm_length, perm_distinct}
+use Rattle.cases.proofs.Accepting.{Passed, passed}
 
 -- the initial state is a state, and the transitions have states and labels
 pub model_holds : (b : List ℕ) → bad_model b ≡ false
-    → (header_of b .initial < header_of b .states) × (every (transition_ok (header_of b .states) (header_of b .labels)) (transition_table b) ≡ true)
+    → ((header_of b).initial < (header_of b).states) × (every (transition_ok (header_of b).states (header_of b).labels) (transition_table b) ≡ true)
 unfolding bad_model
 model_holds b e =
-    let low : Bool = ltb (header_of b .initial) (header_of b .states) in
-    let oks : Bool = every (transition_ok (header_of b .states) (header_of b .labels)) (transition_table b) in
+    let low : Bool = ltb (header_of b).initial (header_of b).states in
+    let oks : Bool = every (transition_ok (header_of b).states (header_of b).labels) (transition_table b) in
     let good : T (low && oks) = held (low && oks) (not-false (low && oks) e) in
-    (ltb→lt (header_of b .initial) (header_of b .states) (and_left low oks good), holds oks (and_right low oks good))
+    (ltb→lt (header_of b).initial (header_of b).states (and_left low oks good), holds oks (and_right low oks good))
 
 -- how long the table is
-pub length_transitions : (b : List ℕ) → length (transition_table b) ≡ header_of b .transitions
+pub length_transitions : (b : List ℕ) → length (transition_table b) ≡ (header_of b).transitions
 unfolding transition_table
-length_transitions b = length_table (transition_in (transition_part b)) (header_of b .transitions)
+length_transitions b = length_table (transition_in (transition_part b)) (header_of b).transitions
 
 -- the part of a file that starts at an offset, as a slice has it
 abbrev pub part_at : List ℕ → ℕ → List ℕ
@@ -44,50 +44,50 @@ part_at b at = take (length b - at) (drop at b)
 
 module _ (b : List ℕ) (accepted : Accepted b) where
   abbrev m : ℕ
-  m = header_of b .transitions
+  m = (header_of b).transitions
 
   -- each source is a state
   sources : (j : ℕ) → j < m → source_in (transition_part b) j < state_limit
   unfolding transition_table
   sources j h =
-      let n : ℕ = header_of b .states in
-      let l : ℕ = header_of b .labels in
+      let n : ℕ = (header_of b).states in
+      let l : ℕ = (header_of b).labels in
       let good : Passed b = passed b accepted in
-      let all : T (every (transition_ok n l) (transition_table b)) = held (every (transition_ok n l) (transition_table b)) (model_holds b (good .model) .1) in
+      let all : T (every (transition_ok n l) (transition_table b)) = held (every (transition_ok n l) (transition_table b)) (model_holds b good.model).1 in
       let t = transition_in (transition_part b) j in
       let one : T (transition_ok n l t) = rw (table_at (transition_in (transition_part b)) m j t h) at (all_at (transition_ok n l) (transition_table b) j t (rw (length_transitions b) h) all) in
-      let low : t .source < n = ltb→lt (t .source) n (and_left (ltb (t .source) n) _ (and_left (ltb (t .source) n && ltb (t .label) l) _ one)) in
-      omega (arith, good .lies .counts .few_states)
+      let low : t.source < n = ltb→lt t.source n (and_left (ltb t.source n) _ (and_left (ltb t.source n && ltb t.label l) _ one)) in
+      omega (arith, good.lies.counts.few_states)
 
   sourced : Sourced (transition_part b) m
   sourced =
-      let l = passed b accepted .lies in
-      record { few = l .counts .few_transitions; inside = transitions_inside l; source = sources }
+      let l = (passed b accepted).lies in
+      record { few = l.counts.few_transitions; inside = transitions_inside l; source = sources }
 
   module _ {h : Header} (is : h ≡ header_of b) where
-    pub table_at_offset : h .«transitions_at» ≤ length b
-    table_at_offset = let l = passed b accepted .lies in rw is (omega (arith, l .ends, l .transitions))
+    pub table_at_offset : h.transitions_at ≤ length b
+    table_at_offset = let l = (passed b accepted).lies in rw is (omega (arith, l.ends, l.transitions))
 
-    pub few_records : h .transitions ≤ transition_limit
-    few_records = rw is (passed b accepted .lies .counts .few_transitions)
+    pub few_records : h.transitions ≤ transition_limit
+    few_records = rw is (passed b accepted).lies.counts.few_transitions
 
     -- the records that are handed over
-    pub handed : Sourced (part_at b (h .«transitions_at»)) (h .transitions)
-    handed = rw (is, part-to-end b (header_of b .«transitions_at»)) sourced
+    pub handed : Sourced (part_at b h.transitions_at) h.transitions
+    handed = rw (is, part_to_end b (header_of b).transitions_at) sourced
 
     -- what is found of them is found of the case
-    pub flags_case : {flags : List ℕ} → FirstFlags (part_at b (h .«transitions_at»)) (h .transitions) flags → FirstFlags (transition_part b) (h .transitions) flags
-    flags_case f = rw is (rw (is, part-to-end b (header_of b .«transitions_at»)) at f)
+    pub flags_case : {flags : List ℕ} → FirstFlags (part_at b h.transitions_at) h.transitions flags → FirstFlags (transition_part b) h.transitions flags
+    flags_case f = rw is (rw (is, part_to_end b (header_of b).transitions_at) at f)
 
-    pub tally_case : {k : ℕ} → k ≡ length (distinct (transitions_in (part_at b (h .«transitions_at»)) (h .transitions)))
-        → record { records = h .transitions; distinct = k } ≡ tally_of b
+    pub tally_case : {k : ℕ} → k ≡ length (distinct (transitions_in (part_at b h.transitions_at) h.transitions))
+        → record { records = h.transitions; distinct = k } ≡ tally_of b
     unfolding tally_of tallied case_of transition_table transitions_in
     tally_case e =
-        let same = rw (is, part-to-end b (header_of b .«transitions_at»)) at e in
+        let same = rw (is, part_to_end b (header_of b).transitions_at) at e in
         rw (accepted, is, same, length_table (transition_in (transition_part b)) m)
 
 -- the tally of an accepted case, and of any other
-pub tally_accepted : (b : List ℕ) → Accepted b → tally_of b ≡ tallied (case_of b .transitions)
+pub tally_accepted : (b : List ℕ) → Accepted b → tally_of b ≡ tallied (case_of b).transitions
 unfolding tally_of
 tally_accepted b ok = rw ok
 

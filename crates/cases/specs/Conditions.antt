@@ -1,18 +1,13 @@
 -- The conditions of a case, in order.
-use mathlib.Core.Path.{_≡_}
-use mathlib.Core.Bool.{Bool, true, cond, not, _&&_, _||_}
-use mathlib.Core.List.{List, [], _∷_, _++_, map}
-use Prim.Native.Nat.{ℕ, _+_}
-use lib.Dec.{eqb, ltb, leb}
-use lib.ListN.{length, getD}
-use Rattle·sets.specs.Lists.{numbers_from, every, for_some}
-use Rattle·sets.specs.Words.{state_limit}
-use Rattle·solver.specs.File.{block_limit}
-use Rattle·sets.specs.Refusals.{between, Conditions, first_of}
-use Rattle·cases·specs.specs.Prefix.{Node, arity_in, action_arities, formula_arities, whole_formulas, exactly, end_of}
-use Rattle·cases·specs.specs.File.{Header, header_size, header_of, version, label_limit, name_limit, transition_limit, action_limit, node_limit}
-use Rattle·cases·specs.specs.File.{labels_start, transitions_start, actions_start, formula_start, file_end, Label, Transition, label_table, transition_table, action_table, formula_table}
-use Rattle·cases·specs.specs.Labels.{record_numbers}
+use Rattle.std.specs.Prelude.{◌≡◌, Bool, true, cond, not, ◌&&◌, ◌||◌, List, [], ◌∷◌, ◌++◌, map, ℕ, ◌+◌, eqb, ltb, leb, length, get_or}
+use Rattle.sets.specs.Lists.{numbers_from, every, for_some}
+use Rattle.sets.specs.Words.{state_limit}
+use Rattle.solver.specs.File.{block_limit}
+use Rattle.sets.specs.Refusals.{between, Conditions, first_of}
+use Rattle.cases.specs.Prefix.{Node, arity_in, action_arities, formula_arities, whole_formulas, exactly, end_of}
+use Rattle.cases.specs.File.{Header, header_size, header_of, version, label_limit, name_limit, transition_limit, action_limit, node_limit}
+use Rattle.cases.specs.File.{labels_start, transitions_start, actions_start, formula_start, file_end, Label, Transition, label_table, transition_table, action_table, formula_table}
+use Rattle.cases.specs.Labels.{record_numbers}
 
 -- 1: fewer bytes than a header of its version has
 unfoldable pub too_small : List ℕ → Bool
@@ -29,17 +24,17 @@ versions = 1 ∷ 2 ∷ []
 -- 3: a count outside its range
 unfoldable pub bad_count : Header → Bool
 bad_count h = not (every (λ test. test)
-    (between 1 state_limit (h .states)
-    ∷ between 0 transition_limit (h .transitions)
-    ∷ between 1 label_limit (h .labels)
-    ∷ between 0 action_limit (h .actions)
-    ∷ between 1 node_limit (h .nodes)
+    (between 1 state_limit h.states
+    ∷ between 0 transition_limit h.transitions
+    ∷ between 1 label_limit h.labels
+    ∷ between 0 action_limit h.actions
+    ∷ between 1 node_limit h.nodes
     ∷ []))
 
 -- 4: an offset differs
 unfoldable pub bad_offset : Header → Bool
 bad_offset h =
-    not (eqb (h .«labels_at») (labels_start h) && eqb (h .«transitions_at») (transitions_start h) && eqb (h .«actions_at») (actions_start h) && eqb (h .«formula_at_lem») (formula_start h))
+    not (eqb h.labels_at (labels_start h) && eqb h.transitions_at (transitions_start h) && eqb h.actions_at (actions_start h) && eqb h.formula_at (formula_start h))
 
 -- 5: the length differs
 unfoldable pub bad_length : List ℕ → Bool
@@ -47,10 +42,10 @@ bad_length b = not (eqb (length b) (file_end (header_of b)))
 
 -- 6: the initial state, a source or a target is not below n, or a label not below l
 abbrev pub transition_ok : ℕ → ℕ → Transition → Bool
-transition_ok n l t = ltb (t .source) n && ltb (t .label) l && ltb (t .target) n
+transition_ok n l t = ltb t.source n && ltb t.label l && ltb t.target n
 
 unfoldable pub bad_model : List ℕ → Bool
-bad_model b = not (ltb (header_of b .initial) (header_of b .states) && every (transition_ok (header_of b .states) (header_of b .labels)) (transition_table b))
+bad_model b = not (ltb (header_of b).initial (header_of b).states && every (transition_ok (header_of b).states (header_of b).labels) (transition_table b))
 
 -- 15: a label record with a name above the limit, or with a name behind a 0
 unfoldable pub padded : List ℕ → Bool
@@ -65,30 +60,30 @@ bad_labels b = not (every label_ok (label_table b))
 
 -- 7: an action node's kind or argument, or no whole formulas. The argument of a label (2) is a label, of any other kind 0.
 abbrev pub action_ok : ℕ → Node → Bool
-action_ok l x = leb (x .kind) 6 && cond (eqb (x .kind) 2) (ltb (x .arg) l) (eqb (x .arg) 0)
+action_ok l x = leb x.kind 6 && cond (eqb x.kind 2) (ltb x.arg l) (eqb x.arg 0)
 
 unfoldable pub bad_actions : List ℕ → Bool
-bad_actions b = not (every (action_ok (header_of b .labels)) (action_table b) && whole_formulas 0 (map (arity_in action_arities) (action_table b)))
+bad_actions b = not (every (action_ok (header_of b).labels) (action_table b) && whole_formulas 0 (map (arity_in action_arities) (action_table b)))
 
 -- 8: a formula node's kind or argument, or not one whole formula. A box (4) or diamond (5) has an action node, a variable (6) is
 -- exempt, and the argument of any other kind is 0. It looks at the formula table and the number of action nodes only.
 abbrev pub node_ok : ℕ → Node → Bool
-node_ok a x = leb (x .kind) 8 && cond (eqb (x .kind) 6) true (cond (eqb (x .kind) 4 || eqb (x .kind) 5) (ltb (x .arg) a) (eqb (x .arg) 0))
+node_ok a x = leb x.kind 8 && cond (eqb x.kind 6) true (cond (eqb x.kind 4 || eqb x.kind 5) (ltb x.arg a) (eqb x.arg 0))
 
 unfoldable pub bad_formula : ℕ → List Node → Bool
 bad_formula a table = not (every (node_ok a) table && exactly 1 (map (arity_in formula_arities) table))
 
 -- 9: a variable whose argument is not a mu (7) or nu (8) node with that variable in its subtree
 abbrev pub is_binder : Node → Bool
-is_binder x = eqb (x .kind) 7 || eqb (x .kind) 8
+is_binder x = eqb x.kind 7 || eqb x.kind 8
 
 abbrev pub node_at : List Node → ℕ → Node
-node_at table i = getD table i (record { kind = 0; arg = 0 })
+node_at table i = get_or table i (record { kind = 0; arg = 0 })
 
 unfoldable pub bound_ok : List Node → ℕ → Bool
 bound_ok table i =
-    let j : ℕ = node_at table i .arg in
-    not (eqb (node_at table i .kind) 6) || (is_binder (node_at table j) && ltb j i && ltb i (end_of (map (arity_in formula_arities) table) j))
+    let j : ℕ = (node_at table i).arg in
+    not (eqb (node_at table i).kind 6) || (is_binder (node_at table j) && ltb j i && ltb i (end_of (map (arity_in formula_arities) table) j))
 
 unfoldable pub bad_variable : List Node → Bool
 bad_variable table = not (every (bound_ok table) (numbers_from 0 (length table)))
@@ -118,7 +113,7 @@ formula_conditions a table = (8, bad_formula a table) ∷ (9, bad_variable table
 
 -- all of them, in the order in which they are looked at
 unfoldable pub case_conditions : List ℕ → Conditions
-case_conditions b = layout_conditions b ++ (model_conditions b ++ formula_conditions (header_of b .actions) (formula_table b))
+case_conditions b = layout_conditions b ++ (model_conditions b ++ formula_conditions (header_of b).actions (formula_table b))
 
 -- the number of the first condition that holds, or 0
 unfoldable pub case_refusal : List ℕ → ℕ

@@ -1,18 +1,14 @@
 -- The case file: the header's numbers and the tables of any list of bytes, and how large it may be.
-use mathlib.Core.Bool.{Bool, cond}
-use mathlib.Core.List.{List, map}
-use Prim.Native.Nat.{ℕ, _+_, _*_}
-use lib.Dec.{eqb}
-use lib.ListN.{getD, take, drop}
-use Rattle·sets.specs.Lists.{numbers_from}
-use Rattle·cases·specs.specs.Prefix.{Node}
-pub use Rattle·cases·specs.specs.declared.Header.{Header}
-pub use Rattle·cases·specs.specs.declared.Label.{Label}
-pub use Rattle·cases·specs.specs.declared.Transition.{Transition}
+use Rattle.std.specs.Prelude.{Bool, cond, List, map, ℕ, ◌+◌, ◌*◌, eqb, get_or, take, drop}
+use Rattle.sets.specs.Lists.{numbers_from}
+use Rattle.cases.specs.Prefix.{Node}
+pub use Rattle.cases.specs.declared.Header.{Header}
+pub use Rattle.cases.specs.declared.Label.{Label}
+pub use Rattle.cases.specs.declared.Transition.{Transition}
 
 -- the 16-bit number at a place, low byte first
 unfoldable pub u16 : List ℕ → ℕ → ℕ
-u16 b at = getD b at 0 + 256 * getD b (at + 1) 0
+u16 b at = get_or b at 0 + 256 * get_or b (at + 1) 0
 
 -- The first number is the version. Here, in `header_of`, and in `head_for` of the crate records alone it is said at which byte a number of the header stands.
 abbrev pub version : List ℕ → ℕ
@@ -37,31 +33,31 @@ header_of b = record {
   initial = u16 b 8;
   actions = u16 b 10;
   nodes = u16 b 12;
-  «transitions_at» = u16 b 14;
-  «actions_at» = u16 b 16;
-  «formula_at_lem» = u16 b 18;
-  «labels_at» = cond (has_label_table (version b)) (u16 b 20) (header_size (version b));
+  transitions_at = u16 b 14;
+  actions_at = u16 b 16;
+  formula_at_lem = u16 b 18;
+  labels_at = cond (has_label_table (version b)) (u16 b 20) (header_size (version b));
 }
 
 -- how many label records there are: one for each label, or none
 unfoldable pub label_records : Header → ℕ
-label_records h = cond (has_label_table (h .version)) (h .labels) 0
+label_records h = cond (has_label_table h.version) h.labels 0
 
 -- Where the tables have to stand by a header's version and counts: without gaps, a label record has 8 bytes, a transition 6 and a node 4.
 abbrev pub labels_start : Header → ℕ
-labels_start h = header_size (h .version)
+labels_start h = header_size h.version
 
 abbrev pub transitions_start : Header → ℕ
 transitions_start h = labels_start h + 8 * label_records h
 
 abbrev pub actions_start : Header → ℕ
-actions_start h = transitions_start h + 6 * h .transitions
+actions_start h = transitions_start h + 6 * h.transitions
 
 abbrev pub formula_start : Header → ℕ
-formula_start h = actions_start h + 4 * h .actions
+formula_start h = actions_start h + 4 * h.actions
 
 abbrev pub file_end : Header → ℕ
-file_end h = formula_start h + 4 * h .nodes
+file_end h = formula_start h + 4 * h.nodes
 
 -- The case that bytes start with: as many of them as its header's version and counts say, or all there are.
 unfoldable pub case_within : List ℕ → List ℕ
@@ -81,16 +77,16 @@ node_in part i = record { kind = u16 part (4 * i); arg = u16 part (4 * i + 2) }
 
 -- Each table is read from the part of the file that starts at its offset.
 unfoldable pub label_table : List ℕ → List Label
-label_table b = map (label_in (drop (header_of b .«labels_at») b)) (numbers_from 0 (label_records (header_of b)))
+label_table b = map (label_in (drop (header_of b).labels_at b)) (numbers_from 0 (label_records (header_of b)))
 
 unfoldable pub transition_table : List ℕ → List Transition
-transition_table b = map (transition_in (drop (header_of b .«transitions_at») b)) (numbers_from 0 (header_of b .transitions))
+transition_table b = map (transition_in (drop (header_of b).transitions_at b)) (numbers_from 0 (header_of b).transitions)
 
 unfoldable pub action_table : List ℕ → List Node
-action_table b = map (node_in (drop (header_of b .«actions_at») b)) (numbers_from 0 (header_of b .actions))
+action_table b = map (node_in (drop (header_of b).actions_at b)) (numbers_from 0 (header_of b).actions)
 
 unfoldable pub formula_table : List ℕ → List Node
-formula_table b = map (node_in (drop (header_of b .«formula_at_lem») b)) (numbers_from 0 (header_of b .nodes))
+formula_table b = map (node_in (drop (header_of b).formula_at b)) (numbers_from 0 (header_of b).nodes)
 
 -- How large a case may be. The code's LABELS, NAMES, TRANSITIONS, ACTIONS and NODES; states and blocks have the limits of the layers below.
 abbrev pub label_limit : ℕ

@@ -1,10 +1,6 @@
 -- Formulas of the modal mu-calculus in positive form. Their nodes count from 0, in prefix order.
-use mathlib.Core.Path.{_≡_}
-use mathlib.Core.Bool.{Bool}
-use mathlib.Core.List.{List, [], _∷_, _++_}
-use Prim.Native.Nat.{ℕ, _+_, _<_}
-use lib.ListN.{getD}
-use Rattle·cases·specs.specs.Action.{Action}
+use Rattle.std.specs.Prelude.{◌≡◌, Bool, List, [], ◌∷◌, ◌++◌, ℕ, ◌+◌, ◌<◌, get_or}
+use Rattle.cases.specs.Action.{Action}
 
 -- A binder has its sign (false mu, true nu) and its node number; a variable has its binder's node number.
 pub data Formula : Type 0 where
@@ -38,4 +34,4 @@ subformulas (Fix sign i a) = Fix sign i a ∷ subformulas a
 
 -- the formula x stands at node i of a
 abbrev pub Stands : Formula → ℕ → Formula → Type 0
-Stands a i x = (i < nodes a) × (getD (subformulas a) i False ≡ x)
+Stands a i x = (i < nodes a) × (get_or (subformulas a) i False ≡ x)

@@ -1,15 +1,11 @@
 -- Labels: the names of a label, and which labels are alike.
-use mathlib.Core.Bool.{Bool, cond, not}
-use mathlib.Core.List.{List, [], _∷_, _++_, map}
-use Prim.Native.Nat.{ℕ, _+_}
-use lib.Dec.{eqb}
-use lib.ListN.{getD}
-use Rattle·sets.specs.Lists.{numbers_from, every, keep}
-use Rattle·cases·specs.specs.File.{Header, Label, has_label_table}
+use Rattle.std.specs.Prelude.{Bool, cond, not, List, [], ◌∷◌, ◌++◌, map, ℕ, ◌+◌, eqb, get_or}
+use Rattle.sets.specs.Lists.{numbers_from, every, keep}
+use Rattle.cases.specs.File.{Header, Label, has_label_table}
 
 -- the four numbers of a label record
 abbrev pub record_numbers : Label → List ℕ
-record_numbers r = r .first ∷ r .second ∷ r .third ∷ r .fourth ∷ []
+record_numbers r = r.first ∷ r.second ∷ r.third ∷ r.fourth ∷ []
 
 -- A 0 is no name; it pads a record at its end.
 abbrev pub is_name : ℕ → Bool
@@ -30,12 +26,12 @@ same_names xs ys = every (λ k. eqb (occurrences k xs) (occurrences k ys)) (xs +
 
 -- the names of label j by the label records
 abbrev pub label_names : List Label → ℕ → List ℕ
-label_names table j = names_of (getD table j (record { first = 0; second = 0; third = 0; fourth = 0 }))
+label_names table j = names_of (get_or table j (record { first = 0; second = 0; third = 0; fourth = 0 }))
 
 -- Whether label x is alike to label j: with label records if its names are the same multiset as those of j, without them if it is j.
 unfoldable pub alike : Header → List Label → ℕ → ℕ → Bool
-alike h table j x = cond (has_label_table (h .version)) (same_names (label_names table j) (label_names table x)) (eqb j x)
+alike h table j x = cond (has_label_table h.version) (same_names (label_names table j) (label_names table x)) (eqb j x)
 
 -- the set of the labels that are alike to label j
 unfoldable pub alike_labels : Header → List Label → ℕ → List Bool
-alike_labels h table j = map (alike h table j) (numbers_from 0 (h .labels))
+alike_labels h table j = map (alike h table j) (numbers_from 0 h.labels)

@@ -1,11 +1,10 @@
 -- What opening a case answers: its header, or why it is refused.
-use mathlib.Core.Path.{_≡_}
-use Prim.Native.Nat.{ℕ}
-use Rattle·cases·specs.specs.declared.Cause.{Cause}
-use Rattle·cases·specs.specs.declared.Cause.the-variants.{Small, Version, Count, Offset, Length, Model, Labels, Actions, Formula, Variable, Depth}
-use Rattle·cases·specs.specs.declared.Opened.{Opened}
-use Rattle·cases·specs.specs.declared.Opened.the-variants.{Accepted, Refused}
-use Rattle·cases·specs.specs.File.{Header}
+use Rattle.std.specs.Prelude.{◌≡◌, ℕ}
+use Rattle.cases.specs.declared.Cause.{Cause}
+use Rattle.cases.specs.declared.Cause.TheVariants.{Small, Version, Count, Offset, Length, Model, Labels, Actions, Formula, Variable, Depth}
+use Rattle.cases.specs.declared.Opened.{Opened}
+use Rattle.cases.specs.declared.Opened.TheVariants.{Accepted, Refused}
+use Rattle.cases.specs.File.{Header}
 
 -- the paper's number of each cause
 abbrev pub case_number : Cause → ℕ

@@ -1,17 +1,13 @@
 -- Tables in prefix order: a node, then its operands' subtrees.
-use mathlib.Core.Bool.{Bool, true, false}
-use mathlib.Core.List.{List, [], _∷_}
-use mathlib.Core.Option.{Option, some, none}
-use Prim.Native.Nat.{ℕ, zero, suc, _+_}
-use lib.Dec.{eqb}
-use lib.ListN.{getD, drop}
-use Rattle·cases·specs.specs.Action.{Action}
-pub use Rattle·cases·specs.specs.declared.Node.{Node}
-use Rattle·cases·specs.specs.Formula.{Formula}
+use Rattle.std.specs.Prelude.{Bool, true, false, List, [], ◌∷◌, ℕ, zero, suc, ◌+◌, eqb, get_or, drop}
+use Rattle.std.proofs.Math.Option.{Option, some, none}
+use Rattle.cases.specs.Action.{Action}
+pub use Rattle.cases.specs.declared.Node.{Node}
+use Rattle.cases.specs.Formula.{Formula}
 
 -- how many operands a kind has, by the list of all kinds in order; none where there is no such kind
 abbrev pub arity_in : List ℕ → Node → ℕ
-arity_in kinds x = getD kinds (x .kind) 0
+arity_in kinds x = get_or kinds x.kind 0
 
 -- action kinds: false, true, label, not, and, or, implies
 abbrev pub action_arities : List ℕ
@@ -75,18 +71,18 @@ module _ {A : Type 0} where
 -- an action node by its kind, where `alike_to j` is the set of the labels that are alike to label j
 abbrev pub place_action : (ℕ → List Bool) → ℕ → Node → List Action → Option (List Action)
 place_action alike_to i x =
-    getD
-    (leaf Action.False ∷ leaf Action.True ∷ leaf (Action.Label (alike_to (x .arg))) ∷ unary_op Action.Not ∷ binary_op Action.And ∷ binary_op Action.Or ∷ binary_op Action.Implies ∷ [])
-    (x .kind) (λ st. none)
+    get_or
+    (leaf Action.False ∷ leaf Action.True ∷ leaf (Action.Label (alike_to x.arg)) ∷ unary_op Action.Not ∷ binary_op Action.And ∷ binary_op Action.Or ∷ binary_op Action.Implies ∷ [])
+    x.kind (λ st. none)
 
 -- a formula node by its kind, where `action j` is the action formula at action node j
 abbrev pub place_formula : (ℕ → Action) → ℕ → Node → List Formula → Option (List Formula)
 place_formula action i x =
-    getD
+    get_or
     (leaf Formula.False ∷ leaf Formula.True ∷ binary_op Formula.And ∷ binary_op Formula.Or
-    ∷ unary_op (Formula.Box (action (x .arg))) ∷ unary_op (Formula.Diamond (action (x .arg)))
-    ∷ leaf (Formula.Variable (x .arg)) ∷ unary_op (Formula.Fix false i) ∷ unary_op (Formula.Fix true i) ∷ [])
-    (x .kind) (λ st. none)
+    ∷ unary_op (Formula.Box (action x.arg)) ∷ unary_op (Formula.Diamond (action x.arg))
+    ∷ leaf (Formula.Variable x.arg) ∷ unary_op (Formula.Fix false i) ∷ unary_op (Formula.Fix true i) ∷ [])
+    x.kind (λ st. none)
 
 -- the action formula at action node j, and the formula at node i
 unfoldable pub action_at : (ℕ → List Bool) → List Node → ℕ → Action

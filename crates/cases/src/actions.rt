@@ -1,23 +1,21 @@
 // The action part: the labels that an action formula accepts, as a mask with a bit for each label.
-use crate::ACTIONS;
-use crate::Header;
+ghost use Rattle.std.specs.Prelude.{◌≡◌, ◌<◌, ◌≤◌, length, get_or};
+ghost use Rattle.cases.specs.Action.{Action};
+ghost use Rattle.cases.specs.File.{label_records, action_limit};
+ghost use Rattle.cases.specs.Labels.{alike_labels};
+ghost use Rattle.cases.specs.internal.Checks.{labels_in, nodes_in, NodesFit, LabelPart};
+ghost use Rattle.cases.specs.internal.Masks.{mask_of, action_of, action_in, WholeActions, ActionMasks};
+
 use crate::conditions::action_arity;
 use crate::file::node_at;
 use crate::labels::alike_labels;
-ghost use mathlib.Core.Path.{_≡_};
-ghost use Prim.Native.Nat.{_<_, _≤_};
-ghost use lib.ListN.{length, getD};
-ghost use Rattle·cases·specs.specs.Action.{Action};
-ghost use Rattle·cases·specs.specs.File.{label_records, action_limit};
-ghost use Rattle·cases·specs.specs.Labels.{alike_labels};
-ghost use Rattle·cases·specs.specs.internal.Checks.{labels_in, nodes_in, NodesFit, LabelPart};
-ghost use Rattle·cases·specs.specs.internal.Masks.{mask_of, action_of, action_in, WholeActions, ActionMasks};
+use crate::{ACTIONS, Header};
 
 // The mask of a node, where x and y are the masks that stand next after it.
 fn mask_of(labels: &[u8], h: Header, kind: usize, arg: usize, x: u64, y: u64) -> u64
-    requires { ⌜ LabelPart (now labels) h × (kind ≤ 6) × (kind ≡ 2 → arg < h .labels) ⌝ }
-    ensures { λ r. ⌜ ((a b : Action) → x ≡ mask_of a → y ≡ mask_of b
-        → r ≡ mask_of (action_of (alike_labels h (labels_in (now (labels .entry)) (label_records h))) kind arg a b)) ⌝ }
+    requires { LabelPart labels.now h × (kind ≤ 6) × (kind ≡ 2 → arg < h.labels) }
+    ensures { (a b : Action) → x ≡ mask_of a → y ≡ mask_of b
+        → result ≡ mask_of (action_of (alike_labels h (labels_in labels.now (label_records h))) kind arg a b) }
 {
     if kind == 0 {
         return 0;
@@ -42,7 +40,7 @@ fn mask_of(labels: &[u8], h: Header, kind: usize, arg: usize, x: u64, y: u64) ->
 
 // The mask at a place; none has the mask 0.
 fn mask_at(masks: &[u64], at: usize) -> u64
-    ensures { λ r. ⌜ r ≡ getD (now (masks .entry)) at 0 ⌝ }
+    ensures { result ≡ get_or masks.now at 0 }
 {
     if at < masks.len() {
         return masks[at];
@@ -53,9 +51,9 @@ fn mask_at(masks: &[u64], at: usize) -> u64
 // The labels that the action formula at each node accepts: bit x of mask j says whether that at node j accepts label x. The nodes are read from
 // the last one down, and the masks of the formulas that start at node i or after it, outermost only, stand from `at` on.
 pub fn action_masks(labels: &[u8], h: Header, part: &[u8]) -> [u64; ACTIONS]
-    requires { ⌜ LabelPart (now labels) h × NodesFit action_limit (now part) (h .actions) × WholeActions (h .labels) (nodes_in (now part) (h .actions)) ⌝ }
-    ensures { λ r. ⌜ (length r ≡ action_limit)
-        × ActionMasks (action_in h (now (labels .entry)) (now (part .entry))) (h .actions) r ⌝ }
+    requires { LabelPart labels.now h × NodesFit action_limit part.now h.actions × WholeActions h.labels (nodes_in part.now h.actions) }
+    ensures { (length result ≡ action_limit)
+        × ActionMasks (action_in h labels.now part.now) h.actions result }
 {
     let mut all = [0u64; ACTIONS];
     let mut masks = [0u64; ACTIONS];

@@ -1,38 +1,24 @@
 // Opening a case: its conditions, by what they look at.
-use crate::Cause;
-use crate::Header;
-use crate::Node;
-use crate::Opened;
-use crate::Transition;
-use crate::file::HEADER;
-use crate::file::actions_start;
-use crate::file::file_end;
-use crate::file::formula_start;
-use crate::file::header;
-use crate::file::header_size;
-use crate::file::node_at;
-use crate::file::transition_at;
-use crate::file::transitions_start;
-use crate::file::version;
+ghost use Rattle.std.specs.Prelude.{◌≡◌, cond, not, map, ◌-◌, ◌*◌, ◌≤◌, ◌<◌, eqb, length, get_or, drop};
+ghost use Rattle.sets.specs.Lists.{numbers_from, every, for_some};
+ghost use Rattle.sets.specs.Refusals.{between, first_of};
+ghost use Rattle.cases.specs.Prefix.{arity_in, action_arities, formula_arities, whole_formulas, exactly, end_of};
+ghost use Rattle.cases.specs.File.{header_of, action_limit, node_limit};
+ghost use Rattle.cases.specs.Conditions.{versions, bad_count, bad_offset, bad_length, bad_model, bad_actions, bad_formula, bad_variable, too_deep, transition_ok, action_ok, node_ok, bound_ok, is_binder, binder_count};
+ghost use Rattle.cases.specs.Conditions.{layout_conditions, model_conditions, formula_conditions, case_refusal};
+ghost use Rattle.cases.specs.Opening.{case_number, Opens};
+ghost use Rattle.cases.specs.internal.Checks.{transitions_in, nodes_in, fits, CountsFit, Laid, NodesFit};
+
+use crate::file::{
+    HEADER, actions_start, file_end, formula_start, header, header_size, node_at, transition_at,
+    transitions_start, version,
+};
 use crate::labels::bad_labels;
-ghost use mathlib.Core.Path.{_≡_};
-ghost use mathlib.Core.Bool.{cond, not};
-ghost use mathlib.Core.List.{map};
-ghost use Prim.Native.Nat.{_-_, _*_, _≤_, _<_};
-ghost use lib.Dec.{eqb};
-ghost use lib.ListN.{length, getD, drop};
-ghost use Rattle·sets.specs.Lists.{numbers_from, every, for_some};
-ghost use Rattle·sets.specs.Refusals.{between, first_of};
-ghost use Rattle·cases·specs.specs.Prefix.{arity_in, action_arities, formula_arities, whole_formulas, exactly, end_of};
-ghost use Rattle·cases·specs.specs.File.{header_of, action_limit, node_limit};
-ghost use Rattle·cases·specs.specs.Conditions.{versions, bad_count, bad_offset, bad_length, bad_model, bad_actions, bad_formula, bad_variable, too_deep, transition_ok, action_ok, node_ok, bound_ok, is_binder, binder_count};
-ghost use Rattle·cases·specs.specs.Conditions.{layout_conditions, model_conditions, formula_conditions, case_refusal};
-ghost use Rattle·cases·specs.specs.Opening.{case_number, Opens};
-ghost use Rattle·cases·specs.specs.internal.Checks.{transitions_in, nodes_in, fits, CountsFit, Laid, NodesFit};
+use crate::{Cause, Header, Node, Opened, Transition};
 
 // Whether a count is below `low` or above `high`.
 fn outside(low: usize, high: usize, count: usize) -> bool
-    ensures { λ r. ⌜ r ≡ not (between low high count) ⌝ }
+    ensures { result ≡ not (between low high count) }
 {
     if count < low {
         return true;
@@ -42,7 +28,7 @@ fn outside(low: usize, high: usize, count: usize) -> bool
 
 // Condition 3.
 fn bad_count(h: Header) -> bool
-    ensures { λ r. ⌜ r ≡ bad_count h ⌝ }
+    ensures { result ≡ bad_count h }
 {
     if outside(1, sets::STATES, h.states) {
         return true;
@@ -61,8 +47,8 @@ fn bad_count(h: Header) -> bool
 
 // Condition 4, where the counts are in range.
 fn bad_offset(h: Header) -> bool
-    requires { ⌜ CountsFit h ⌝ }
-    ensures { λ r. ⌜ r ≡ bad_offset h ⌝ }
+    requires { CountsFit h }
+    ensures { result ≡ bad_offset h }
 {
     if h.labels_at != header_size(h.version) {
         return true;
@@ -78,22 +64,23 @@ fn bad_offset(h: Header) -> bool
 
 // Condition 5, where the counts are in range.
 fn bad_length(case: &[u8], h: Header) -> bool
-    requires { ⌜ CountsFit h ⌝ ∗ ⌜ h ≡ header_of (now case) ⌝ }
-    ensures { λ r. ⌜ r ≡ bad_length (now (case .entry)) ⌝ }
+    requires fact_1 { CountsFit h }
+    requires fact_2 { h ≡ header_of case.now }
+    ensures { result ≡ bad_length case.now }
 {
     case.len() != file_end(h)
 }
 
 // Whether a version is one of those that are taken.
 fn is_taken(version: usize) -> bool
-    ensures { λ r. ⌜ r ≡ for_some (eqb version) versions ⌝ }
+    ensures { result ≡ for_some (eqb version) versions }
 {
     version == 1 || version == 2
 }
 
 // The layout: the header, or the first of conditions 1 to 5 that holds.
 pub fn check_layout(case: &[u8]) -> Opened
-    ensures { λ r. ⌜ Opens (first_of (layout_conditions (now (case .entry)))) (header_of (now (case .entry))) r ⌝ }
+    ensures { Opens (first_of (layout_conditions case.now)) (header_of case.now) result }
 {
     if case.len() < HEADER {
         return Opened::Refused(Cause::Small);
@@ -120,7 +107,7 @@ pub fn check_layout(case: &[u8]) -> Opened
 
 // Whether the ends of a transition are below n, and its label below l.
 pub fn transition_holds(t: Transition, n: usize, l: usize) -> bool
-    ensures { λ r. ⌜ r ≡ transition_ok n l t ⌝ }
+    ensures { result ≡ transition_ok n l t }
 {
     if n <= t.source {
         return false;
@@ -133,8 +120,8 @@ pub fn transition_holds(t: Transition, n: usize, l: usize) -> bool
 
 // Whether that holds of each of the m transitions of a part.
 fn transitions_hold(part: &[u8], m: usize, n: usize, l: usize) -> bool
-    requires { ⌜ 6 * m ≤ length (now part) ⌝ }
-    ensures { λ r. ⌜ r ≡ every (transition_ok n l) (transitions_in (now (part .entry)) m) ⌝ }
+    requires { 6 * m ≤ length part.now }
+    ensures { result ≡ every (transition_ok n l) (transitions_in part.now m) }
 {
     let mut i = 0;
     while i < m {
@@ -148,8 +135,8 @@ fn transitions_hold(part: &[u8], m: usize, n: usize, l: usize) -> bool
 
 // Condition 6.
 fn bad_model(case: &[u8], h: Header) -> bool
-    requires { ⌜ Laid (now case) h ⌝ }
-    ensures { λ r. ⌜ r ≡ bad_model (now (case .entry)) ⌝ }
+    requires { Laid case.now h }
+    ensures { result ≡ bad_model case.now }
 {
     if h.states <= h.initial {
         return true;
@@ -160,7 +147,7 @@ fn bad_model(case: &[u8], h: Header) -> bool
 
 // One less, or 0.
 fn one_less(due: usize) -> usize
-    ensures { λ r. ⌜ r ≡ due - 1 ⌝ }
+    ensures { result ≡ due - 1 }
 {
     if due == 0 {
         return 0;
@@ -170,7 +157,7 @@ fn one_less(due: usize) -> usize
 
 // How many operands an action kind has.
 pub fn action_arity(kind: usize) -> usize
-    ensures { λ r. ⌜ (r ≡ getD action_arities kind 0) × (r ≤ 2) ⌝ }
+    ensures { (result ≡ get_or action_arities kind 0) × (result ≤ 2) }
 {
     if kind < 3 {
         return 0;
@@ -186,7 +173,7 @@ pub fn action_arity(kind: usize) -> usize
 
 // Whether the kind and the argument of an action node are right, with l labels.
 fn action_holds(x: Node, l: usize) -> bool
-    ensures { λ r. ⌜ r ≡ action_ok l x ⌝ }
+    ensures { result ≡ action_ok l x }
 {
     if 6 < x.kind {
         return false;
@@ -199,7 +186,7 @@ fn action_holds(x: Node, l: usize) -> bool
 
 // Whether the kind and the argument of a formula node are right, with a action nodes.
 fn node_holds(x: Node, a: usize) -> bool
-    ensures { λ r. ⌜ r ≡ node_ok a x ⌝ }
+    ensures { result ≡ node_ok a x }
 {
     if 8 < x.kind {
         return false;
@@ -218,7 +205,7 @@ fn node_holds(x: Node, a: usize) -> bool
 
 // Whether they are right of a node of either table: of a formula node with `bound` action nodes, or of an action node with `bound` labels.
 fn node_fits(x: Node, bound: usize, formula: bool) -> bool
-    ensures { λ r. ⌜ r ≡ fits formula bound x ⌝ }
+    ensures { result ≡ fits formula bound x }
 {
     if formula {
         return node_holds(x, bound);
@@ -228,8 +215,8 @@ fn node_fits(x: Node, bound: usize, formula: bool) -> bool
 
 // Whether that holds of each of the k nodes of a part.
 fn all_fit(part: &[u8], k: usize, bound: usize, formula: bool) -> bool
-    requires { ⌜ 4 * k ≤ length (now part) ⌝ }
-    ensures { λ r. ⌜ r ≡ every (fits formula bound) (nodes_in (now (part .entry)) k) ⌝ }
+    requires { 4 * k ≤ length part.now }
+    ensures { result ≡ every (fits formula bound) (nodes_in part.now k) }
 {
     let mut i = 0;
     while i < k {
@@ -243,8 +230,8 @@ fn all_fit(part: &[u8], k: usize, bound: usize, formula: bool) -> bool
 
 // Whether the a nodes of a part are whole formulas. Where a formula begins none is due, and its root stands for itself.
 fn actions_whole(part: &[u8], a: usize) -> bool
-    requires { ⌜ NodesFit action_limit (now part) a ⌝ }
-    ensures { λ r. ⌜ r ≡ whole_formulas 0 (map (arity_in action_arities) (nodes_in (now (part .entry)) a)) ⌝ }
+    requires { NodesFit action_limit part.now a }
+    ensures { result ≡ whole_formulas 0 (map (arity_in action_arities) (nodes_in part.now a)) }
 {
     let mut due = 0;
     let mut i = 0;
@@ -258,8 +245,8 @@ fn actions_whole(part: &[u8], a: usize) -> bool
 
 // Condition 7.
 fn bad_actions(case: &[u8], h: Header) -> bool
-    requires { ⌜ Laid (now case) h ⌝ }
-    ensures { λ r. ⌜ r ≡ bad_actions (now (case .entry)) ⌝ }
+    requires { Laid case.now h }
+    ensures { result ≡ bad_actions case.now }
 {
     let actions = h.actions_at;
     if !all_fit(&case[actions..], h.actions, h.labels, false) {
@@ -270,8 +257,8 @@ fn bad_actions(case: &[u8], h: Header) -> bool
 
 // The model, the label records and the action table: the header, or the first of conditions 6, 15 and 7 that holds.
 fn check_model(case: &[u8], h: Header) -> Opened
-    requires { ⌜ Laid (now case) h ⌝ }
-    ensures { λ r. ⌜ Opens (first_of (model_conditions (now (case .entry)))) h r ⌝ }
+    requires { Laid case.now h }
+    ensures { Opens (first_of (model_conditions case.now)) h result }
 {
     if bad_model(case, h) {
         return Opened::Refused(Cause::Model);
@@ -287,7 +274,7 @@ fn check_model(case: &[u8], h: Header) -> Opened
 
 // How many operands a formula kind has.
 fn formula_arity(kind: usize) -> usize
-    ensures { λ r. ⌜ (r ≡ getD formula_arities kind 0) × (r ≤ 2) ⌝ }
+    ensures { (result ≡ get_or formula_arities kind 0) × (result ≤ 2) }
 {
     if kind < 2 {
         return 0;
@@ -305,6 +292,7 @@ fn formula_arity(kind: usize) -> usize
 }
 
 // A subtree: the node after it, and whether it is whole with no node after it.
+#[derive(Drop)]
 struct Subtree {
     end: usize,
     last: bool,
@@ -312,9 +300,9 @@ struct Subtree {
 
 // The subtree of a node.
 fn subtree_at(part: &[u8], f: usize, at: usize) -> Subtree
-    requires { ⌜ NodesFit node_limit (now part) f ⌝ }
-    ensures ends { λ r. ⌜ r .end ≡ end_of (map (arity_in formula_arities) (nodes_in (now (part .entry)) f)) at ⌝ }
-    ensures last { λ r. ⌜ r .last ≡ exactly 1 (drop at (map (arity_in formula_arities) (nodes_in (now (part .entry)) f))) ⌝ }
+    requires { NodesFit node_limit part.now f }
+    ensures ends { result.end ≡ end_of (map (arity_in formula_arities) (nodes_in part.now f)) at }
+    ensures last { result.last ≡ exactly 1 (drop at (map (arity_in formula_arities) (nodes_in part.now f))) }
 {
     let mut due = 1;
     let mut i = at;
@@ -337,8 +325,8 @@ fn subtree_at(part: &[u8], f: usize, at: usize) -> Subtree
 
 // Condition 8.
 fn bad_formula(actions: usize, part: &[u8], f: usize) -> bool
-    requires { ⌜ NodesFit node_limit (now part) f ⌝ }
-    ensures { λ r. ⌜ r ≡ bad_formula actions (nodes_in (now (part .entry)) f) ⌝ }
+    requires { NodesFit node_limit part.now f }
+    ensures { result ≡ bad_formula actions (nodes_in part.now f) }
 {
     if !all_fit(part, f, actions, true) {
         return true;
@@ -349,8 +337,8 @@ fn bad_formula(actions: usize, part: &[u8], f: usize) -> bool
 
 // The node after the subtree of a node.
 pub fn subtree_end(part: &[u8], f: usize, at: usize) -> usize
-    requires { ⌜ NodesFit node_limit (now part) f ⌝ }
-    ensures { λ r. ⌜ r ≡ end_of (map (arity_in formula_arities) (nodes_in (now (part .entry)) f)) at ⌝ }
+    requires { NodesFit node_limit part.now f }
+    ensures { result ≡ end_of (map (arity_in formula_arities) (nodes_in part.now f)) at }
 {
     let subtree = subtree_at(part, f, at);
     subtree.end
@@ -358,7 +346,7 @@ pub fn subtree_end(part: &[u8], f: usize, at: usize) -> usize
 
 // Whether a node is a mu or a nu.
 pub fn is_binder(x: Node) -> bool
-    ensures { λ r. ⌜ r ≡ is_binder x ⌝ }
+    ensures { result ≡ is_binder x }
 {
     if x.kind == 7 {
         return true;
@@ -368,8 +356,9 @@ pub fn is_binder(x: Node) -> bool
 
 // Whether node i stands in the subtree of its binder, if it is a variable.
 fn variable_bound(part: &[u8], f: usize, i: usize) -> bool
-    requires { ⌜ NodesFit node_limit (now part) f ⌝ ∗ ⌜ i < f ⌝ }
-    ensures { λ r. ⌜ r ≡ bound_ok (nodes_in (now (part .entry)) f) i ⌝ }
+    requires fact_1 { NodesFit node_limit part.now f }
+    requires fact_2 { i < f }
+    ensures { result ≡ bound_ok (nodes_in part.now f) i }
 {
     let x = node_at(part, i);
     if x.kind != 6 {
@@ -387,8 +376,8 @@ fn variable_bound(part: &[u8], f: usize, i: usize) -> bool
 
 // Whether every variable stands in the subtree of its binder.
 fn variables_bound(part: &[u8], f: usize) -> bool
-    requires { ⌜ NodesFit node_limit (now part) f ⌝ }
-    ensures { λ r. ⌜ r ≡ every (bound_ok (nodes_in (now (part .entry)) f)) (numbers_from 0 f) ⌝ }
+    requires { NodesFit node_limit part.now f }
+    ensures { result ≡ every (bound_ok (nodes_in part.now f)) (numbers_from 0 f) }
 {
     let mut i = 0;
     while i < f {
@@ -402,15 +391,15 @@ fn variables_bound(part: &[u8], f: usize) -> bool
 
 // Condition 9.
 fn bad_variable(part: &[u8], f: usize) -> bool
-    requires { ⌜ NodesFit node_limit (now part) f ⌝ }
-    ensures { λ r. ⌜ r ≡ bad_variable (nodes_in (now (part .entry)) f) ⌝ }
+    requires { NodesFit node_limit part.now f }
+    ensures { result ≡ bad_variable (nodes_in part.now f) }
 {
     !variables_bound(part, f)
 }
 
 // 1 for a mu or a nu, 0 for another node.
 fn one_if_binder(x: Node) -> usize
-    ensures { λ r. ⌜ (r ≡ cond (is_binder x) 1 0) × (r ≤ 1) ⌝ }
+    ensures { (result ≡ cond (is_binder x) 1 0) × (result ≤ 1) }
 {
     if is_binder(x) {
         return 1;
@@ -420,8 +409,8 @@ fn one_if_binder(x: Node) -> usize
 
 // How many binders there are.
 pub fn binders(part: &[u8], f: usize) -> usize
-    requires { ⌜ NodesFit node_limit (now part) f ⌝ }
-    ensures { λ r. ⌜ (r ≡ binder_count (nodes_in (now (part .entry)) f)) × (r ≤ f) ⌝ }
+    requires { NodesFit node_limit part.now f }
+    ensures { (result ≡ binder_count (nodes_in part.now f)) × (result ≤ f) }
 {
     let mut count = 0;
     let mut i = 0;
@@ -434,8 +423,9 @@ pub fn binders(part: &[u8], f: usize) -> usize
 
 // Condition 10.
 fn too_deep(part: &[u8], f: usize) -> bool
-    requires { ⌜ NodesFit node_limit (now part) f ⌝ ∗ ⌜ 1 ≤ f ⌝ }
-    ensures { λ r. ⌜ r ≡ too_deep (nodes_in (now (part .entry)) f) ⌝ }
+    requires fact_1 { NodesFit node_limit part.now f }
+    requires fact_2 { 1 ≤ f }
+    ensures { result ≡ too_deep (nodes_in part.now f) }
 {
     let count = binders(part, f);
     if is_binder(node_at(part, 0)) {
@@ -446,8 +436,9 @@ fn too_deep(part: &[u8], f: usize) -> bool
 
 // The formula part: the header, or the first of conditions 8 to 10 that holds.
 fn check_formula(part: &[u8], h: Header) -> Opened
-    requires { ⌜ NodesFit node_limit (now part) (h .nodes) ⌝ ∗ ⌜ 1 ≤ h .nodes ⌝ }
-    ensures { λ r. ⌜ Opens (first_of (formula_conditions (h .actions) (nodes_in (now (part .entry)) (h .nodes)))) h r ⌝ }
+    requires fact_1 { NodesFit node_limit part.now h.nodes }
+    requires fact_2 { 1 ≤ h.nodes }
+    ensures { Opens (first_of (formula_conditions h.actions (nodes_in part.now h.nodes))) h result }
 {
     if bad_formula(h.actions, part, h.nodes) {
         return Opened::Refused(Cause::Formula);
@@ -463,7 +454,7 @@ fn check_formula(part: &[u8], h: Header) -> Opened
 
 // Opens a case: its header, or the first condition that holds.
 pub fn open(case: &[u8]) -> Opened
-    ensures { λ r. ⌜ Opens (case_refusal (now (case .entry))) (header_of (now (case .entry))) r ⌝ }
+    ensures { Opens (case_refusal case.now) (header_of case.now) result }
 {
     let laid = check_layout(case);
     let Opened::Accepted(h) = laid else {
@@ -479,7 +470,7 @@ pub fn open(case: &[u8]) -> Opened
 
 // The number of a cause.
 pub fn number_of(cause: Cause) -> u8
-    ensures { λ r. ⌜ r ≡ case_number cause ⌝ }
+    ensures { result ≡ case_number cause }
 {
     match cause {
         Cause::Small => 1,

@@ -1,13 +1,9 @@
 // Reading a case. Each table is read as the part of the file that starts at its offset.
-use crate::Header;
-use crate::Label;
-use crate::Node;
-use crate::Transition;
-ghost use mathlib.Core.Path.{_≡_};
-ghost use Prim.Native.Nat.{_+_, _*_, _^_, _<_, _≤_};
-ghost use lib.ListN.{length, take};
-ghost use Rattle·cases·specs.specs.File.{u16, version as File·version, has_label_table, header_size, header_of, label_records, transitions_start, actions_start, formula_start, file_end, case_within, label_in, transition_in, node_in, label_limit, transition_limit, action_limit};
-ghost use Rattle·cases·specs.specs.internal.Checks.{common_header, longest_header, CountsFit};
+ghost use Rattle.std.specs.Prelude.{◌≡◌, ◌+◌, ◌*◌, ◌^◌, ◌<◌, ◌≤◌, length, take};
+ghost use Rattle.cases.specs.File.{u16, version as File·version, has_label_table, header_size, header_of, label_records, transitions_start, actions_start, formula_start, file_end, case_within, label_in, transition_in, node_in, label_limit, transition_limit, action_limit};
+ghost use Rattle.cases.specs.internal.Checks.{common_header, longest_header, CountsFit};
+
+use crate::{Header, Label, Node, Transition};
 
 // How many bytes the header has that all versions have, and how many the longest one has.
 pub const HEADER: usize = 20;
@@ -15,37 +11,37 @@ pub const HEADER: usize = 20;
 pub const LONGEST_HEADER: usize = 22;
 
 fn wide(x: u8) -> usize
-    ensures { λ r. ⌜ (r ≡ x) × (r < 256) ⌝ }
+    ensures { (result ≡ x) × (result < 256) }
 {
     x as usize
 }
 
 // The 16-bit number at a place, low byte first.
 pub fn number_at(part: &[u8], at: usize) -> usize
-    requires { ⌜ at + 2 ≤ length (now part) ⌝ }
-    ensures { λ r. ⌜ (r ≡ u16 (now (part .entry)) at) × (r < 2 ^ 16) ⌝ }
+    requires { at + 2 ≤ length part.now }
+    ensures { (result ≡ u16 part.now at) × (result < 2 ^ 16) }
 {
     wide(part[at]) + 256 * wide(part[at + 1])
 }
 
 // The version.
 pub fn version(case: &[u8]) -> usize
-    requires { ⌜ 2 ≤ length (now case) ⌝ }
-    ensures { λ r. ⌜ r ≡ File·version (now (case .entry)) ⌝ }
+    requires { 2 ≤ length case.now }
+    ensures { result ≡ File·version case.now }
 {
     number_at(case, 0)
 }
 
 // Whether a version has label records. But for condition 2, what depends on the version depends on this.
 pub fn has_label_table(version: usize) -> bool
-    ensures { λ r. ⌜ r ≡ has_label_table version ⌝ }
+    ensures { result ≡ has_label_table version }
 {
     version == 2
 }
 
 // How many bytes the header of a version has.
 pub fn header_size(version: usize) -> usize
-    ensures { λ r. ⌜ (r ≡ header_size version) × (common_header ≤ r) × (r ≤ longest_header) ⌝ }
+    ensures { (result ≡ header_size version) × (common_header ≤ result) × (result ≤ longest_header) }
 {
     if has_label_table(version) {
         return LONGEST_HEADER;
@@ -55,8 +51,8 @@ pub fn header_size(version: usize) -> usize
 
 // The offset of the label records; the header's end in a version that has none.
 fn labels_offset(case: &[u8], version: usize) -> usize
-    requires { ⌜ (version ≡ File·version (now case)) × (header_size version ≤ length (now case)) ⌝ }
-    ensures { λ r. ⌜ r ≡ header_of (now (case .entry)) .«labels_at» ⌝ }
+    requires { (version ≡ File·version case.now) × (header_size version ≤ length case.now) }
+    ensures { result ≡ (header_of case.now).labels_at }
 {
     if has_label_table(version) {
         return number_at(case, HEADER);
@@ -66,8 +62,8 @@ fn labels_offset(case: &[u8], version: usize) -> usize
 
 // The numbers of the header.
 pub fn header(case: &[u8], version: usize) -> Header
-    requires { ⌜ (version ≡ File·version (now case)) × (common_header ≤ length (now case)) × (header_size version ≤ length (now case)) ⌝ }
-    ensures { λ r. ⌜ r ≡ header_of (now (case .entry)) ⌝ }
+    requires { (version ≡ File·version case.now) × (common_header ≤ length case.now) × (header_size version ≤ length case.now) }
+    ensures { result ≡ header_of case.now }
 {
     Header {
         version: version,
@@ -86,7 +82,7 @@ pub fn header(case: &[u8], version: usize) -> Header
 
 // How many label records there are.
 pub fn label_records(h: Header) -> usize
-    ensures { λ r. ⌜ (r ≡ label_records h) × (r ≤ h .labels) ⌝ }
+    ensures { (result ≡ label_records h) × (result ≤ h.labels) }
 {
     if has_label_table(h.version) {
         return h.labels;
@@ -96,8 +92,8 @@ pub fn label_records(h: Header) -> usize
 
 // How many bytes a case has by its header, whatever its counts.
 fn told_length(case: &[u8], version: usize) -> usize
-    requires { ⌜ (version ≡ File·version (now case)) × (common_header ≤ length (now case)) ⌝ }
-    ensures { λ r. ⌜ r ≡ file_end (header_of (now (case .entry))) ⌝ }
+    requires { (version ≡ File·version case.now) × (common_header ≤ length case.now) }
+    ensures { result ≡ file_end (header_of case.now) }
 {
     let tables = 6 * number_at(case, 4) + 4 * number_at(case, 10) + 4 * number_at(case, 12);
     if has_label_table(version) {
@@ -108,7 +104,7 @@ fn told_length(case: &[u8], version: usize) -> usize
 
 // Where the case ends that bytes start with: as many of them as its header says, or all there are.
 pub fn case_end(bytes: &[u8]) -> usize
-    ensures { λ r. ⌜ (r ≤ length (now (bytes .entry))) × (take r (now (bytes .entry)) ≡ case_within (now (bytes .entry))) ⌝ }
+    ensures { (result ≤ length bytes.now) × (take result bytes.now ≡ case_within bytes.now) }
 {
     let all = bytes.len();
     if all < HEADER {
@@ -123,40 +119,40 @@ pub fn case_end(bytes: &[u8]) -> usize
 
 // Where the transitions have to stand, by the version and the counts.
 pub fn transitions_start(h: Header) -> usize
-    requires { ⌜ CountsFit h ⌝ }
-    ensures { λ r. ⌜ (r ≡ transitions_start h) × (r ≤ longest_header + 8 * label_limit) ⌝ }
+    requires { CountsFit h }
+    ensures { (result ≡ transitions_start h) × (result ≤ longest_header + 8 * label_limit) }
 {
     header_size(h.version) + 8 * label_records(h)
 }
 
 // Where the action nodes have to stand.
 pub fn actions_start(h: Header) -> usize
-    requires { ⌜ CountsFit h ⌝ }
-    ensures { λ r. ⌜ (r ≡ actions_start h) × (r ≤ longest_header + 8 * label_limit + 6 * transition_limit) ⌝ }
+    requires { CountsFit h }
+    ensures { (result ≡ actions_start h) × (result ≤ longest_header + 8 * label_limit + 6 * transition_limit) }
 {
     transitions_start(h) + 6 * h.transitions
 }
 
 // Where the formula nodes have to stand.
 pub fn formula_start(h: Header) -> usize
-    requires { ⌜ CountsFit h ⌝ }
-    ensures { λ r. ⌜ (r ≡ formula_start h) × (r ≤ longest_header + 8 * label_limit + 6 * transition_limit + 4 * action_limit) ⌝ }
+    requires { CountsFit h }
+    ensures { (result ≡ formula_start h) × (result ≤ longest_header + 8 * label_limit + 6 * transition_limit + 4 * action_limit) }
 {
     actions_start(h) + 4 * h.actions
 }
 
 // Where the file has to end.
 pub fn file_end(h: Header) -> usize
-    requires { ⌜ CountsFit h ⌝ }
-    ensures { λ r. ⌜ r ≡ file_end h ⌝ }
+    requires { CountsFit h }
+    ensures { result ≡ file_end h }
 {
     formula_start(h) + 4 * h.nodes
 }
 
 // Record j of the label part.
 pub fn label_at(part: &[u8], j: usize) -> Label
-    requires { ⌜ 8 * j + 8 ≤ length (now part) ⌝ }
-    ensures { λ r. ⌜ r ≡ label_in (now (part .entry)) j ⌝ }
+    requires { 8 * j + 8 ≤ length part.now }
+    ensures { result ≡ label_in part.now j }
 {
     let at = 8 * j;
     Label {
@@ -169,8 +165,8 @@ pub fn label_at(part: &[u8], j: usize) -> Label
 
 // Transition i of the transition part.
 pub fn transition_at(part: &[u8], i: usize) -> Transition
-    requires { ⌜ 6 * i + 6 ≤ length (now part) ⌝ }
-    ensures { λ r. ⌜ r ≡ transition_in (now (part .entry)) i ⌝ }
+    requires { 6 * i + 6 ≤ length part.now }
+    ensures { result ≡ transition_in part.now i }
 {
     let at = 6 * i;
     Transition {
@@ -182,8 +178,8 @@ pub fn transition_at(part: &[u8], i: usize) -> Transition
 
 // Node i of the action or the formula part.
 pub fn node_at(part: &[u8], i: usize) -> Node
-    requires { ⌜ 4 * i + 4 ≤ length (now part) ⌝ }
-    ensures { λ r. ⌜ r ≡ node_in (now (part .entry)) i ⌝ }
+    requires { 4 * i + 4 ≤ length part.now }
+    ensures { result ≡ node_in part.now i }
 {
     let at = 4 * i;
     Node {

@@ -1,26 +1,19 @@
 // The label part: condition 15, and the labels that are alike to a label, as a mask with a bit for each label.
-use crate::Header;
-use crate::Label;
-use crate::NAMES;
-use crate::file::has_label_table;
-use crate::file::label_at;
-use crate::file::label_records;
-ghost use mathlib.Core.Path.{_≡_};
-ghost use mathlib.Core.Bool.{cond};
-ghost use mathlib.Core.List.{map};
-ghost use Prim.Native.Nat.{_*_, _<_, _≤_};
-ghost use lib.ListN.{length};
-ghost use Rattle·sets.specs.Lists.{numbers_from, every};
-ghost use Rattle·sets.specs.Words.{from_bits};
-ghost use Rattle·cases·specs.specs.File.{label_records, label_limit};
-ghost use Rattle·cases·specs.specs.Labels.{record_numbers, names_of, occurrences as List·occurrences, same_names, alike_labels};
-ghost use Rattle·cases·specs.specs.Conditions.{label_ok, bad_labels};
-ghost use Rattle·cases·specs.specs.internal.Checks.{labels_in, LabelPart, Laid};
-ghost use Rattle·cases·specs.specs.internal.Names.{follows, equally_many, same_as};
+ghost use Rattle.std.specs.Prelude.{◌≡◌, cond, map, ◌*◌, ◌<◌, ◌≤◌, length};
+ghost use Rattle.sets.specs.Lists.{numbers_from, every};
+ghost use Rattle.sets.specs.Words.{from_bits};
+ghost use Rattle.cases.specs.File.{label_records, label_limit};
+ghost use Rattle.cases.specs.Labels.{record_numbers, names_of, occurrences as List·occurrences, same_names, alike_labels};
+ghost use Rattle.cases.specs.Conditions.{label_ok, bad_labels};
+ghost use Rattle.cases.specs.internal.Checks.{labels_in, LabelPart, Laid};
+ghost use Rattle.cases.specs.internal.Names.{follows, equally_many, same_as};
+
+use crate::file::{has_label_table, label_at, label_records};
+use crate::{Header, Label, NAMES};
 
 // Whether a number may stand behind another in a label record: it is no name above the limit, and behind a 0 it is a 0.
 fn may_follow(before: usize, k: usize) -> bool
-    ensures { λ r. ⌜ r ≡ follows before k ⌝ }
+    ensures { result ≡ follows before k }
 {
     if NAMES < k {
         return false;
@@ -30,7 +23,7 @@ fn may_follow(before: usize, k: usize) -> bool
 
 // Whether the names of a label are right.
 fn label_holds(x: Label) -> bool
-    ensures { λ r. ⌜ r ≡ label_ok x ⌝ }
+    ensures { result ≡ label_ok x }
 {
     if NAMES < x.first {
         return false;
@@ -46,8 +39,8 @@ fn label_holds(x: Label) -> bool
 
 // Whether that holds of each of the k labels of a part.
 fn labels_hold(part: &[u8], k: usize) -> bool
-    requires { ⌜ 8 * k ≤ length (now part) ⌝ }
-    ensures { λ r. ⌜ r ≡ every label_ok (labels_in (now (part .entry)) k) ⌝ }
+    requires { 8 * k ≤ length part.now }
+    ensures { result ≡ every label_ok (labels_in part.now k) }
 {
     let mut j = 0;
     while j < k {
@@ -61,8 +54,8 @@ fn labels_hold(part: &[u8], k: usize) -> bool
 
 // Condition 15.
 pub fn bad_labels(case: &[u8], h: Header) -> bool
-    requires { ⌜ Laid (now case) h ⌝ }
-    ensures { λ r. ⌜ r ≡ bad_labels (now (case .entry)) ⌝ }
+    requires { Laid case.now h }
+    ensures { result ≡ bad_labels case.now }
 {
     let labels = h.labels_at;
     !labels_hold(&case[labels..], label_records(h))
@@ -70,7 +63,7 @@ pub fn bad_labels(case: &[u8], h: Header) -> bool
 
 // 1 for true, 0 for false.
 fn one_if(same: bool) -> usize
-    ensures { λ r. ⌜ (r ≡ cond same 1 0) × (r ≤ 1) ⌝ }
+    ensures { (result ≡ cond same 1 0) × (result ≤ 1) }
 {
     if same {
         return 1;
@@ -80,14 +73,14 @@ fn one_if(same: bool) -> usize
 
 // How many of the four numbers of a label are k.
 fn occurrences(x: Label, k: usize) -> usize
-    ensures { λ r. ⌜ r ≡ List·occurrences k (record_numbers x) ⌝ }
+    ensures { result ≡ List·occurrences k (record_numbers x) }
 {
     one_if(x.first == k) + one_if(x.second == k) + one_if(x.third == k) + one_if(x.fourth == k)
 }
 
 // Whether k is a name of x as many times as of y, if it is one.
 fn equally_many(x: Label, y: Label, k: usize) -> bool
-    ensures { λ r. ⌜ r ≡ equally_many (record_numbers x) (record_numbers y) k ⌝ }
+    ensures { result ≡ equally_many (record_numbers x) (record_numbers y) k }
 {
     if k == 0 {
         return true;
@@ -97,7 +90,7 @@ fn equally_many(x: Label, y: Label, k: usize) -> bool
 
 // Whether that holds of each name of z.
 fn each_equally_many(x: Label, y: Label, z: Label) -> bool
-    ensures { λ r. ⌜ r ≡ every (equally_many (record_numbers x) (record_numbers y)) (record_numbers z) ⌝ }
+    ensures { result ≡ every (equally_many (record_numbers x) (record_numbers y)) (record_numbers z) }
 {
     if !equally_many(x, y, z.first) {
         return false;
@@ -113,7 +106,7 @@ fn each_equally_many(x: Label, y: Label, z: Label) -> bool
 
 // Whether the names of two labels are the same multiset. Most that are not differ in the first name.
 fn same_names(x: Label, y: Label) -> bool
-    ensures { λ r. ⌜ r ≡ same_names (names_of x) (names_of y) ⌝ }
+    ensures { result ≡ same_names (names_of x) (names_of y) }
 {
     if !equally_many(x, y, x.first) {
         return false;
@@ -124,8 +117,8 @@ fn same_names(x: Label, y: Label) -> bool
 // The labels with the same names as label j, of l labels that have records: bit x says whether label x is one. They are read from the last one
 // down, and each makes the mask one bit longer.
 fn same_labels(part: &[u8], l: usize, j: usize) -> u64
-    requires { ⌜ (8 * l ≤ length (now part)) × (l ≤ label_limit) × (j < l) ⌝ }
-    ensures { λ r. ⌜ r ≡ from_bits (map (same_as (now (part .entry)) l j) (numbers_from 0 l)) ⌝ }
+    requires { (8 * l ≤ length part.now) × (l ≤ label_limit) × (j < l) }
+    ensures { result ≡ from_bits (map (same_as part.now l j) (numbers_from 0 l)) }
 {
     let own = label_at(part, j);
     let mut mask = 0u64;
@@ -139,8 +132,8 @@ fn same_labels(part: &[u8], l: usize, j: usize) -> u64
 
 // The labels that are alike to label j.
 pub fn alike_labels(part: &[u8], h: Header, j: usize) -> u64
-    requires { ⌜ LabelPart (now part) h × (j < h .labels) ⌝ }
-    ensures { λ r. ⌜ r ≡ from_bits (alike_labels h (labels_in (now (part .entry)) (label_records h)) j) ⌝ }
+    requires { LabelPart part.now h × (j < h.labels) }
+    ensures { result ≡ from_bits (alike_labels h (labels_in part.now (label_records h)) j) }
 {
     if has_label_table(h.version) {
         return same_labels(part, h.labels, j);

@@ -6,19 +6,11 @@ mod labels;
 mod transitions;
 
 pub use actions::action_masks;
-pub use conditions::binders;
-pub use conditions::check_layout;
-pub use conditions::is_binder;
-pub use conditions::number_of;
-pub use conditions::open;
-pub use conditions::subtree_end;
-pub use conditions::transition_holds;
-pub use file::case_end;
-pub use file::node_at;
-pub use file::number_at;
-pub use file::transition_at;
-pub use transitions::first_appearances;
-pub use transitions::same_transition;
+pub use conditions::{
+    binders, check_layout, is_binder, number_of, open, subtree_end, transition_holds,
+};
+pub use file::{case_end, node_at, number_at, transition_at};
+pub use transitions::{first_appearances, same_transition};
 
 pub const LABELS: usize = 64;
 
@@ -39,6 +31,7 @@ pub const LARGEST: usize = file::LONGEST_HEADER
     + 4 * NODES;
 
 // The version of a case, its counts, its initial state, and the offsets of its tables.
+#[derive(Drop)]
 pub struct Header {
     pub version: usize,
     pub states: usize,
@@ -54,6 +47,7 @@ pub struct Header {
 }
 
 // A label: four names, or fewer and a 0 in place of each that is missing.
+#[derive(Drop)]
 pub struct Label {
     pub first: usize,
     pub second: usize,
@@ -62,6 +56,7 @@ pub struct Label {
 }
 
 // A transition: source, label, target.
+#[derive(Drop)]
 pub struct Transition {
     pub source: usize,
     pub label: usize,
@@ -69,18 +64,21 @@ pub struct Transition {
 }
 
 // How many records a transition table has, and how many of them are distinct.
+#[derive(Drop)]
 pub struct Tally {
     pub records: usize,
     pub distinct: usize,
 }
 
 // A node of the action or formula table: kind, argument.
+#[derive(Drop)]
 pub struct Node {
     pub kind: usize,
     pub arg: usize,
 }
 
 // Why a case is refused.
+#[derive(Drop)]
 pub enum Cause {
     Small,
     Version,
@@ -96,6 +94,7 @@ pub enum Cause {
 }
 
 // What opening a case finds.
+#[derive(Drop)]
 pub enum Opened {
     Accepted(Header),
     Refused(Cause),

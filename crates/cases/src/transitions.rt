@@ -1,23 +1,17 @@
 // The transition part: its records by source, and which of them are the first of their kind.
-use crate::Header;
-use crate::TRANSITIONS;
-use crate::Tally;
-use crate::Transition;
+ghost use Rattle.std.specs.Prelude.{◌≡◌, map, ◌+◌, ◌*◌, ◌≤◌, eqb, length};
+ghost use Rattle.sets.specs.Lists.{numbers_from};
+ghost use Rattle.sets.specs.Words.{bit};
+ghost use Rattle.cases.specs.File.{header_of, transition_in, transition_limit};
+ghost use Rattle.cases.specs.Case.{same_transition, copies_before, distinct};
+ghost use Rattle.cases.specs.Conditions.{Accepted};
+ghost use Rattle.cases.specs.Tally.{tally_of};
+ghost use Rattle.cases.specs.internal.Checks.{transition_part, transitions_in};
+ghost use Rattle.cases.specs.internal.Links.{Sourced, Linked, LinkedAt, FirstFlags};
+
 use crate::file::transition_at;
+use crate::{Header, TRANSITIONS, Tally, Transition};
 use sets::STATES;
-ghost use mathlib.Core.Path.{_≡_};
-ghost use mathlib.Core.List.{map};
-ghost use Prim.Native.Nat.{_+_, _*_, _≤_};
-ghost use lib.Dec.{eqb};
-ghost use lib.ListN.{length};
-ghost use Rattle·sets.specs.Lists.{numbers_from};
-ghost use Rattle·sets.specs.Words.{bit};
-ghost use Rattle·cases·specs.specs.File.{header_of, transition_in, transition_limit};
-ghost use Rattle·cases·specs.specs.Case.{same_transition, copies_before, distinct};
-ghost use Rattle·cases·specs.specs.Conditions.{Accepted};
-ghost use Rattle·cases·specs.specs.Tally.{tally_of};
-ghost use Rattle·cases·specs.specs.internal.Checks.{transition_part, transitions_in};
-ghost use Rattle·cases·specs.specs.internal.Links.{Sourced, Linked, LinkedAt, FirstFlags};
 
 // A place for each state, and one for each record.
 const LINKS: usize = STATES + TRANSITIONS;
@@ -25,8 +19,8 @@ const LINKS: usize = STATES + TRANSITIONS;
 // Links the m records of a part by their source, in rising order: place s has the first record from state s, and place STATES + j the
 // first record after j with the source of record j; TRANSITIONS where there is none.
 fn links_of(part: &[u8], m: usize) -> [u16; LINKS]
-    requires { ⌜ Sourced (now part) m ⌝ }
-    ensures { λ r. ⌜ Linked (now (part .entry)) m r ⌝ }
+    requires { Sourced part.now m }
+    ensures { Linked part.now m result }
 {
     let mut links = [TRANSITIONS as u16; LINKS];
     let mut j = m;
@@ -42,7 +36,7 @@ fn links_of(part: &[u8], m: usize) -> [u16; LINKS]
 
 // Whether two transitions are equal.
 pub fn same_transition(x: Transition, y: Transition) -> bool
-    ensures { λ r. ⌜ r ≡ same_transition x y ⌝ }
+    ensures { result ≡ same_transition x y }
 {
     if x.source != y.source {
         return false;
@@ -55,16 +49,16 @@ pub fn same_transition(x: Transition, y: Transition) -> bool
 
 // Whether records j and i are equal.
 fn same_at(part: &[u8], j: usize, i: usize) -> bool
-    requires { ⌜ (6 * j + 6 ≤ length (now part)) × (6 * i + 6 ≤ length (now part)) ⌝ }
-    ensures { λ r. ⌜ r ≡ same_transition (transition_in (now (part .entry)) j) (transition_in (now (part .entry)) i) ⌝ }
+    requires { (6 * j + 6 ≤ length part.now) × (6 * i + 6 ≤ length part.now) }
+    ensures { result ≡ same_transition (transition_in part.now j) (transition_in part.now i) }
 {
     same_transition(transition_at(part, j), transition_at(part, i))
 }
 
 // How many records before record i of the transition part equal it. Only those with its source are looked at.
 fn copies_before(part: &[u8], links: &[u16], i: usize) -> usize
-    requires { ⌜ LinkedAt (now part) (now links) i ⌝ }
-    ensures { λ r. ⌜ r ≡ copies_before (map (transition_in (now (part .entry))) (numbers_from 0 (i + 1))) i ⌝ }
+    requires { LinkedAt part.now links.now i }
+    ensures { result ≡ copies_before (map (transition_in part.now) (numbers_from 0 (i + 1))) i }
 {
     let mut copies: usize = 0;
     let s = transition_at(part, i).source;
@@ -80,8 +74,8 @@ fn copies_before(part: &[u8], links: &[u16], i: usize) -> usize
 
 // 1 where record i is the first of its kind, and 0 where it is a copy.
 fn first_flag(part: &[u8], links: &[u16], i: usize) -> u8
-    requires { ⌜ LinkedAt (now part) (now links) i ⌝ }
-    ensures { λ r. ⌜ r ≡ bit (eqb (copies_before (map (transition_in (now (part .entry))) (numbers_from 0 (i + 1))) i) 0) ⌝ }
+    requires { LinkedAt part.now links.now i }
+    ensures { result ≡ bit (eqb (copies_before (map (transition_in part.now) (numbers_from 0 (i + 1))) i) 0) }
 {
     if copies_before(part, links, i) == 0 {
         return 1;
@@ -91,8 +85,8 @@ fn first_flag(part: &[u8], links: &[u16], i: usize) -> u8
 
 // Flags those of the m records of a part that are the first of their kind, and answers how many they are.
 fn flag_appearances(part: &[u8], m: usize, first: &mut [u8]) -> usize
-    requires { ⌜ Sourced (now part) m × (m ≤ length (now first)) ⌝ }
-    ensures { λ r. ⌜ FirstFlags (now (part .entry)) m (now (first .exit)) × (r ≡ length (distinct (transitions_in (now (part .entry)) m))) ⌝ }
+    requires { Sourced part.now m × (m ≤ length first.old) }
+    ensures { FirstFlags part.now m first.new × (result ≡ length (distinct (transitions_in part.now m))) }
 {
     let links = links_of(part, m);
     let mut distinct: usize = 0;
@@ -107,8 +101,8 @@ fn flag_appearances(part: &[u8], m: usize, first: &mut [u8]) -> usize
 // Flags the records of an accepted case that are the first of their kind, and tells how many records there are and how many of them are
 // distinct.
 pub fn first_appearances(case: &[u8], h: Header, first: &mut [u8]) -> Tally
-    requires { ⌜ Accepted (now case) × (h ≡ header_of (now case)) × (transition_limit ≤ length (now first)) ⌝ }
-    ensures { λ r. ⌜ FirstFlags (transition_part (now (case .entry))) (h .transitions) (now (first .exit)) × (r ≡ tally_of (now (case .entry))) ⌝ }
+    requires { Accepted case.now × (h ≡ header_of case.now) × (transition_limit ≤ length first.old) }
+    ensures { FirstFlags (transition_part case.now) h.transitions first.new × (result ≡ tally_of case.now) }
 {
     let records = h.transitions_at;
     let distinct = flag_appearances(&case[records..], h.transitions, first);

@@ -2,15 +2,12 @@
 // reads calls: 1 adds a transition and 2 drops one, three 16-bit numbers, source, label and target; 3 wants the marks, by a limit of 64 bits.
 // Prints a line for each: `open`, `add`, `drop` or `want`, the refusal number (0 if none), and of `want` the verdict, the count of marked
 // states, the rounds, the records and the distinct ones too. Ends after a refused open, at any other call, and where the stream does.
-use cases::LARGEST;
-use cases::Transition;
-use cases::number_at;
-use libc::STDIN_FILENO;
-use libc::STDOUT_FILENO;
+ghost use Rattle.std.specs.Prelude.{◌≤◌, length};
+
+use cases::{LARGEST, Transition, number_at};
+use libc::{STDIN_FILENO, STDOUT_FILENO};
 use models::change_number;
 use sets::WORDS;
-ghost use Prim.Native.Nat.{_≤_};
-ghost use lib.ListN.{length};
 
 // The line of a change: its name, and its refusal number.
 fn print_change(name: &[u8], refusal: u64) {
@@ -40,7 +37,7 @@ fn open_next(model: &mut [u8]) -> bool {
 
 // The transition of three 16-bit numbers.
 fn transition_of(bytes: &[u8]) -> Transition
-    requires { ⌜ 6 ≤ length (now bytes) ⌝ }
+    requires { 6 ≤ length bytes.now }
 {
     Transition {
         source: number_at(bytes, 0),
@@ -73,7 +70,7 @@ fn drop_next(model: &mut [u8]) -> bool {
 
 // The 64-bit number of eight bytes, low byte first.
 fn limit_of(bytes: &[u8]) -> u64
-    requires { ⌜ 8 ≤ length (now bytes) ⌝ }
+    requires { 8 ≤ length bytes.now }
 {
     let low = number_at(bytes, 0) + 65_536 * number_at(bytes, 2);
     let high = number_at(bytes, 4) + 65_536 * number_at(bytes, 6);

@@ -1,17 +1,15 @@
 // Both routes and solve, as the programs run them: their limit, their memory, and how the numbers are printed.
+ghost use Rattle.std.specs.Prelude.{◌≡◌};
+ghost use Rattle.sets.specs.Words.{word_count};
+ghost use Rattle.solver.specs.File.{cell_limit};
+ghost use Rattle.solver.specs.Outcome.{solve_outcome};
+ghost use Rattle.cases.specs.Tally.{tally_of};
+ghost use Rattle.routes.specs.Route.{route_answer, direct, equation, outcome_of, shown, program_limit, program_memory};
+
 use libc::STDOUT_FILENO;
-use routes::Numbers;
-use routes::Tallied;
-use routes::numbers_of;
-use routes::solving_answer;
+use routes::{Numbers, Tallied, numbers_of, solving_answer};
 use sets::WORDS;
 use solver::CELLS;
-ghost use mathlib.Core.Path.{_≡_};
-ghost use Rattle·sets.specs.Words.{word_count};
-ghost use Rattle·solver.specs.File.{cell_limit};
-ghost use Rattle·solver.specs.Outcome.{solve_outcome};
-ghost use Rattle·cases.specs.Tally.{tally_of};
-ghost use Rattle·routes.specs.Route.{route_answer, direct, equation, outcome_of, shown, program_limit, program_memory};
 
 const LIMIT: u64 = 1_000_000;
 
@@ -19,7 +17,7 @@ const FILE: usize = 65_536;
 
 // What the equation route answers, with fresh memory.
 pub fn by_equation(case: &[u8]) -> Tallied
-    ensures { λ r. ⌜ (route_answer (r .answer) ≡ outcome_of equation (now (case .entry)) program_memory program_limit) × (r .tally ≡ tally_of (now (case .entry))) ⌝ }
+    ensures { (route_answer result.answer ≡ outcome_of equation case.now program_memory program_limit) × (result.tally ≡ tally_of case.now) }
 {
     let mut file = [0u8; FILE];
     let mut work = [0u8; CELLS];
@@ -29,7 +27,7 @@ pub fn by_equation(case: &[u8]) -> Tallied
 
 // What direct answers, with fresh memory.
 pub fn by_direct(case: &[u8]) -> Tallied
-    ensures { λ r. ⌜ (route_answer (r .answer) ≡ outcome_of direct (now (case .entry)) program_memory program_limit) × (r .tally ≡ tally_of (now (case .entry))) ⌝ }
+    ensures { (route_answer result.answer ≡ outcome_of direct case.now program_memory program_limit) × (result.tally ≡ tally_of case.now) }
 {
     let mut marks = [0u64; WORDS];
     routes::direct(case, &mut marks, LIMIT)
@@ -37,7 +35,7 @@ pub fn by_direct(case: &[u8]) -> Tallied
 
 // The numbers of solving an equation file, with fresh memory.
 pub fn by_file(file: &[u8]) -> Numbers
-    ensures { λ r. ⌜ shown r ≡ solve_outcome (now (file .entry)) cell_limit word_count program_limit ⌝ }
+    ensures { shown result ≡ solve_outcome file.now cell_limit word_count program_limit }
 {
     let mut work = [0u8; CELLS];
     let mut marks = [0u64; WORDS];

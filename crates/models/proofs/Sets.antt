@@ -1,25 +1,25 @@
 -- The set with a transition and without one: its members, each of which stands once.
-use mathlib.Core.Path.{_≡_, refl, sym, ap, _∙_}
-use mathlib.Core.Logic.{_↔_, _⊎_, inl, inr, ⊎-elim, by-cases}
-use mathlib.Core.Bool.{Bool, true, false, cond, _||_, true≢false}
-use mathlib.Core.List.{List, [], _∷_, _++_, List·Mem}
-use Prim.Native.Nat.{ℕ, _+_, _-_, _≤_, _<_}
+use mathlib.Core.Path.{◌≡◌, refl, sym, ap, ◌∙◌}
+use mathlib.Core.Logic.{◌↔◌, ◌⊎◌, inl, inr, ⊎_elim, by_cases}
+use mathlib.Core.Bool.{Bool, true, false, cond, ◌||◌, true≢false}
+use mathlib.Core.List.{List, [], ◌∷◌, ◌++◌, Mem}
+use Prim.Native.Nat.{ℕ, ◌+◌, ◌-◌, ◌≤◌, ◌<◌}
 use native.Mathlib.Nat.{add-zero}
-use native.Mathlib.Decide.{decLt}
+use native.Mathlib.Decide.{dec_lt}
 use native.Mathlib.Omega.{arith}
 use lib.Dec.{T, eqb}
 use lib.ListN.{length, set, length-set}
 use lib.Seq.{length-take-le}
-use Rattle·sets.specs.Lists.{every, for_some}
-use Rattle·sets.proofs.Lists.{and_both, all_of_both}
-use Rattle·cases.specs.declared.Transition.{Transition}
-use Rattle·cases.specs.Case.{same_transition, copies, transition_at, distinct}
-use Rattle·cases.proofs.TableTrees.{holds as is_true}
-use Rattle·cases.proofs.MeaningLaws.{same_equal, same_self, all_within}
-use Rattle·cases.proofs.Distinct.{copies_append, copies_mem, mem_copies, mem_within, distinct_once, distinct_within}
-use Rattle·records.specs.Places.{place_of, without_at}
-use Rattle·records.proofs.Places.{stands_not, place_is, copies_without}
-use Rattle·models·specs.specs.Model.{holds, adding, dropping}
+use Rattle.sets.specs.Lists.{every, for_some}
+use Rattle.sets.proofs.Lists.{and_both, all_of_both}
+use Rattle.cases.specs.declared.Transition.{Transition}
+use Rattle.cases.specs.Case.{same_transition, copies, transition_at, distinct}
+use Rattle.cases.proofs.TableTrees.{holds as is_true}
+use Rattle.cases.proofs.MeaningLaws.{same_equal, same_self, all_within}
+use Rattle.cases.proofs.Distinct.{copies_append, copies_mem, mem_copies, mem_within, distinct_once, distinct_within}
+use Rattle.records.specs.Places.{place_of, without_at}
+use Rattle.records.proofs.Places.{stands_not, place_is, copies_without}
+use Rattle.models.specs.Model.{holds, adding, dropping}
 
 -- no transition stands twice
 abbrev pub Once : List Transition → Type 0
@@ -49,16 +49,16 @@ module _ (t : Transition) where
 
   -- its place is among the records
   pub held_place : (ts : List Transition) → holds ts t ≡ true → place_of t ts < length ts
-  held_place ts e = by-cases (decLt (place_of t ts) (length ts)) (λ h. h) (λ d. absurd (true≢false (sym e ∙ stands_not t ts (omega arith))))
+  held_place ts e = by_cases (dec_lt (place_of t ts) (length ts)) (λ h. h) (λ d. absurd (true≢false (sym e ∙ stands_not t ts (omega arith))))
 
 -- Held is being a member.
-pub held_member : (ts : List Transition) (t : Transition) → T (holds ts t) ↔ List·Mem t ts
+pub held_member : (ts : List Transition) (t : Transition) → T (holds ts t) ↔ Mem t ts
 held_member ts t = (
   (λ h. copies_mem t ts (held_copies t ts (is_true (holds ts t) h))),
   λ m. go (holds ts t) refl m,
 )
   where
-    go : (b : Bool) → holds ts t ≡ b → List·Mem t ts → T b
+    go : (b : Bool) → holds ts t ≡ b → Mem t ts → T b
     go true e m = tt
     go false e m = absurd (mem_copies t ts m (new_copies t ts e))
 
@@ -106,17 +106,17 @@ module _ (ts : List Transition) (t : Transition) where
       go false e = rw (adding_new e) (behind_copies x)
 
   -- Its members are the transition and those that were held.
-  pub adding_member : (x : Transition) → List·Mem x (adding ts t) ↔ ((x ≡ t) ⊎ List·Mem x ts)
+  pub adding_member : (x : Transition) → Mem x (adding ts t) ↔ ((x ≡ t) ⊎ Mem x ts)
   adding_member x = (
     (λ m. there (same_transition t x) refl m),
-    λ c. ⊎-elim (λ e. copies_mem x (adding ts t) (rw e itself)) (λ m. copies_mem x (adding ts t) (λ z. mem_copies x ts m (omega (arith, adding_copies x)))) c,
+    λ c. ⊎_elim (λ e. copies_mem x (adding ts t) (rw e itself)) (λ m. copies_mem x (adding ts t) (λ z. mem_copies x ts m (omega (arith, adding_copies x)))) c,
   )
     where
-      there : (same : Bool) → same_transition t x ≡ same → List·Mem x (adding ts t) → (x ≡ t) ⊎ List·Mem x ts
+      there : (same : Bool) → same_transition t x ≡ same → Mem x (adding ts t) → (x ≡ t) ⊎ Mem x ts
       there true e m = inl (sym (same_equal t x (rw e tt)))
       there false e m = inr (copies_mem x ts (λ z. mem_copies x (adding ts t) m (adding_copies x ∙ rw (e, z) (none (holds ts t)))))
         where
-          none : (b : Bool) → _≡_ {A = ℕ} (0 + cond b 0 0) 0
+          none : (b : Bool) → ◌≡◌ {A = ℕ} (0 + cond b 0 0) 0
           none true = refl
           none false = refl
 
@@ -125,7 +125,7 @@ module _ (ts : List Transition) (t : Transition) where
         where
           go : (b : Bool) → holds ts t ≡ b → ⊥
           go true e = held_copies t ts e (omega (arith, adding_copies t))
-          go false e = let one : _≡_ {A = ℕ} (cond (holds ts t) 0 (cond (same_transition t t) 1 0)) 1 = rw (e, is_true (same_transition t t) (same_self t)) in omega (arith, adding_copies t)
+          go false e = let one : ◌≡◌ {A = ℕ} (cond (holds ts t) 0 (cond (same_transition t t) 1 0)) 1 = rw (e, is_true (same_transition t t) (same_self t)) in omega (arith, adding_copies t)
 
 -- ---- dropping
 
@@ -147,18 +147,18 @@ module _ (ts : List Transition) (t : Transition) (e : holds ts t ≡ true) where
       omega (arith, length-take-le (length ts - 1) us (omega arith))
 
   -- a member was held
-  dropping_there : (x : Transition) → List·Mem x (dropping ts t) → List·Mem x ts
+  dropping_there : (x : Transition) → Mem x (dropping ts t) → Mem x ts
   dropping_there x m = copies_mem x ts (λ z. mem_copies x (dropping ts t) m (omega (arith, dropping_copies x)))
 
   -- Its members are those that were held, but for the transition.
-  pub dropping_member : Once ts → (x : Transition) → List·Mem x (dropping ts t) ↔ (¬ (x ≡ t) × List·Mem x ts)
+  pub dropping_member : Once ts → (x : Transition) → Mem x (dropping ts t) ↔ (¬ (x ≡ t) × Mem x ts)
   dropping_member once x = (
     (λ m. ((λ q. mem_copies x (dropping ts t) m (rw q gone)), dropping_there x m)),
-    λ c. copies_mem x (dropping ts t) (λ z. mem_copies x ts (c .1) (stays (same_transition t x) refl (c .0) z)),
+    λ c. copies_mem x (dropping ts t) (λ z. mem_copies x ts c.1 (stays (same_transition t x) refl c.0 z)),
   )
     where
       gone : copies t (dropping ts t) ≡ 0
-      gone = let same : _≡_ {A = ℕ} (cond (same_transition t t) 1 0) 1 = rw (is_true (same_transition t t) (same_self t)) in omega (arith, dropping_copies t, once t)
+      gone = let same : ◌≡◌ {A = ℕ} (cond (same_transition t t) 1 0) 1 = rw (is_true (same_transition t t) (same_self t)) in omega (arith, dropping_copies t, once t)
 
       stays : (b : Bool) → same_transition t x ≡ b → ¬ (x ≡ t) → copies x (dropping ts t) ≡ 0 → copies x ts ≡ 0
       stays true s d z = absurd (d (sym (same_equal t x (rw s tt))))

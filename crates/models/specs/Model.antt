@@ -1,23 +1,18 @@
 -- A model that is edited: lent bytes that start with a case. What opening one, adding a transition and dropping one answer and leave in it.
-use mathlib.Core.Path.{_≡_}
-use mathlib.Core.Bool.{Bool, cond, not, _&&_}
-use mathlib.Core.List.{List, [], _∷_, _++_}
-use Prim.Native.Nat.{ℕ, _+_, _-_, _*_}
-use lib.Dec.{ltb, leb}
-use lib.ListN.{length}
-use Rattle·sets.specs.Lists.{for_some}
-use Rattle·sets.specs.Refusals.{Conditions, first_of, by_refusal}
-use Rattle·cases.specs.declared.Transition.{Transition}
-use Rattle·cases.specs.File.{header_of, transition_table, case_within, transition_limit}
-use Rattle·cases.specs.Case.{same_transition, distinct}
-use Rattle·cases.specs.Conditions.{transition_ok, layout_conditions, case_conditions}
-use Rattle·cases.specs.Opening.{case_number}
-use Rattle·records.specs.Replaced.{with_transitions, written_to}
-use Rattle·records.specs.Places.{place_of, without_at}
-use Rattle·models·specs.specs.declared.Cause.{Cause}
-use Rattle·models·specs.specs.declared.Cause.the-variants.{Case, Range, Full, Absent, Memory}
-use Rattle·models·specs.specs.declared.Change.{Change}
-use Rattle·models·specs.specs.declared.Change.the-variants.{Made, Refused}
+use Rattle.std.specs.Prelude.{◌≡◌, Bool, cond, not, ◌&&◌, List, [], ◌∷◌, ◌++◌, ℕ, ◌+◌, ◌-◌, ◌*◌, ltb, leb, length}
+use Rattle.sets.specs.Lists.{for_some}
+use Rattle.sets.specs.Refusals.{Conditions, first_of, by_refusal}
+use Rattle.cases.specs.declared.Transition.{Transition}
+use Rattle.cases.specs.File.{header_of, transition_table, case_within, transition_limit}
+use Rattle.cases.specs.Case.{same_transition, distinct}
+use Rattle.cases.specs.Conditions.{transition_ok, layout_conditions, case_conditions}
+use Rattle.cases.specs.Opening.{case_number}
+use Rattle.records.specs.Replaced.{with_transitions, written_to}
+use Rattle.records.specs.Places.{place_of, without_at}
+use Rattle.models.specs.declared.Cause.{Cause}
+use Rattle.models.specs.declared.Cause.TheVariants.{Case, Range, Full, Absent, Memory}
+use Rattle.models.specs.declared.Change.{Change}
+use Rattle.models.specs.declared.Change.TheVariants.{Made, Refused}
 
 -- the paper's number of each cause
 abbrev pub cause_number : Cause → ℕ
@@ -73,7 +68,7 @@ pub record Edited (cs : Conditions) (made before : List ℕ) (k : ℕ) (after : 
 
 -- How many bytes a model of a case needs: as many as the case would have with all transitions that a case may have.
 unfoldable pub model_room : List ℕ → ℕ
-model_room b = length b + 6 * (transition_limit - header_of b .transitions)
+model_room b = length b + 6 * (transition_limit - (header_of b).transitions)
 
 -- Opening: the case's own conditions, then 13. The model then starts with the case, each of its transitions once.
 unfoldable pub open_conditions : List ℕ → List ℕ → Conditions
@@ -93,14 +88,14 @@ module _ (model : List ℕ) (t : Transition) where
   -- Adding: 13, last, if the transition is new and there is no room for its record. A transition that is held leaves the model unchanged.
   unfoldable pub add_conditions : Conditions
   add_conditions =
-      layout_conditions b ++ (add_checks (header_of b .states) (header_of b .labels) held t ++ ((13, not (holds held t) && ltb (length model) (length b + 6)) ∷ []))
+      layout_conditions b ++ (add_checks (header_of b).states (header_of b).labels held t ++ ((13, not (holds held t) && ltb (length model) (length b + 6)) ∷ []))
 
   unfoldable pub added_model : List ℕ
   added_model = cond (holds held t) model (written_to model (with_transitions b (held ++ (t ∷ []))))
 
   -- Dropping needs no further room.
   unfoldable pub drop_conditions : Conditions
-  drop_conditions = layout_conditions b ++ drop_checks (header_of b .states) (header_of b .labels) held t
+  drop_conditions = layout_conditions b ++ drop_checks (header_of b).states (header_of b).labels held t
 
   unfoldable pub dropped_model : List ℕ
   dropped_model = written_to model (with_transitions b (dropping held t))

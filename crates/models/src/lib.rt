@@ -1,27 +1,20 @@
 // Models that are edited: lent bytes that start with a case. A model is opened, transitions are added and dropped, and marks are wanted.
-use cases::Header;
-use cases::Opened;
-use cases::TRANSITIONS;
-use cases::Transition;
-use cases::case_end;
-use cases::check_layout;
-use cases::first_appearances;
-use cases::transition_holds;
-use records::find;
-use records::insert;
-use records::remove;
-use records::write_distinct;
+ghost use Rattle.std.specs.Prelude.{◌≡◌, ◌++◌, length};
+ghost use Rattle.sets.specs.Refusals.{first_of};
+ghost use Rattle.cases.specs.File.{header_of, case_within};
+ghost use Rattle.cases.specs.Conditions.{layout_conditions, Accepted};
+ghost use Rattle.routes.specs.Route.{route_answer, direct, marks_only, Ran};
+ghost use Rattle.models.specs.Model.{change_number, Edited, open_conditions, opened_model, add_conditions, added_model, drop_conditions, dropped_model};
+
+use cases::{
+    Header, Opened, TRANSITIONS, Transition, case_end, check_layout, first_appearances,
+    transition_holds,
+};
+use records::{find, insert, remove, write_distinct};
 use routes::Tallied;
-ghost use mathlib.Core.Path.{_≡_};
-ghost use mathlib.Core.List.{_++_};
-ghost use lib.ListN.{length};
-ghost use Rattle·sets.specs.Refusals.{first_of};
-ghost use Rattle·cases.specs.File.{header_of, case_within};
-ghost use Rattle·cases.specs.Conditions.{layout_conditions, Accepted};
-ghost use Rattle·routes.specs.Route.{route_answer, direct, marks_only, Ran};
-ghost use Rattle·models·specs.specs.Model.{change_number, Edited, open_conditions, opened_model, add_conditions, added_model, drop_conditions, dropped_model};
 
 // Why a model is not opened or not changed.
+#[derive(Drop)]
 pub enum Cause {
     Case(cases::Cause),
     Range,
@@ -31,6 +24,7 @@ pub enum Cause {
 }
 
 // What opening or changing a model answers.
+#[derive(Drop)]
 pub enum Change {
     Made,
     Refused(Cause),
@@ -38,8 +32,8 @@ pub enum Change {
 
 // Opens an accepted case.
 fn open_accepted(case: &[u8], h: Header, model: &mut [u8]) -> Change
-    requires { ⌜ Accepted (now case) × (h ≡ header_of (now case)) ⌝ }
-    ensures { λ r. ⌜ Edited (open_conditions (now (case .entry)) (now (model .entry))) (opened_model (now (case .entry)) (now (model .entry))) (now (model .entry)) (change_number r) (now (model .exit)) ⌝ }
+    requires { Accepted case.now × (h ≡ header_of case.now) }
+    ensures { Edited (open_conditions case.now model.old) (opened_model case.now model.old) model.old (change_number result) model.new }
 {
     if model.len() < case.len() + 6 * (TRANSITIONS - h.transitions) {
         return Change::Refused(Cause::Memory);
@@ -53,7 +47,7 @@ fn open_accepted(case: &[u8], h: Header, model: &mut [u8]) -> Change
 // Opens a case: writes it to the start of a model, each of its transitions once. The model has to have room for as many transitions as a
 // case may have, so that no later add can lack it.
 pub fn open(case: &[u8], model: &mut [u8]) -> Change
-    ensures { λ r. ⌜ Edited (open_conditions (now (case .entry)) (now (model .entry))) (opened_model (now (case .entry)) (now (model .entry))) (now (model .entry)) (change_number r) (now (model .exit)) ⌝ }
+    ensures { Edited (open_conditions case.now model.old) (opened_model case.now model.old) model.old (change_number result) model.new }
 {
     match cases::open(case) {
         Opened::Accepted(h) => open_accepted(case, h, model),
@@ -63,8 +57,8 @@ pub fn open(case: &[u8], model: &mut [u8]) -> Change
 
 // Adds to a model whose case is laid out and ends at `end`.
 fn add_laid(model: &mut [u8], end: usize, h: Header, t: Transition) -> Change
-    requires { ⌜ (first_of (layout_conditions (case_within (now model))) ≡ 0) × (h ≡ header_of (case_within (now model))) × (end ≡ length (case_within (now model))) ⌝ }
-    ensures { λ r. ⌜ Edited (add_conditions (now (model .entry)) t) (added_model (now (model .entry)) t) (now (model .entry)) (change_number r) (now (model .exit)) ⌝ }
+    requires { (first_of (layout_conditions (case_within model.old)) ≡ 0) × (h ≡ header_of (case_within model.old)) × (end ≡ length (case_within model.old)) }
+    ensures { Edited (add_conditions model.old t) (added_model model.old t) model.old (change_number result) model.new }
 {
     if !transition_holds(t, h.states, h.labels) {
         return Change::Refused(Cause::Range);
@@ -86,7 +80,7 @@ fn add_laid(model: &mut [u8], end: usize, h: Header, t: Transition) -> Change
 
 // Adds a transition to a model. One that is held leaves it unchanged.
 pub fn add(model: &mut [u8], t: Transition) -> Change
-    ensures { λ r. ⌜ Edited (add_conditions (now (model .entry)) t) (added_model (now (model .entry)) t) (now (model .entry)) (change_number r) (now (model .exit)) ⌝ }
+    ensures { Edited (add_conditions model.old t) (added_model model.old t) model.old (change_number result) model.new }
 {
     let end = case_end(model);
     match check_layout(&model[..end]) {
@@ -97,8 +91,8 @@ pub fn add(model: &mut [u8], t: Transition) -> Change
 
 // Drops from a model whose case is laid out.
 fn drop_laid(model: &mut [u8], h: Header, t: Transition) -> Change
-    requires { ⌜ (first_of (layout_conditions (case_within (now model))) ≡ 0) × (h ≡ header_of (case_within (now model))) ⌝ }
-    ensures { λ r. ⌜ Edited (drop_conditions (now (model .entry)) t) (dropped_model (now (model .entry)) t) (now (model .entry)) (change_number r) (now (model .exit)) ⌝ }
+    requires { (first_of (layout_conditions (case_within model.old)) ≡ 0) × (h ≡ header_of (case_within model.old)) }
+    ensures { Edited (drop_conditions model.old t) (dropped_model model.old t) model.old (change_number result) model.new }
 {
     if !transition_holds(t, h.states, h.labels) {
         return Change::Refused(Cause::Range);
@@ -115,7 +109,7 @@ fn drop_laid(model: &mut [u8], h: Header, t: Transition) -> Change
 
 // Drops a transition from a model.
 pub fn drop(model: &mut [u8], t: Transition) -> Change
-    ensures { λ r. ⌜ Edited (drop_conditions (now (model .entry)) t) (dropped_model (now (model .entry)) t) (now (model .entry)) (change_number r) (now (model .exit)) ⌝ }
+    ensures { Edited (drop_conditions model.old t) (dropped_model model.old t) model.old (change_number result) model.new }
 {
     let end = case_end(model);
     match check_layout(&model[..end]) {
@@ -126,7 +120,7 @@ pub fn drop(model: &mut [u8], t: Transition) -> Change
 
 // The marks of the case that a model starts with, by direct. Is lent the words of a set for the marks.
 pub fn want(model: &[u8], marks: &mut [u64], limit: u64) -> Tallied
-    ensures { λ r. ⌜ Ran direct (case_within (now (model .entry))) (marks_only (now (marks .entry))) limit (route_answer (r .answer)) (r .tally) (now (marks .exit)) ⌝ }
+    ensures { Ran direct (case_within model.now) (marks_only marks.old) limit (route_answer result.answer) result.tally marks.new }
 {
     let end = case_end(model);
     routes::direct(&model[..end], marks, limit)
@@ -134,7 +128,7 @@ pub fn want(model: &[u8], marks: &mut [u64], limit: u64) -> Tallied
 
 // The number of a cause.
 fn number_of(cause: Cause) -> u64
-    ensures { λ r. ⌜ r ≡ change_number (Change.Refused cause) ⌝ }
+    ensures { result ≡ change_number (Change.Refused cause) }
 {
     match cause {
         Cause::Case(cause) => cases::number_of(cause) as u64,
@@ -147,7 +141,7 @@ fn number_of(cause: Cause) -> u64
 
 // The number of an answer, 0 if it is no refusal.
 pub fn change_number(change: Change) -> u64
-    ensures { λ r. ⌜ r ≡ change_number change ⌝ }
+    ensures { result ≡ change_number change }
 {
     match change {
         Change::Made => 0,

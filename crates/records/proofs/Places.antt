@@ -1,21 +1,21 @@
 -- Laws of the place of a transition, of a table without a record, and of which transitions there are.
-use mathlib.Core.Path.{_≡_, refl, sym, ap, _∙_}
-use mathlib.Core.Bool.{Bool, true, false, cond, _||_}
-use mathlib.Core.List.{List, [], _∷_}
-use Prim.Native.Nat.{ℕ, zero, suc, _+_, _-_, _≤_, _<_}
+use mathlib.Core.Path.{◌≡◌, refl, sym, ap, ◌∙◌}
+use mathlib.Core.Bool.{Bool, true, false, cond, ◌||◌}
+use mathlib.Core.List.{List, [], ◌∷◌}
+use Prim.Native.Nat.{ℕ, zero, suc, ◌+◌, ◌-◌, ◌≤◌, ◌<◌}
 use native.Mathlib.Nat.{zero-add, add-zero}
 use native.Mathlib.Omega.{arith}
-use lib.ListN.{length, take, drop, set, drop-of-length-le, length-set}
-use Rattle·sets.specs.Lists.{for_some}
-use Rattle·sets.proofs.Lists.{length_table, table_at, drop_next}
-use Rattle·cases.specs.declared.Transition.{Transition}
-use Rattle·cases.specs.File.{transition_in}
-use Rattle·cases.specs.Case.{same_transition, copies, transition_at}
-use Rattle·cases.specs.internal.Checks.{transitions_in}
-use Rattle·cases.proofs.MeaningLaws.{same_equal}
-use Rattle·cases.proofs.Distinct.{copies_append}
-use Rattle·records·specs.specs.Places.{place_of, without_at}
-use Rattle·records·proofs.proofs.Files.{last_behind, last_stays}
+use lib.ListN.{length, take, drop, set, drop_of_length-le, length-set}
+use Rattle.sets.specs.Lists.{for_some}
+use Rattle.sets.proofs.Lists.{length_table, table_at, drop_next}
+use Rattle.cases.specs.declared.Transition.{Transition}
+use Rattle.cases.specs.File.{transition_in}
+use Rattle.cases.specs.Case.{same_transition, copies, transition_at}
+use Rattle.cases.specs.internal.Checks.{transitions_in}
+use Rattle.cases.proofs.MeaningLaws.{same_equal}
+use Rattle.cases.proofs.Distinct.{copies_append}
+use Rattle.records.specs.Places.{place_of, without_at}
+use Rattle.records.proofs.Files.{last_behind, last_stays}
 
 -- ---- looking for a place
 
@@ -44,7 +44,7 @@ module _ (part : List ℕ) (m : ℕ) (t : Transition) (i : ℕ) (none : place_of
   pub place_none : m ≤ i → i ≤ m → i ≡ place_of t (transitions_in part m)
   unfolding place_of transitions_in
   place_none h g =
-      let left : drop i (transitions_in part m) ≡ [] = drop-of-length-le (transitions_in part m) {i = i} (rw (length_table (transition_in part) m) h) in
+      let left : drop i (transitions_in part m) ≡ [] = drop_of_length-le (transitions_in part m) {i = i} (rw (length_table (transition_in part) m) h) in
       let zero_left : place_of t (drop i (transitions_in part m)) ≡ 0 = ap (place_of t) left in
       omega (arith, none, zero_left)
 

@@ -1,32 +1,32 @@
 -- Laws of records that are written one after another.
-use mathlib.Core.Path.{_≡_, refl, sym, ap, _∙_}
+use mathlib.Core.Path.{◌≡◌, refl, sym, ap, ◌∙◌}
 use mathlib.Core.Bool.{Bool, true, false, cond}
-use mathlib.Core.List.{List, [], _∷_, _++_, map, append-assoc}
-use Prim.Native.Nat.{ℕ, zero, suc, _+_, _*_, _≤_}
+use mathlib.Core.List.{List, [], ◌∷◌, ◌++◌, map, append_assoc}
+use Prim.Native.Nat.{ℕ, zero, suc, ◌+◌, ◌*◌, ◌≤◌}
 use native.Mathlib.Nat.{add-zero, zero-add}
 use native.Mathlib.Numerals.{add-one}
 use native.Mathlib.Omega.{arith}
-use borrow.Author.Tests.{eq-eqb, ne-eqb}
+use borrow.Author.Tests.{eq-eqb, ne_eqb}
 use lib.Dec.{eqb}
-use lib.ListN.{length, getD, take, drop, length-append, length-map, take-append-drop}
-use lib.Seq.{take-at, drop-at, drop-drop}
-use Rattle·sets.specs.Lists.{numbers_from, keep}
-use Rattle·sets.proofs.Lists.{length_range, length_table}
-use Rattle·cases.specs.declared.Transition.{Transition}
-use Rattle·cases.specs.File.{transition_in}
-use Rattle·cases.specs.Case.{distinct}
-use Rattle·cases.specs.internal.Checks.{transitions_in}
-use Rattle·cases.specs.internal.Links.{FirstFlags}
-use Rattle·cases.proofs.Distinct.{length_keep, length_distinct}
-use Rattle·cases.proofs.FirstAppearances.{flagged_distinct}
-use Rattle·records·specs.specs.Replaced.{record_bytes, table_bytes}
-use Rattle·records·specs.specs.internal.Writing.{over, RecordsBehind, RecordsWritten}
-use Rattle·records·proofs.proofs.Tables.{length_table_bytes, table_append}
+use lib.ListN.{length, get_or, take, drop, length-append, length-map, take-append-drop}
+use lib.Seq.{take_at, drop_at, drop-drop}
+use Rattle.sets.specs.Lists.{numbers_from, keep}
+use Rattle.sets.proofs.Lists.{length_range, length_table}
+use Rattle.cases.specs.declared.Transition.{Transition}
+use Rattle.cases.specs.File.{transition_in}
+use Rattle.cases.specs.Case.{distinct}
+use Rattle.cases.specs.internal.Checks.{transitions_in}
+use Rattle.cases.specs.internal.Links.{FirstFlags}
+use Rattle.cases.proofs.Distinct.{length_keep, length_distinct}
+use Rattle.cases.proofs.FirstAppearances.{flagged_distinct}
+use Rattle.records.specs.Replaced.{record_bytes, table_bytes}
+use Rattle.records.specs.internal.Writing.{over, RecordsBehind, RecordsWritten}
+use Rattle.records.proofs.Tables.{length_table_bytes, table_append}
 
 -- a record that is not flagged
 pub wrote_none : (part : List ℕ) (i flag k : ℕ) (out : List ℕ) → ¬ (flag ≡ 1) → RecordsBehind k (cond (eqb flag 1) (transition_in part i ∷ []) []) out out k
 unfolding table_bytes
-wrote_none part i flag k out d = rw (ne-eqb flag 1 d) (record { exact = rw (add-zero (6 * k)) (sym (take-append-drop (6 * k) out)); count = omega arith })
+wrote_none part i flag k out d = rw (ne_eqb flag 1 d) (record { exact = rw (add-zero (6 * k)) (sym (take-append-drop (6 * k) out)); count = omega arith })
 
 -- one that is
 pub wrote_one : (part : List ℕ) (i k : ℕ) {flag : ℕ} (out : List ℕ) {t : Transition} {after : List ℕ} → 6 * k + 6 ≤ length out → flag ≡ 1 → t ≡ transition_in part i
@@ -37,14 +37,14 @@ wrote_one part i k {flag} out h f is e = rw (eq-eqb flag 1 f, ← is) (record { 
 -- records behind others
 pub wrote_on : {ts us : List Transition} {s u v : List ℕ} {k r : ℕ} → RecordsWritten ts s u k → RecordsBehind k us u v r → RecordsWritten (ts ++ us) s v r
 wrote_on {ts} {us} {s} {u} {v} {k} p q =
-    let long : length (table_bytes ts) ≡ 6 * k = omega (arith, length_table_bytes ts, p .count) in
+    let long : length (table_bytes ts) ≡ 6 * k = omega (arith, length_table_bytes ts, p.count) in
     let rest : List ℕ = drop (6 * length ts) s in
-    let front : take (6 * k) u ≡ table_bytes ts = ap (take (6 * k)) (p .exact) ∙ take-at (table_bytes ts) rest (6 * k) long in
-    let behind : drop (6 * k) u ≡ rest = ap (drop (6 * k)) (p .exact) ∙ drop-at (table_bytes ts) rest (6 * k) long in
+    let front : take (6 * k) u ≡ table_bytes ts = ap (take (6 * k)) p.exact ∙ take_at (table_bytes ts) rest (6 * k) long in
+    let behind : drop (6 * k) u ≡ rest = ap (drop (6 * k)) p.exact ∙ drop_at (table_bytes ts) rest (6 * k) long in
     let all : 6 * length ts + length (table_bytes us) ≡ 6 * length (ts ++ us) = omega (arith, length-append ts us, length_table_bytes us) in
     record {
-      exact = q .exact ∙ rw (front, ← drop-drop (length (table_bytes us)) (6 * k) u, behind, drop-drop (length (table_bytes us)) (6 * length ts) s, all, table_append ts us) (sym (append-assoc (table_bytes ts) (table_bytes us) _));
-      count = omega (arith, p .count, q .count, length-append ts us);
+      exact = q.exact ∙ rw (front, ← drop-drop (length (table_bytes us)) (6 * k) u, behind, drop-drop (length (table_bytes us)) (6 * length ts) s, all, table_append ts us) (sym (append_assoc (table_bytes ts) (table_bytes us) _));
+      count = omega (arith, p.count, q.count, length-append ts us);
     }
 
 -- ---- the flagged ones of the first records of a part
@@ -68,18 +68,18 @@ kept_next f p s (suc k) = let sum : s + suc k ≡ suc s + k = omega arith in rw 
     go false e = e
 
 abbrev pub flagged : List ℕ → List ℕ → ℕ → List Transition
-flagged part first i = map (transition_in part) (keep (λ j. eqb (getD first j 0) 1) (numbers_from 0 i))
+flagged part first i = map (transition_in part) (keep (λ j. eqb (get_or first j 0) 1) (numbers_from 0 i))
 
-pub flagged_next : (part first : List ℕ) (i : ℕ) → flagged part first (i + 1) ≡ flagged part first i ++ cond (eqb (getD first i 0) 1) (transition_in part i ∷ []) []
+pub flagged_next : (part first : List ℕ) (i : ℕ) → flagged part first (i + 1) ≡ flagged part first i ++ cond (eqb (get_or first i 0) 1) (transition_in part i ∷ []) []
 flagged_next part first i =
     let here : 0 + i ≡ i = zero-add i in
-    rw (add-one i) (rw here at (kept_next (transition_in part) (λ j. eqb (getD first j 0) 1) 0 i))
+    rw (add-one i) (rw here at (kept_next (transition_in part) (λ j. eqb (get_or first j 0) 1) 0 i))
 
 -- they are no more than those records
 pub flagged_few : (part first : List ℕ) (i : ℕ) {s u : List ℕ} {k : ℕ} → RecordsWritten (flagged part first i) s u k → k ≤ i
 flagged_few part first i w =
-    let kept : List ℕ = keep (λ j. eqb (getD first j 0) 1) (numbers_from 0 i) in
-    omega (arith, w .count, length-map kept (transition_in part), length_keep (λ j. eqb (getD first j 0) 1) (numbers_from 0 i), length_range 0 i)
+    let kept : List ℕ = keep (λ j. eqb (get_or first j 0) 1) (numbers_from 0 i) in
+    omega (arith, w.count, length-map kept (transition_in part), length_keep (λ j. eqb (get_or first j 0) 1) (numbers_from 0 i), length_range 0 i)
 
 pub flagged_none : (part first s : List ℕ) → RecordsWritten (flagged part first 0) s s 0
 unfolding table_bytes keep numbers_from
@@ -91,4 +91,4 @@ flagged_all {part} {first} {m = m} f w = rw (← flagged_distinct part m first f
 -- the distinct ones are no more than all
 pub distinct_few : (part : List ℕ) (m : ℕ) {s u : List ℕ} {k : ℕ} → RecordsWritten (distinct (transitions_in part m)) s u k → k ≤ m
 unfolding transitions_in
-distinct_few part m w = omega (arith, w .count, length_distinct (transitions_in part m), length_table (transition_in part) m)
+distinct_few part m w = omega (arith, w.count, length_distinct (transitions_in part m), length_table (transition_in part) m)

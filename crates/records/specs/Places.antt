@@ -1,10 +1,7 @@
 -- Places of a transition table.
-use mathlib.Core.Bool.{cond}
-use mathlib.Core.List.{List, [], _∷_}
-use Prim.Native.Nat.{ℕ, suc, _-_}
-use lib.ListN.{length, take, set}
-use Rattle·cases.specs.declared.Transition.{Transition}
-use Rattle·cases.specs.Case.{same_transition, transition_at}
+use Rattle.std.specs.Prelude.{cond, List, [], ◌∷◌, ℕ, suc, ◌-◌, length, take, set}
+use Rattle.cases.specs.declared.Transition.{Transition}
+use Rattle.cases.specs.Case.{same_transition, transition_at}
 
 -- the first place where a transition stands; as many as there are where it does not
 unfoldable pub place_of : Transition → List Transition → ℕ

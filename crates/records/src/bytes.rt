@@ -1,19 +1,16 @@
 // Writing numbers of 16 bits, records and heads, and moving bytes.
-use cases::Header;
-use cases::Transition;
-ghost use mathlib.Core.Path.{_≡_};
-ghost use mathlib.Core.List.{_++_};
-ghost use Prim.Native.Nat.{_+_, _≤_};
-ghost use lib.ListN.{length, take, drop};
-ghost use Rattle·cases.specs.File.{transitions_start, transition_limit};
-ghost use Rattle·cases.specs.internal.Checks.{common_header, CountsFit};
-ghost use Rattle·records·specs.specs.Replaced.{record_bytes, with_number, head_for};
-ghost use Rattle·records·specs.specs.internal.Writing.{over};
+ghost use Rattle.std.specs.Prelude.{◌≡◌, ◌++◌, ◌+◌, ◌≤◌, length, take, drop};
+ghost use Rattle.cases.specs.File.{transitions_start, transition_limit};
+ghost use Rattle.cases.specs.internal.Checks.{common_header, CountsFit};
+ghost use Rattle.records.specs.Replaced.{record_bytes, with_number, head_for};
+ghost use Rattle.records.specs.internal.Writing.{over};
+
+use cases::{Header, Transition};
 
 // One number, low byte first.
 fn put_number(bytes: &mut [u8], at: usize, x: usize)
-    requires { ⌜ at + 2 ≤ length (now bytes) ⌝ }
-    ensures { λ _. ⌜ now (bytes .exit) ≡ with_number (now (bytes .entry)) at x ⌝ }
+    requires { at + 2 ≤ length bytes.old }
+    ensures { bytes.new ≡ with_number bytes.old at x }
 {
     bytes[at] = (x % 256) as u8;
     bytes[at + 1] = (x / 256 % 256) as u8;
@@ -21,8 +18,8 @@ fn put_number(bytes: &mut [u8], at: usize, x: usize)
 
 // A record.
 pub fn put_record(bytes: &mut [u8], at: usize, t: Transition)
-    requires { ⌜ at + 6 ≤ length (now bytes) ⌝ }
-    ensures { λ _. ⌜ now (bytes .exit) ≡ over (now (bytes .entry)) at (record_bytes t) ⌝ }
+    requires { at + 6 ≤ length bytes.old }
+    ensures { bytes.new ≡ over bytes.old at (record_bytes t) }
 {
     put_number(bytes, at, t.source);
     put_number(bytes, at + 2, t.label);
@@ -31,8 +28,8 @@ pub fn put_record(bytes: &mut [u8], at: usize, t: Transition)
 
 // The numbers of a head that depend on how many transitions there are.
 pub fn put_head(bytes: &mut [u8], h: Header, k: usize)
-    requires { ⌜ (common_header ≤ length (now bytes)) × CountsFit h × (h .«transitions_at» ≡ transitions_start h) × (k ≤ transition_limit) ⌝ }
-    ensures { λ _. ⌜ now (bytes .exit) ≡ head_for h k (now (bytes .entry)) ⌝ }
+    requires { (common_header ≤ length bytes.old) × CountsFit h × (h.transitions_at ≡ transitions_start h) × (k ≤ transition_limit) }
+    ensures { bytes.new ≡ head_for h k bytes.old }
 {
     let actions = h.transitions_at + 6 * k;
     put_number(bytes, 4, k);
@@ -42,8 +39,8 @@ pub fn put_head(bytes: &mut [u8], h: Header, k: usize)
 
 // All bytes, to the start of others.
 pub fn copy(from: &[u8], to: &mut [u8])
-    requires { ⌜ length (now from) ≤ length (now to) ⌝ }
-    ensures { λ _. ⌜ now (to .exit) ≡ now (from .entry) ++ drop (length (now (from .entry))) (now (to .entry)) ⌝ }
+    requires { length from.now ≤ length to.old }
+    ensures { to.new ≡ from.now ++ drop (length from.now) to.old }
 {
     let mut i = 0;
     while i < from.len() {
@@ -54,8 +51,8 @@ pub fn copy(from: &[u8], to: &mut [u8])
 
 // The first `count` bytes of a part, up by so many places. The places that they leave keep what they had.
 pub fn move_up(part: &mut [u8], by: usize, count: usize)
-    requires { ⌜ by + count ≤ length (now part) ⌝ }
-    ensures { λ _. ⌜ now (part .exit) ≡ take by (now (part .entry)) ++ (take count (now (part .entry)) ++ drop (by + count) (now (part .entry))) ⌝ }
+    requires { by + count ≤ length part.old }
+    ensures { part.new ≡ take by part.old ++ (take count part.old ++ drop (by + count) part.old) }
 {
     let mut i = count;
     while 0 < i {
@@ -66,8 +63,8 @@ pub fn move_up(part: &mut [u8], by: usize, count: usize)
 
 // So many bytes of a part that stand behind its first `by`, down to its start.
 pub fn move_down(part: &mut [u8], by: usize, count: usize)
-    requires { ⌜ by + count ≤ length (now part) ⌝ }
-    ensures { λ _. ⌜ now (part .exit) ≡ take count (drop by (now (part .entry))) ++ drop count (now (part .entry)) ⌝ }
+    requires { by + count ≤ length part.old }
+    ensures { part.new ≡ take count (drop by part.old) ++ drop count part.old }
 {
     let mut i = 0;
     while i < count {

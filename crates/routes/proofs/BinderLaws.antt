@@ -1,45 +1,45 @@
 -- What the evaluator's loop at a mu or a nu holds at its head, and what it answers where it ends.
-use mathlib.Core.Path.{_≡_, refl, sym, ap, subst, _∙_}
-use mathlib.Core.Bool.{true, false, _||_}
+use mathlib.Core.Path.{◌≡◌, refl, sym, ap, subst, ◌∙◌}
+use mathlib.Core.Bool.{true, false, ◌||◌}
 use mathlib.Core.List.{List, [], map}
-use Prim.Native.Nat.{ℕ, _+_, _-_, _<_, _≤_}
+use Prim.Native.Nat.{ℕ, ◌+◌, ◌-◌, ◌<◌, ◌≤◌}
 use native.Mathlib.Omega.{arith}
-use native.Mathlib.Decide.{decLt, ℕ_discrete}
-use borrow.Author.Tests.{eq-eqb, ne-eqb}
+use native.Mathlib.Decide.{dec_lt, ℕ_discrete}
+use borrow.Author.Tests.{eq-eqb, ne_eqb}
 use lib.Dec.{eqb}
-use lib.ListN.{length, getD, set, take, length-replicate, List·getD-eq-default}
-use lib.Seq.{getD-set-same, getD-set-other, set-set}
-use Rattle·sets.specs.States.{States, start, Valuation, update}
-use Rattle·sets.specs.Loop.{Step, Loop, itself}
-use Rattle·sets.specs.Words.{words, word_count}
-use Rattle·sets.proofs.Lists.{false_true}
-use Rattle·sets.proofs.Turns.{Left, turn, stops_here, goes_on}
-use Rattle·sets.proofs.Words.{words_length, words_inj}
-use Rattle·sets.proofs.Valuation.{update_sized}
-use Rattle·cases.specs.Action.{Action}
-use Rattle·cases.specs.declared.Header.{Header}
-use Rattle·cases.specs.declared.Node.{Node}
-use Rattle·cases.specs.declared.Transition.{Transition}
-use Rattle·cases.specs.Prefix.{arity_in, formula_arities, formula_at}
-use Rattle·cases.specs.Conditions.{node_at, is_binder, binder_count}
-use Rattle·cases.specs.internal.Checks.{transitions_in, nodes_in}
-use Rattle·cases.proofs.Spans.{end_one}
-use Rattle·routes·specs.specs.Direct.{Direct}
-use Rattle·cases.specs.internal.Masks.{ActionMasks}
-use Rattle·routes·specs.specs.internal.Evaluating.{returned, Shown, Asks, KindAt, Evaluated}
-use Rattle·routes·specs.specs.declared.Value.{Value}
-use Rattle·routes·proofs.proofs.DirectLaws.{direct_sized}
-use Rattle·routes·proofs.proofs.NodeLaws.{Binder, apart, by_kind, inside, in_arities, operand, block_of_lem, arity, ruled_by}
-use Rattle·routes·proofs.proofs.EvaluateLaws.{all_spent}
+use lib.ListN.{length, get_or, set, take, length-replicate, get_or-eq_default}
+use lib.Seq.{get_or-set_same, get_or-set_other, set-set}
+use Rattle.sets.specs.States.{States, start, Valuation, update}
+use Rattle.sets.specs.Loop.{Step, Loop, itself}
+use Rattle.sets.specs.Words.{words, word_count}
+use Rattle.sets.proofs.Lists.{false_true}
+use Rattle.sets.proofs.Turns.{Left, turn, stops_here, goes_on}
+use Rattle.sets.proofs.Words.{words_length, words_inj}
+use Rattle.sets.proofs.Valuation.{update_sized}
+use Rattle.cases.specs.Action.{Action}
+use Rattle.cases.specs.declared.Header.{Header}
+use Rattle.cases.specs.declared.Node.{Node}
+use Rattle.cases.specs.declared.Transition.{Transition}
+use Rattle.cases.specs.Prefix.{arity_in, formula_arities, formula_at}
+use Rattle.cases.specs.Conditions.{node_at, is_binder, binder_count}
+use Rattle.cases.specs.internal.Checks.{transitions_in, nodes_in}
+use Rattle.cases.proofs.Spans.{end_one}
+use Rattle.routes.specs.Direct.{Direct}
+use Rattle.cases.specs.internal.Masks.{ActionMasks}
+use Rattle.routes.specs.internal.Evaluating.{returned, Shown, Asks, KindAt, Evaluated}
+use Rattle.routes.specs.declared.Value.{Value}
+use Rattle.routes.proofs.DirectLaws.{direct_sized}
+use Rattle.routes.proofs.NodeLaws.{Binder, apart, by_kind, inside, in_arities, operand, block_of, arity, ruled_by}
+use Rattle.routes.proofs.EvaluateLaws.{all_spent}
 
 -- a row that is the words of a set is one of the rows
-row_inside : (rows : List (List ℕ)) (k : ℕ) (v : States) → getD rows k [] ≡ words word_count v → k < length rows
-row_inside rows k v e = go (decLt k (length rows))
+row_inside : (rows : List (List ℕ)) (k : ℕ) (v : States) → get_or rows k [] ≡ words word_count v → k < length rows
+row_inside rows k v e = go (dec_lt k (length rows))
   where
     go : Dec (k < length rows) → k < length rows
     go (yes l) = l
     go (no l) =
-        let none : getD rows k [] ≡ [] = List·getD-eq-default rows [] {n = k} (omega (arith, l)) in
+        let none : get_or rows k [] ≡ [] = get_or-eq_default rows [] {n = k} (omega (arith, l)) in
         omega (arith, ap length (sym none ∙ e), words_length word_count v)
 
 -- the rows show the valuation with v for binder i if the words of v are put into i's row
@@ -48,20 +48,20 @@ shown_update : {n : ℕ} {t : List Node} {rows : List (List ℕ)} {ρ : Valuatio
     → Shown n t (set rows k held) (update ρ i v)
 unfolding update
 shown_update {n} {t} {rows} {ρ} s i b {k} e v {held} z w =
-    record { sized = update_sized ρ i v (s .sized) z; row = λ j h is. go j h is (ℕ_discrete j i) }
+    record { sized = update_sized ρ i v s.sized z; row = λ j h is. go j h is (ℕ_discrete j i) }
   where
     go : (j : ℕ) → j < length t → is_binder (node_at t j) ≡ true → Dec (j ≡ i)
-        → getD (set rows k held) (binder_count (take j t)) [] ≡ words word_count (update ρ i v j)
+        → get_or (set rows k held) (binder_count (take j t)) [] ≡ words word_count (update ρ i v j)
     go j h is (yes p) =
-        rw (eq-eqb j i p, p, ← e, getD-set-same rows k held [] (row_inside rows k (ρ i) (rw e (s .row i (b .inside) (b .is))))) w
+        rw (eq-eqb j i p, p, ← e, get_or-set_same rows k held [] (row_inside rows k (ρ i) (rw e (s.row i b.inside b.is)))) w
     go j h is (no p) =
-        rw (ne-eqb j i p, getD-set-other rows k (binder_count (take j t)) held [] (λ x. p (apart t j i (record { inside = h; is = is }) b (x ∙ e))))
-        (s .row j h is)
+        rw (ne_eqb j i p, get_or-set_other rows k (binder_count (take j t)) held [] (λ x. p (apart t j i (record { inside = h; is = is }) b (x ∙ e))))
+        (s.row j h is)
 
 -- one turn of the loop of binder `at`: its body is worked out
 abbrev body : Header → List ℕ → List ℕ → ℕ → (ℕ → Action) → Valuation → Step States
 body h records formula at action ρ = itself λ u.
-    Direct (h .states) (transitions_in records (h .transitions)) (formula_at action (nodes_in formula (h .nodes)) (at + 1)) (update ρ at u)
+    Direct h.states (transitions_in records h.transitions) (formula_at action (nodes_in formula h.nodes) (at + 1)) (update ρ at u)
 
 -- words that hold a set of n states
 abbrev pub Holding : ℕ → List ℕ → States → Type 0
@@ -74,45 +74,45 @@ pub record Going (h : Header) (records formula masks : List ℕ) (rows : List (L
   pub low : used ≤ before
   pub high : before ≤ limit
   pub left : (action : ℕ → Action) (ρ : Valuation) (v : States) (r : ℕ)
-      → ActionMasks action (h .actions) masks → Shown (h .states) (nodes_in formula (h .nodes)) rows ρ
-      → Loop (body h records formula at action ρ) (start (h .states) (eqb kind 8)) v r
-      → Left (body h records formula at action ρ) (Holding (h .states) held) v before (used + r)
+      → ActionMasks action h.actions masks → Shown h.states (nodes_in formula h.nodes) rows ρ
+      → Loop (body h records formula at action ρ) (start h.states (eqb kind 8)) v r
+      → Left (body h records formula at action ρ) (Holding h.states held) v before (used + r)
 
 -- it begins
 pub begins : {h : Header} {records formula masks : List ℕ} {rows : List (List ℕ)} {at kind used limit block : ℕ} → used ≤ limit
-    → {held : List ℕ} → held ≡ words word_count (start (h .states) (eqb kind 8))
+    → {held : List ℕ} → held ≡ words word_count (start h.states (eqb kind 8))
     → Going h records formula masks rows at kind used limit block held used rows
 begins {h} {kind = kind} l e = record {
   others = λ row. refl;
   low = omega arith;
   high = l;
   left = λ action ρ v r m s run.
-      record { now = start (h .states) (eqb kind 8); known = (length-replicate (h .states) (eqb kind 8), e); rest = r; run = run; sum = refl };
+      record { now = start h.states (eqb kind 8); known = (length-replicate h.states (eqb kind 8), e); rest = r; run = run; sum = refl };
 }
 
 module _ {h : Header} {records formula masks blocks : List ℕ} {at used limit : ℕ} (q : Asks h records formula masks blocks at used limit)
-    {kind : ℕ} (k : KindAt formula (h .nodes) at kind 7 8) where
+    {kind : ℕ} (k : KindAt formula h.nodes at kind 7 8) where
   abbrev n : ℕ
-  n = h .states
+  n = h.states
 
   abbrev ts : List Transition
-  ts = transitions_in records (h .transitions)
+  ts = transitions_in records h.transitions
 
   abbrev t : List Node
-  t = nodes_in formula (h .nodes)
+  t = nodes_in formula h.nodes
 
   abbrev ks : List ℕ
   ks = map (arity_in formula_arities) t
 
   -- it has one operand
-  one_operand : getD ks at 0 ≡ 1
-  one_operand = arity q k ∙ by_kind (λ m. getD formula_arities m 0 ≡ 1) k refl refl refl
+  one_operand : get_or ks at 0 ≡ 1
+  one_operand = arity q k ∙ by_kind (λ m. get_or formula_arities m 0 ≡ 1) k refl refl refl
 
   -- the node is a binder
   pub own_binder : Binder t at
   own_binder = record {
     inside = inside q;
-    is = subst (λ (m : ℕ). (eqb m 7 || eqb m 8) ≡ true) (k .are) (by_kind (λ m. (eqb m 7 || eqb m 8) ≡ true) k refl refl refl);
+    is = subst (λ (m : ℕ). (eqb m 7 || eqb m 8) ≡ true) k.are (by_kind (λ m. (eqb m 7 || eqb m 8) ≡ true) k refl refl refl);
   }
 
   -- its body is evaluated next
@@ -126,70 +126,70 @@ module _ {h : Header} {records formula masks blocks : List ℕ} {at used limit :
   binder_rule action ρ v r =
       ruled_by q k action ρ v r (λ m. Loop (body h records formula at action ρ) (start n (eqb m 8)) v r) refl (λ d. d) (λ d. d)
 
-  module _ {block : ℕ} (b : block ≡ getD blocks at 0) {rows : List (List ℕ)} {held : List ℕ} {before : ℕ} {inner : List (List ℕ)}
+  module _ {block : ℕ} (b : block ≡ get_or blocks at 0) {rows : List (List ℕ)} {held : List ℕ} {before : ℕ} {inner : List (List ℕ)}
       (g : Going h records formula masks rows at kind used limit block held before inner) {one : Value}
       (turned : Evaluated h records formula masks (set inner block held) (at + 1) before limit one) where
     -- the rows of the turn show the set held
     shows : (action : ℕ → Action) (ρ : Valuation) {u : States} {total : ℕ} → Shown n t rows ρ
-        → (l : Left (body h records formula at action ρ) (Holding n held) u before total) → Shown n t (set inner block held) (update ρ at (l .now))
+        → (l : Left (body h records formula at action ρ) (Holding n held) u before total) → Shown n t (set inner block held) (update ρ at l.now)
     shows action ρ s l =
-        rw (g .others held) (shown_update s at own_binder (block_of_lem q own_binder b) (l .now) (l .known .0) (l .known .1))
+        rw (g.others held) (shown_update s at own_binder (block_of q own_binder b) l.now l.known.0 l.known.1)
 
     -- the rounds are spent in the body,
-    pub body_spent : one .spent ≡ true → Evaluated h records formula masks rows at used limit one
+    pub body_spent : one.spent ≡ true → Evaluated h records formula masks rows at used limit one
     body_spent e = all_spent e (λ action ρ v r d.
-        let l = g .left action ρ v r (d .0) (d .1) (binder_rule action ρ v r (d .2)) in
-        let x = turn (l .run) in
-        omega (arith, turned .over e action (update ρ at (l .now)) (x .next) (x .took) (d .0, shows action ρ (d .1) l, x .step .1), x .less, l .sum))
+        let l = g.left action ρ v r d.0 d.1 (binder_rule action ρ v r d.2) in
+        let x = turn l.run in
+        omega (arith, turned.over e action (update ρ at l.now) x.next x.took (d.0, shows action ρ d.1 l, x.step.1), x.less, l.sum))
 
-    module _ (e : one .spent ≡ false) where
+    module _ (e : one.spent ≡ false) where
       -- or none is left for this one,
-      pub round_spent : limit ≤ one .rounds → {next : ℕ}
-          → Evaluated h records formula masks rows at used limit (returned (one .set) next (one .rounds) true)
+      pub round_spent : limit ≤ one.rounds → {next : ℕ}
+          → Evaluated h records formula masks rows at used limit (returned one.set next one.rounds true)
       round_spent m = all_spent refl (λ action ρ v r d.
-          let l = g .left action ρ v r (d .0) (d .1) (binder_rule action ρ v r (d .2)) in
-          let x = turn (l .run) in
-          omega (arith, turned .right e action (update ρ at (l .now)) (x .next) (x .took) (d .0, shows action ρ (d .1) l, x .step .1) .0, x .less, l .sum))
+          let l = g.left action ρ v r d.0 d.1 (binder_rule action ρ v r d.2) in
+          let x = turn l.run in
+          omega (arith, (turned.right e action (update ρ at l.now) x.next x.took (d.0, shows action ρ d.1 l, x.step.1)).0, x.less, l.sum))
 
       -- or the body's set is there.
-      found : (action : ℕ → Action) (ρ : Valuation) {u : States} {total : ℕ} → ActionMasks action (h .actions) masks → Shown n t rows ρ
-          → (l : Left (body h records formula at action ρ) (Holding n held) u before total) (a w : States) (r : ℕ) → body h records formula at action ρ (l .now) a w r
-          → (length w ≡ n) × (one .set ≡ words word_count w) × (r ≡ one .rounds - before)
+      found : (action : ℕ → Action) (ρ : Valuation) {u : States} {total : ℕ} → ActionMasks action h.actions masks → Shown n t rows ρ
+          → (l : Left (body h records formula at action ρ) (Holding n held) u before total) (a w : States) (r : ℕ) → body h records formula at action ρ l.now a w r
+          → (length w ≡ n) × (one.set ≡ words word_count w) × (r ≡ one.rounds - before)
       found action ρ m s l a w r d =
-          let y = turned .right e action (update ρ at (l .now)) w r (m, shows action ρ s l, d .1) in
-          (direct_sized n ts _ (update ρ at (l .now)) (shows action ρ s l .sized) w r (d .1), y .1, omega (arith, y .0))
+          let y = turned.right e action (update ρ at l.now) w r (m, shows action ρ s l, d.1) in
+          (direct_sized n ts _ (update ρ at l.now) (shows action ρ s l).sized w r d.1, y.1, omega (arith, y.0))
 
       -- sets with equal words are equal
       same : (v w : States) → length v ≡ n → length w ≡ n → words word_count v ≡ words word_count w → v ≡ w
-      same v w y z = words_inj word_count v w (y ∙ sym z) (omega (arith, q .parts .model .few_states))
+      same v w y z = words_inj word_count v w (y ∙ sym z) (omega (arith, q.parts.model.few_states))
 
       -- It is the set held: the loop stops.
-      pub stopped : one .rounds < limit → one .set ≡ held
-          → Evaluated h records formula masks rows at used limit (returned (one .set) (one .next) (one .rounds + 1) false)
+      pub stopped : one.rounds < limit → one.set ≡ held
+          → Evaluated h records formula masks rows at used limit (returned one.set one.next (one.rounds + 1) false)
       stopped m is = record {
         over = λ o. absurd (false_true o);
-        low = λ o. omega (arith, g .low, turned .low e);
+        low = λ o. omega (arith, g.low, turned.low e);
         high = λ o. omega arith;
-        ends = λ o. turned .ends e ∙ sym (end_one ks at (in_arities q) one_operand);
+        ends = λ o. turned.ends e ∙ sym (end_one ks at (in_arities q) one_operand);
         right = λ o action ρ v r d.
-            let l = g .left action ρ v r (d .0) (d .1) (binder_rule action ρ v r (d .2)) in
+            let l = g.left action ρ v r d.0 d.1 (binder_rule action ρ v r d.2) in
             let x = stops_here (λ a w c f.
-            let y = found action ρ (d .0) (d .1) l a w c f in
-            same w (l .now) (y .0) (l .known .0) (sym (y .1) ∙ is ∙ l .known .1)) (l .run) in
-            let y = found action ρ (d .0) (d .1) l v (l .now) (x .took) (x .step) in
-            (omega (arith, y .2, x .sum, l .sum, turned .low e), is ∙ l .known .1 ∙ ap (words word_count) (sym (x .step .0)));
+            let y = found action ρ d.0 d.1 l a w c f in
+            same w l.now y.0 l.known.0 (sym y.1 ∙ is ∙ l.known.1)) l.run in
+            let y = found action ρ d.0 d.1 l v l.now x.took x.step in
+            (omega (arith, y.2, x.sum, l.sum, turned.low e), is ∙ l.known.1 ∙ ap (words word_count) (sym x.step.0));
       }
 
       -- It is another: the loop goes on from there.
-      pub replaced : one .rounds < limit → ¬ (one .set ≡ held)
-          → Going h records formula masks rows at kind used limit block (one .set) (one .rounds + 1) (set inner block held)
+      pub replaced : one.rounds < limit → ¬ (one.set ≡ held)
+          → Going h records formula masks rows at kind used limit block one.set (one.rounds + 1) (set inner block held)
       replaced m other = record {
-        others = λ row. set-set inner block held row ∙ g .others row;
-        low = omega (arith, g .low, turned .low e);
+        others = λ row. set-set inner block held row ∙ g.others row;
+        low = omega (arith, g.low, turned.low e);
         high = omega arith;
         left = λ action ρ v r masks s run.
-            let l = g .left action ρ v r masks s run in
-            let x = goes_on (λ a w c f p. other (found action ρ masks s l a w c f .1 ∙ ap (words word_count) p ∙ sym (l .known .1))) (l .run) in
-            let y = found action ρ masks s l (x .held) (x .next) (x .took) (x .step) in
-            record { now = x .next; known = (y .0, y .1); rest = x .rest; run = x .run; sum = omega (arith, y .2, x .sum, l .sum, turned .low e) };
+            let l = g.left action ρ v r masks s run in
+            let x = goes_on (λ a w c f p. other ((found action ρ masks s l a w c f).1 ∙ ap (words word_count) p ∙ sym l.known.1)) l.run in
+            let y = found action ρ masks s l x.held x.next x.took x.step in
+            record { now = x.next; known = (y.0, y.1); rest = x.rest; run = x.run; sum = omega (arith, y.2, x.sum, l.sum, turned.low e) };
       }

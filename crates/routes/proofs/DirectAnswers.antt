@@ -1,29 +1,29 @@
 -- What a run promises with each answer, by its conditions; and what direct answers from the parts of a case.
-use mathlib.Core.Path.{_≡_, refl, sym, ap, _∙_}
+use mathlib.Core.Path.{◌≡◌, refl, sym, ap, ◌∙◌}
 use mathlib.Core.Bool.{Bool, true, false}
-use mathlib.Core.List.{List, _++_}
-use Prim.Native.Nat.{ℕ, _<_, _≤_}
+use mathlib.Core.List.{List, ◌++◌}
+use Prim.Native.Nat.{ℕ, ◌<◌, ◌≤◌}
 use native.Mathlib.Omega.{arith}
 use borrow.Author.Tests.{lt-ltb, le-ltb}
 use lib.ListN.{length, drop, length-replicate}
-use Rattle·sets.specs.States.{all_empty}
-use Rattle·sets.specs.Words.{words, marked, word_count, state_limit}
-use Rattle·sets.specs.internal.Size.{SizeIs}
-use Rattle·sets.specs.Refusals.{Conditions, first_of, refused, outcome_by, Outcome, report_of}
-use Rattle·sets.proofs.Words.{marked_words}
-use Rattle·sets.proofs.Refusals.{refusing, reports, refuses}
-use Rattle·cases.specs.declared.Header.{Header}
-use Rattle·cases.specs.Case.{Case}
-use Rattle·solver.specs.declared.Cause.the-variants.{Memory, Spent}
-use Rattle·solver.specs.Outcome.{solve_number}
-use Rattle·routes·specs.specs.declared.Cause.the-variants.{Run}
-use Rattle·routes·specs.specs.declared.Report.{Report}
-use Rattle·routes·specs.specs.declared.Value.{Value}
-use Rattle·routes·specs.specs.declared.Answer.the-variants.{Solved, Refused}
-use Rattle·routes·specs.specs.Route.{route_number, route_answer, Route, direct, run_of, marks_only, too_short, exceeds, run_conditions, route_outcome, marks_after, RanBy}
-use Rattle·routes·specs.specs.internal.Answering.{Reported, Rooted}
-use Rattle·routes·specs.specs.internal.Evaluating.{case_in, CaseParts}
-use Rattle·routes·proofs.proofs.DirectLaws.{worked_sized}
+use Rattle.sets.specs.States.{all_empty}
+use Rattle.sets.specs.Words.{words, marked, word_count, state_limit}
+use Rattle.sets.specs.internal.Size.{SizeIs}
+use Rattle.sets.specs.Refusals.{Conditions, first_of, refused, outcome_by, Outcome, report_of}
+use Rattle.sets.proofs.Words.{marked_words}
+use Rattle.sets.proofs.Refusals.{refusing, reports, refuses}
+use Rattle.cases.specs.declared.Header.{Header}
+use Rattle.cases.specs.Case.{Case}
+use Rattle.solver.specs.declared.Cause.TheVariants.{Memory, Spent}
+use Rattle.solver.specs.Outcome.{solve_number}
+use Rattle.routes.specs.declared.Cause.TheVariants.{Run}
+use Rattle.routes.specs.declared.Report.{Report}
+use Rattle.routes.specs.declared.Value.{Value}
+use Rattle.routes.specs.declared.Answer.TheVariants.{Solved, Refused}
+use Rattle.routes.specs.Route.{route_number, route_answer, Route, direct, run_of, marks_only, too_short, exceeds, run_conditions, route_outcome, marks_after, RanBy}
+use Rattle.routes.specs.internal.Answering.{Reported, Rooted}
+use Rattle.routes.specs.internal.Evaluating.{case_in, CaseParts}
+use Rattle.routes.proofs.DirectLaws.{worked_sized}
 
 -- the two causes that a run has beside those of its case
 pub memory_is : route_answer (Refused (Run Memory)) ≡ refused 13
@@ -46,26 +46,26 @@ module _ {R : Route} {c : Case} {marks : List ℕ} where
   }
 
   -- success
-  pub ran_solved : {cs : Conditions} {o : Outcome} {after : List ℕ} → first_of cs ≡ 0 → o ≡ report_of (c .initial) (run_of R c .0) (run_of R c .1)
-      → after ≡ words word_count (run_of R c .0) ++ drop word_count marks → RanBy cs R c marks o after
+  pub ran_solved : {cs : Conditions} {o : Outcome} {after : List ℕ} → first_of cs ≡ 0 → o ≡ report_of c.initial (run_of R c).0 (run_of R c).1
+      → after ≡ words word_count (run_of R c).0 ++ drop word_count marks → RanBy cs R c marks o after
   unfolding route_outcome marks_after
   ran_solved {cs} z is a = record { answers = is ∙ sym (reports cs _ z); marks_are = a ∙ sym (rw z) }
 
   -- only the first condition that holds matters
   pub ran_first : {cs ds : Conditions} {o : Outcome} {after : List ℕ} → first_of cs ≡ first_of ds → RanBy cs R c marks o after → RanBy ds R c marks o after
   unfolding route_outcome marks_after outcome_by
-  ran_first e r = record { answers = rw e at (r .answers); marks_are = rw e at (r .marks_are) }
+  ran_first e r = record { answers = rw e at r.answers; marks_are = rw e at r.marks_are }
 
 -- ---- the report
 
 -- what is read from a set's words is what is reported of the set
-pub reported : {h : Header} {set : List ℕ} {rounds : ℕ} {verdict : Bool} {count : ℕ} → h .states ≤ state_limit → h .initial < state_limit
-    → verdict ≡ marked set (h .initial) → SizeIs set count
+pub reported : {h : Header} {set : List ℕ} {rounds : ℕ} {verdict : Bool} {count : ℕ} → h.states ≤ state_limit → h.initial < state_limit
+    → verdict ≡ marked set h.initial → SizeIs set count
     → Reported h set rounds (record { verdict = verdict; count = count; rounds = rounds })
 unfolding route_answer
 reported {h} few low p q = record {
   are = λ c i v l e.
-      let first = p ∙ ap (λ (w : List ℕ). marked w (h .initial)) e ∙ marked_words word_count v (h .initial) low in
+      let first = p ∙ ap (λ (w : List ℕ). marked w h.initial) e ∙ marked_words word_count v h.initial low in
       let many = q v (omega (arith, l)) e in
       rw (i, first, many);
 }
@@ -83,24 +83,24 @@ module _ (c : Case) (marks : List ℕ) (limit : ℕ) where
 
   module _ (room : word_count ≤ length marks) where
     -- 14, or none
-    number_14 : limit < run_of direct c .1 → first_of conditions ≡ 14
+    number_14 : limit < (run_of direct c).1 → first_of conditions ≡ 14
     unfolding run_conditions too_short exceeds first_of
-    number_14 h = rw (le-ltb (length marks) word_count room, lt-ltb limit (run_of direct c .1) h)
+    number_14 h = rw (le-ltb (length marks) word_count room, lt-ltb limit (run_of direct c).1 h)
 
-    number_0 : run_of direct c .1 ≤ limit → first_of conditions ≡ 0
+    number_0 : (run_of direct c).1 ≤ limit → first_of conditions ≡ 0
     unfolding run_conditions too_short exceeds first_of
-    number_0 h = rw (le-ltb (length marks) word_count room, le-ltb limit (run_of direct c .1) h)
+    number_0 h = rw (le-ltb (length marks) word_count room, le-ltb limit (run_of direct c).1 h)
 
 -- what direct works out of a case has as many states as the case
-run_sized : (c : Case) → length (run_of direct c .0) ≡ c .states
+run_sized : (c : Case) → length (run_of direct c).0 ≡ c.states
 unfolding run_of
-run_sized c = worked_sized (c .states) (c .transitions) (c .formula) (all_empty (c .states)) (λ k. length-replicate (c .states) false)
+run_sized c = worked_sized c.states c.transitions c.formula (all_empty c.states) (λ k. length-replicate c.states false)
 
-pub states_few : {h : Header} {labels records actions formula : List ℕ} → CaseParts h labels records actions formula → h .states ≤ state_limit
-states_few parts = parts .model .few_states
+pub states_few : {h : Header} {labels records actions formula : List ℕ} → CaseParts h labels records actions formula → h.states ≤ state_limit
+states_few parts = parts.model.few_states
 
-pub initial_few : {h : Header} {labels records actions formula : List ℕ} → CaseParts h labels records actions formula → h .initial < state_limit
-initial_few parts = omega (arith, parts .initial, parts .model .few_states)
+pub initial_few : {h : Header} {labels records actions formula : List ℕ} → CaseParts h labels records actions formula → h.initial < state_limit
+initial_few parts = omega (arith, parts.initial, parts.model.few_states)
 
 module _ {h : Header} {labels records actions formula : List ℕ} (parts : CaseParts h labels records actions formula) (marks : List ℕ) (limit : ℕ) where
   abbrev c : Case
@@ -110,13 +110,13 @@ module _ {h : Header} {labels records actions formula : List ℕ} (parts : CaseP
   too_short_lem is h = ran_refused is (number_13 c marks limit h) (λ z. omega arith)
 
   module _ (room : word_count ≤ length marks) {o : Value} (r : Rooted (run_of direct c) limit o) where
-    pub spent : {said : Outcome} → said ≡ refused 14 → o .spent ≡ true → RanBy (conditions c marks limit) direct c marks said marks
-    spent is z = ran_refused is (number_14 c marks limit room (r .over z)) (λ z. omega arith)
+    pub spent : {said : Outcome} → said ≡ refused 14 → o.spent ≡ true → RanBy (conditions c marks limit) direct c marks said marks
+    spent is z = ran_refused is (number_14 c marks limit room (r.over z)) (λ z. omega arith)
 
     -- success
-    pub solved : o .spent ≡ false → {report : Report} → Reported h (o .set) (o .rounds) report → {after : List ℕ} → after ≡ o .set ++ drop word_count marks
+    pub solved : o.spent ≡ false → {report : Report} → Reported h o.set o.rounds report → {after : List ℕ} → after ≡ o.set ++ drop word_count marks
         → RanBy (conditions c marks limit) direct c marks (route_answer (Solved report)) after
     unfolding case_in
-    solved z f is = ran_solved (number_0 c marks limit room (r .within z))
-        (f .are c refl (run_of direct c .0) (run_sized c) (r .set z) ∙ ap (report_of (c .initial) (run_of direct c .0)) (r .rounds z))
-        (is ∙ ap (λ (w : List ℕ). w ++ drop word_count marks) (r .set z))
+    solved z f is = ran_solved (number_0 c marks limit room (r.within z))
+        (f.are c refl (run_of direct c).0 (run_sized c) (r.set z) ∙ ap (report_of c.initial (run_of direct c).0) (r.rounds z))
+        (is ∙ ap (λ (w : List ℕ). w ++ drop word_count marks) (r.set z))

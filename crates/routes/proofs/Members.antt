@@ -1,23 +1,23 @@
 -- What direct works out depends on the transitions only through which there are, in the set and in the rounds.
-use mathlib.Core.Path.{_≡_, refl, sym, ap, fun-ext, _∙_}
+use mathlib.Core.Path.{◌≡◌, refl, sym, ap, fun_ext, ◌∙◌}
 use mathlib.Core.Bool.{Bool}
 use mathlib.Core.List.{List}
 use Prim.Native.Nat.{ℕ, suc}
-use Rattle·sets.specs.States.{States, Subset, start, Valuation, update, all_empty}
-use Rattle·sets.specs.Refusals.{Outcome}
-use Rattle·sets.specs.computed.Iteration.{Worked, repeated}
-use Rattle·sets.proofs.Lists.{length_map_range}
-use Rattle·sets.proofs.Order.{subset_antisym}
-use Rattle·cases.specs.Action.{Action}
-use Rattle·cases.specs.Formula.{Formula, False, True, And, Or, Box, Diamond, Variable, Fix}
-use Rattle·cases.specs.declared.Transition.{Transition}
-use Rattle·cases.specs.Case.{Case, SameTransitionSet}
-use Rattle·cases.specs.internal.Scope.{Within}
-use Rattle·cases.specs.Meaning.{set_of, box_in, diamond_in, MeansIn}
-use Rattle·cases.proofs.MeaningLaws.{box_mono, diamond_mono, means_members, means_exists, means_unique}
-use Rattle·cases.proofs.Distinct.{mem_within}
-use Rattle·routes·specs.specs.Route.{direct, Lent, run_of, too_short, exceeds, run_conditions, route_outcome, marks_after, RanBy}
-use Rattle·routes·specs.specs.computed.Worked.{worked}
+use Rattle.sets.specs.States.{States, Subset, start, Valuation, update, all_empty}
+use Rattle.sets.specs.Refusals.{Outcome}
+use Rattle.sets.specs.computed.Iteration.{Worked, repeated}
+use Rattle.sets.proofs.Lists.{length_map_range}
+use Rattle.sets.proofs.Order.{subset_antisym}
+use Rattle.cases.specs.Action.{Action}
+use Rattle.cases.specs.Formula.{Formula, False, True, And, Or, Box, Diamond, Variable, Fix}
+use Rattle.cases.specs.declared.Transition.{Transition}
+use Rattle.cases.specs.Case.{Case, SameTransitionSet}
+use Rattle.cases.specs.internal.Scope.{Within}
+use Rattle.cases.specs.Meaning.{set_of, box_in, diamond_in, MeansIn}
+use Rattle.cases.proofs.MeaningLaws.{box_mono, diamond_mono, means_members, means_exists, means_unique}
+use Rattle.cases.proofs.Distinct.{mem_within}
+use Rattle.routes.specs.Route.{direct, Lent, run_of, too_short, exceeds, run_conditions, route_outcome, marks_after, RanBy}
+use Rattle.routes.specs.computed.Worked.{worked}
 
 -- ---- lists with the same members
 
@@ -40,34 +40,34 @@ module _ (n : ℕ) (ts us : List Transition) (there : Within ts us) (back : With
   worked_members True ρ = refl
   worked_members (And a b) ρ = rw (worked_members a ρ, worked_members b ρ)
   worked_members (Or a b) ρ = rw (worked_members a ρ, worked_members b ρ)
-  worked_members (Box α a) ρ = rw (worked_members a ρ, box_members α (worked n us a ρ .0))
-  worked_members (Diamond α a) ρ = rw (worked_members a ρ, diamond_members α (worked n us a ρ .0))
+  worked_members (Box α a) ρ = rw (worked_members a ρ, box_members α (worked n us a ρ).0)
+  worked_members (Diamond α a) ρ = rw (worked_members a ρ, diamond_members α (worked n us a ρ).0)
   worked_members (Variable i) ρ = refl
-  worked_members (Fix sign i a) ρ = ap (λ (f : States → Worked). repeated (suc n) f (start n sign)) (fun-ext (λ v. worked_members a (update ρ i v)))
+  worked_members (Fix sign i a) ρ = ap (λ (f : States → Worked). repeated (suc n) f (start n sign)) (fun_ext (λ v. worked_members a (update ρ i v)))
 
 -- ---- cases with the same set of transitions
 
-module _ {c c′ : Case} (same : SameTransitionSet c c′) where
-  there : Within (c .transitions) (c′ .transitions)
-  there = mem_within (c .transitions) (c′ .transitions) (λ t. same .transitions t .0)
+module _ {c c' : Case} (same : SameTransitionSet c c') where
+  there : Within c.transitions c'.transitions
+  there = mem_within c.transitions c'.transitions (λ t. (same.transitions t).0)
 
-  back : Within (c′ .transitions) (c .transitions)
-  back = mem_within (c′ .transitions) (c .transitions) (λ t. same .transitions t .1)
+  back : Within c'.transitions c.transitions
+  back = mem_within c'.transitions c.transitions (λ t. (same.transitions t).1)
 
   -- The formula means the same,
-  pub means_same : (ρ : Valuation) (v : States) → MeansIn c ρ v → MeansIn c′ ρ v
+  pub means_same : (ρ : Valuation) (v : States) → MeansIn c ρ v → MeansIn c' ρ v
   means_same ρ v (sized, m) =
-      let is = means_unique (c .states) (c .transitions) (c .formula) ρ sized v m
-      ∙ means_members (c .states) (c .transitions) (c′ .transitions) there back (c .formula) ρ sized in
-      rw (← same .states, ← same .formula, is) (sized, means_exists (c .states) (c′ .transitions) (c .formula) ρ sized)
+      let is = means_unique c.states c.transitions c.formula ρ sized v m
+      ∙ means_members c.states c.transitions c'.transitions there back c.formula ρ sized in
+      rw (← same.states, ← same.formula, is) (sized, means_exists c.states c'.transitions c.formula ρ sized)
 
   -- direct works out the same set in the same rounds,
-  pub run_same : run_of direct c ≡ run_of direct c′
+  pub run_same : run_of direct c ≡ run_of direct c'
   unfolding run_of
-  run_same = worked_members (c .states) (c .transitions) (c′ .transitions) there back (c .formula) (all_empty (c .states)) ∙ rw (same .states, same .formula)
+  run_same = worked_members c.states c.transitions c'.transitions there back c.formula (all_empty c.states) ∙ rw (same.states, same.formula)
 
   -- and so it answers and leaves the same.
   pub ran_same : (l : Lent) (limit : ℕ) {o : Outcome} {after : List ℕ}
-      → RanBy (run_conditions direct c l limit) direct c (l .marks) o after → RanBy (run_conditions direct c′ l limit) direct c′ (l .marks) o after
+      → RanBy (run_conditions direct c l limit) direct c l.marks o after → RanBy (run_conditions direct c' l limit) direct c' l.marks o after
   unfolding run_conditions too_short exceeds route_outcome marks_after
-  ran_same l limit r = record { answers = rw (run_same, same .initial) at (r .answers); marks_are = rw run_same at (r .marks_are) }
+  ran_same l limit r = record { answers = rw (run_same, same.initial) at r.answers; marks_are = rw run_same at r.marks_are }

@@ -1,33 +1,33 @@
 -- The node that is to be evaluated: its kind, its operands, its formula's rule, and the block of a binder.
-use mathlib.Core.Path.{_≡_, refl, sym, ap, subst, _∙_}
+use mathlib.Core.Path.{◌≡◌, refl, sym, ap, subst, ◌∙◌}
 use mathlib.Core.Bool.{Bool, true, false}
 use mathlib.Core.List.{List, map}
-use Prim.Native.Nat.{ℕ, _+_, _<_, _≤_}
+use Prim.Native.Nat.{ℕ, ◌+◌, ◌<◌, ◌≤◌}
 use native.Mathlib.Omega.{arith}
 use native.Mathlib.Decide.{ℕ_discrete}
 use borrow.Author.Tests.{ltb-true, ltb-false}
 use lib.Dec.{ltb}
-use lib.ListN.{length, getD, take, length-map}
-use Rattle·sets.specs.States.{States, Valuation}
-use Rattle·solver.specs.File.{block_limit}
-use Rattle·cases.specs.Action.{Action}
-use Rattle·cases.specs.Formula.{Formula}
-use Rattle·cases.specs.declared.Header.{Header}
-use Rattle·cases.specs.declared.Node.{Node}
-use Rattle·cases.specs.File.{node_in}
-use Rattle·cases.specs.Prefix.{arity_in, formula_arities, whole_formulas, end_of, formula_at}
-use Rattle·cases.specs.Conditions.{node_at, is_binder, binder_count}
-use Rattle·cases.specs.internal.Checks.{transitions_in, nodes_in}
-use Rattle·cases.specs.internal.Tables.{made, formula_operator, FormulaTable}
-use Rattle·cases.proofs.PrefixRules.{node_in_lem}
-use Rattle·cases.proofs.Spans.{exactly_whole, first_node}
-use Rattle·cases.proofs.Trees.{arity_at}
-use Rattle·cases.proofs.TableTrees.{formula_table_lem, formula_at_lem}
-use Rattle·cases.proofs.Scopes.{variable_bound}
-use Rattle·cases.proofs.FormulaRules.{length_nodes}
-use Rattle·routes·specs.specs.Direct.{Direct}
-use Rattle·routes·specs.specs.internal.Evaluating.{Asks, KindAt}
-use Rattle·routes·proofs.proofs.TableLaws.{more_binders, binders_before}
+use lib.ListN.{length, get_or, take, length-map}
+use Rattle.sets.specs.States.{States, Valuation}
+use Rattle.solver.specs.File.{block_limit}
+use Rattle.cases.specs.Action.{Action}
+use Rattle.cases.specs.Formula.{Formula}
+use Rattle.cases.specs.declared.Header.{Header}
+use Rattle.cases.specs.declared.Node.{Node}
+use Rattle.cases.specs.File.{node_in}
+use Rattle.cases.specs.Prefix.{arity_in, formula_arities, whole_formulas, end_of, formula_at}
+use Rattle.cases.specs.Conditions.{node_at, is_binder, binder_count}
+use Rattle.cases.specs.internal.Checks.{transitions_in, nodes_in}
+use Rattle.cases.specs.internal.Tables.{made, formula_operator, FormulaTable}
+use Rattle.cases.proofs.PrefixRules.{node_in_lem}
+use Rattle.cases.proofs.Spans.{exactly_whole, first_node}
+use Rattle.cases.proofs.Trees.{arity_at}
+use Rattle.cases.proofs.TableTrees.{formula_table_lem, formula_at_lem}
+use Rattle.cases.proofs.Scopes.{variable_bound}
+use Rattle.cases.proofs.FormulaRules.{length_nodes}
+use Rattle.routes.specs.Direct.{Direct}
+use Rattle.routes.specs.internal.Evaluating.{Asks, KindAt}
+use Rattle.routes.proofs.TableLaws.{more_binders, binders_before}
 
 -- what holds of two kinds holds of a kind that is one of them
 pub by_kind : (P : ℕ → Type 0) {formula : List ℕ} {f at kind low high : ℕ} → KindAt formula f at kind low high → high ≡ low + 1
@@ -36,7 +36,7 @@ by_kind P {kind = kind} {low = low} {high = high} k e p q = go (ℕ_discrete kin
   where
     go : Dec (kind ≡ low) → P kind
     go (yes s) = subst P (sym s) p
-    go (no d) = let s : high ≡ kind = omega (arith, k .from, k .to) in subst P s q
+    go (no d) = let s : high ≡ kind = omega (arith, k.from, k.to) in subst P s q
 
 -- ---- binders
 
@@ -50,89 +50,89 @@ pub apart : (t : List Node) (i j : ℕ) → Binder t i → Binder t j → binder
 apart t i j b c e = go (ltb i j) refl (ltb j i) refl
   where
     go : (x : Bool) → ltb i j ≡ x → (y : Bool) → ltb j i ≡ y → i ≡ j
-    go true l y g = absurd (omega (arith, more_binders t i j (ltb-true i j l) (omega (arith, c .inside)) (b .is)))
-    go false l true g = absurd (omega (arith, more_binders t j i (ltb-true j i g) (omega (arith, b .inside)) (c .is)))
+    go true l y g = absurd (omega (arith, more_binders t i j (ltb-true i j l) (omega (arith, c.inside)) b.is))
+    go false l true g = absurd (omega (arith, more_binders t j i (ltb-true j i g) (omega (arith, b.inside)) c.is))
     go false l false g = omega (arith, ltb-false i j l, ltb-false j i g)
 
 -- ---- a node to evaluate
 module _ {h : Header} {records formula masks blocks : List ℕ} {at used limit : ℕ} (q : Asks h records formula masks blocks at used limit) where
   abbrev t : List Node
-  t = nodes_in formula (h .nodes)
+  t = nodes_in formula h.nodes
 
   abbrev ks : List ℕ
   ks = map (arity_in formula_arities) t
 
   abbrev Works : Formula → Valuation → States → ℕ → Type 0
-  Works = Direct (h .states) (transitions_in records (h .transitions))
+  Works = Direct h.states (transitions_in records h.transitions)
 
   -- what node `at` makes of its operands if its kind is k
   abbrev made_at : (ℕ → Action) → ℕ → Formula
-  made_at action k = made (formula_operator action at (node_at t at .arg) k) (formula_at action t (at + 1)) (formula_at action t (end_of ks (at + 1)))
+  made_at action k = made (formula_operator action at (node_at t at).arg k) (formula_at action t (at + 1)) (formula_at action t (end_of ks (at + 1)))
 
   -- the table holds one whole formula
   formed : FormulaTable t
-  formed = formula_table_lem (h .actions) t (q .parts .nodes .formed)
+  formed = formula_table_lem h.actions t q.parts.nodes.formed
 
   pub whole : whole_formulas 1 ks ≡ true
-  whole = exactly_whole 1 ks (formed .whole)
+  whole = exactly_whole 1 ks formed.whole
 
   -- the node is one of the table
   pub inside : at < length t
-  inside = rw (length_nodes formula (h .nodes)) (q .node)
+  inside = rw (length_nodes formula h.nodes) q.node
 
   pub in_arities : at < length ks
   in_arities = rw (length-map t (arity_in formula_arities)) inside
 
   -- it is read, and so is its kind
   pub node_read : {x : Node} → x ≡ node_in formula at → node_at t at ≡ x
-  node_read e = node_in_lem formula (h .nodes) at _ (q .node) ∙ sym e
+  node_read e = node_in_lem formula h.nodes at _ q.node ∙ sym e
 
-  pub kind_at : {x : Node} {low high : ℕ} → x ≡ node_in formula at → low ≤ x .kind → x .kind ≤ high
-      → KindAt formula (h .nodes) at (x .kind) low high
-  kind_at e l u = record { are = ap (λ (y : Node). y .kind) (sym (node_read e)); from = l; to = u }
+  pub kind_at : {x : Node} {low high : ℕ} → x ≡ node_in formula at → low ≤ x.kind → x.kind ≤ high
+      → KindAt formula h.nodes at x.kind low high
+  kind_at e l u = record { are = ap (λ (y : Node). y.kind) (sym (node_read e)); from = l; to = u }
 
   -- the kind is not more than 8
-  pub kind_known : {x : Node} → x ≡ node_in formula at → x .kind ≤ 8
-  kind_known {x} e = subst (λ (y : Node). y .kind ≤ 8) (node_read e) (formed .kinds at inside)
+  pub kind_known : {x : Node} → x ≡ node_in formula at → x.kind ≤ 8
+  kind_known {x} e = subst (λ (y : Node). y.kind ≤ 8) (node_read e) (formed.kinds at inside)
 
   -- another node of the table is asked for, after so many rounds
   pub asks : {to after : ℕ} → to < length ks → after ≤ limit → Asks h records formula masks blocks to after limit
-  asks {to} l w = record { parts = q .parts; node = rw (length-map t (arity_in formula_arities), length_nodes formula (h .nodes)) at l; within = w }
+  asks {to} l w = record { parts = q.parts; node = rw (length-map t (arity_in formula_arities), length_nodes formula h.nodes) at l; within = w }
 
   -- its first operand, if it has one
-  pub operand : {after : ℕ} → 1 ≤ getD ks at 0 → after ≤ limit → Asks h records formula masks blocks (at + 1) after limit
+  pub operand : {after : ℕ} → 1 ≤ get_or ks at 0 → after ≤ limit → Asks h records formula masks blocks (at + 1) after limit
   operand l w = asks (first_node 1 ks whole at in_arities l) w
 
   -- a variable is bound by an earlier node
-  pub binder_of : {x : Node} → x ≡ node_in formula at → x .kind ≡ 6 → Binder t (x .arg)
-  binder_of {x} e k = subst (λ (y : Node). Binder t (y .arg)) (node_read e) bound
+  pub binder_of : {x : Node} → x ≡ node_in formula at → x.kind ≡ 6 → Binder t x.arg
+  binder_of {x} e k = subst (λ (y : Node). Binder t y.arg) (node_read e) bound
     where
-      bound : Binder t (node_at t at .arg)
+      bound : Binder t (node_at t at).arg
       bound =
-          let b = variable_bound t (q .parts .nodes .bound) at inside (ap (λ (y : Node). y .kind) (node_read e) ∙ k) in
-          record { inside = omega (arith, b .before, inside); is = b .binder }
+          let b = variable_bound t q.parts.nodes.bound at inside (ap (λ (y : Node). y.kind) (node_read e) ∙ k) in
+          record { inside = omega (arith, b.before, inside); is = b.binder }
 
   -- a binder has a block number,
   pub block_read : {i : ℕ} → Binder t i → i < length blocks
-  block_read b = omega (arith, b .inside, length_nodes formula (h .nodes), q .parts .blocks_room)
+  block_read b = omega (arith, b.inside, length_nodes formula h.nodes, q.parts.blocks_room)
 
   -- which counts the binders before it
-  pub block_of_lem : {i k : ℕ} → Binder t i → k ≡ getD blocks i 0 → k ≡ binder_count (take i t)
-  block_of_lem {i} b e = e ∙ q .parts .numbered .block i (b .inside) (b .is)
+  pub block_of : {i k : ℕ} → Binder t i → k ≡ get_or blocks i 0 → k ≡ binder_count (take i t)
+  block_of {i} b e = e ∙ q.parts.numbered.block i b.inside b.is
 
   -- and is below six
-  pub block_fits : {i k : ℕ} → Binder t i → k ≡ getD blocks i 0 → k < block_limit
+  pub block_fits : {i k : ℕ} → Binder t i → k ≡ get_or blocks i 0 → k < block_limit
   block_fits {i} b e =
-      omega (arith, block_of_lem b e, binders_before t i (b .inside) (b .is), q .parts .nodes .shallow)
+      omega (arith, block_of b e, binders_before t i b.inside b.is, q.parts.nodes.shallow)
 
-  module _ {kind low high : ℕ} (k : KindAt formula (h .nodes) at kind low high) where
+  module _ {kind low high : ℕ} (k : KindAt formula h.nodes at kind low high) where
     -- how many operands it has
-    pub arity : getD ks at 0 ≡ getD formula_arities kind 0
-    arity = arity_at formula_arities t at inside ∙ ap (λ (m : ℕ). getD formula_arities m 0) (sym (k .are))
+    pub arity : get_or ks at 0 ≡ get_or formula_arities kind 0
+    arity = arity_at formula_arities t at inside ∙ ap (λ (m : ℕ). get_or formula_arities m 0) (sym k.are)
 
     -- the rule of what it makes,
     pub ruled : (action : ℕ → Action) (ρ : Valuation) (v : States) (r : ℕ) → Works (formula_at action t at) ρ v r → Works (made_at action kind) ρ v r
-    ruled action ρ v r = subst (λ (a : Formula). Works a ρ v r) (formula_at_lem action t formed at kind inside (sym (k .are)))
+    ruled action ρ v r = subst (λ (a : Formula). Works a ρ v r) (formula_at_lem action t formed at kind inside (sym k.are))
 
     -- which of two it is
     pub ruled_by : (action : ℕ → Action) (ρ : Valuation) (v : States) (r : ℕ) (P : ℕ → Type 0) → high ≡ low + 1

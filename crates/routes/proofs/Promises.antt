@@ -1,63 +1,63 @@
 -- The promises of both routes, of whatever keeps their contracts: Ran and EquationRan of specs/Route.antt. b is the case file, any list of
--- bytes; l is what is lent, as it is before the call; o is the outcome of what a call answers, t the tally beside it, and marks′, file′ and work′
+-- bytes; l is what is lent, as it is before the call; o is the outcome of what a call answers, t the tally beside it, and marks', file' and work'
 -- are what it leaves.
 -- Numbers have no bound.
-use mathlib.Core.Path.{_≡_, refl, sym, ap, _∙_}
-use mathlib.Core.Logic.{_↔_, _⊎_, inl, inr, by-cases}
-use mathlib.Core.List.{List, [], _∷_, _++_, map, List·Memᴰ, List·Memᴰ·head, List·Memᴰ·tail, List·Nodup, Perm}
+use mathlib.Core.Path.{◌≡◌, refl, sym, ap, ◌∙◌}
+use mathlib.Core.Logic.{◌↔◌, ◌⊎◌, inl, inr, by_cases}
+use mathlib.Core.List.{List, [], ◌∷◌, ◌++◌, map, Memᴰ, Nodup, Perm}
 use mathlib.Core.Bool.{Bool, true}
-use Prim.Native.Nat.{ℕ, suc, _≤_, _<_}
+use Prim.Native.Nat.{ℕ, suc, ◌≤◌, ◌<◌}
 use native.Mathlib.Omega.{arith}
 use native.Mathlib.Decide.{ℕ_discrete}
 use borrow.Author.Tests.{ltb-true, lt-ltb}
 use lib.Dec.{T}
 use lib.ListN.{length, take, drop}
-use Rattle·sets.specs.Lists.{every}
-use Rattle·sets.specs.States.{States, Valuation, Sized}
-use Rattle·sets.specs.Words.{bit, ones_of, marked_below, Marks, word_count}
-use Rattle·sets.specs.Refusals.{first_of, numbers_of, NoneHolds, FirstHolds, refused, by_refusal, Outcome, GivesMarks, Spent, report_of}
-use Rattle·sets.proofs.Refusals.{apart, absent, member, refusing, answered_member, answered_first, answered_none}
-use Rattle·sets.proofs.Words.{take_words, shows}
-use Rattle·sets.proofs.Ones.{marks_size}
-use Rattle·solver.specs.Cells.{Values}
-use Rattle·solver.specs.File.{sizes_of, cells}
-use Rattle·solver.specs.Solution.{powers, StandardSolution}
-use Rattle·solver.specs.Outcome.{solve_refusal, Scratch}
-use Rattle·solver.proofs.Starts.{own_values}
-use Rattle·translate.proofs.Promises.{well_formed}
-use Rattle·cases.specs.File.{version, header_of, label_table}
-use Rattle·cases.specs.Labels.{same_names, label_names}
-use Rattle·cases.specs.Case.{Case, case_of, SameTables, SameTransitionSet}
-use Rattle·cases.proofs.Accepting.{passed}
-use Rattle·cases.proofs.AlikeLaws.{different_case, permuted_case}
-use Rattle·cases.specs.declared.Tally.{Tally}
-use Rattle·cases.specs.Tally.{tallied, no_tally}
-use Rattle·cases.proofs.Tallies.{tally_accepted, tally_refused, tallied_order}
-use Rattle·cases.proofs.Distinct.{length_distinct, distinct_all}
-use Rattle·cases.specs.Conditions.{layout_conditions, model_conditions, formula_conditions, case_conditions, case_refusal, Accepted}
-use Rattle·cases.specs.Meaning.{MeansIn}
-use Rattle·cases.proofs.MeaningLaws.{means_sized}
-use Rattle·translate.specs.Bytes.{file_of}
-use Rattle·translate.specs.Translating.{file, translate_refusal, file_after}
-use Rattle·translate.proofs.Translations.{unrefused}
-use Rattle·routes·specs.specs.Route.{Route, direct, equation, Lent, OwnRounds, run_of, exceeds, run_conditions, route_conditions, Enough, work_after, RanBy, Ran, EquationRan}
-use Rattle·routes·proofs.proofs.RouteLaws.{translate_then_solve, case_refused, case_accepted, number_ran, reported, written, refused_with, kept, given, spent_over, spent_accepted, spent_number, gives_number}
-use Rattle·routes·proofs.proofs.DirectAnswers.{ran_first}
-use Rattle·routes·proofs.proofs.Members.{means_same, run_same, ran_same}
-use Rattle·routes·proofs.proofs.Outcomes.{meaning_of, one_meaning, own_exists, own_one, runs_alike, run_means, run_sized, run_bound}
+use Rattle.sets.specs.Lists.{every}
+use Rattle.sets.specs.States.{States, Valuation, Sized}
+use Rattle.sets.specs.Words.{bit, ones_of, marked_below, Marks, word_count}
+use Rattle.sets.specs.Refusals.{first_of, numbers_of, NoneHolds, FirstHolds, refused, by_refusal, Outcome, GivesMarks, Spent, report_of}
+use Rattle.sets.proofs.Refusals.{apart, absent, member, refusing, answered_member, answered_first, answered_none}
+use Rattle.sets.proofs.Words.{take_words, shows}
+use Rattle.sets.proofs.Ones.{marks_size}
+use Rattle.solver.specs.Cells.{Values}
+use Rattle.solver.specs.File.{sizes_of, cells}
+use Rattle.solver.specs.Solution.{powers, StandardSolution}
+use Rattle.solver.specs.Outcome.{solve_refusal, Scratch}
+use Rattle.solver.proofs.Starts.{own_values}
+use Rattle.translate.proofs.Promises.{well_formed}
+use Rattle.cases.specs.File.{version, header_of, label_table}
+use Rattle.cases.specs.Labels.{same_names, label_names}
+use Rattle.cases.specs.Case.{Case, case_of, SameTables, SameTransitionSet}
+use Rattle.cases.proofs.Accepting.{passed}
+use Rattle.cases.proofs.AlikeLaws.{different_case, permuted_case}
+use Rattle.cases.specs.declared.Tally.{Tally}
+use Rattle.cases.specs.Tally.{tallied, no_tally}
+use Rattle.cases.proofs.Tallies.{tally_accepted, tally_refused, tallied_order}
+use Rattle.cases.proofs.Distinct.{length_distinct, distinct_all}
+use Rattle.cases.specs.Conditions.{layout_conditions, model_conditions, formula_conditions, case_conditions, case_refusal, Accepted}
+use Rattle.cases.specs.Meaning.{MeansIn}
+use Rattle.cases.proofs.MeaningLaws.{means_sized}
+use Rattle.translate.specs.Bytes.{file_of}
+use Rattle.translate.specs.Translating.{file, translate_refusal, file_after}
+use Rattle.translate.proofs.Translations.{unrefused}
+use Rattle.routes.specs.Route.{Route, direct, equation, Lent, OwnRounds, run_of, exceeds, run_conditions, route_conditions, Enough, work_after, RanBy, Ran, EquationRan}
+use Rattle.routes.proofs.RouteLaws.{translate_then_solve, case_refused, case_accepted, number_ran, reported, written, refused_with, kept, given, spent_over, spent_accepted, spent_number, gives_number}
+use Rattle.routes.proofs.DirectAnswers.{ran_first}
+use Rattle.routes.proofs.Members.{means_same, run_same, ran_same}
+use Rattle.routes.proofs.Outcomes.{meaning_of, one_meaning, own_exists, own_one, runs_alike, run_means, run_sized, run_bound}
 
 -- ---- Demand 3, of an accepted case with enough memory
 module _ (b : List ℕ) (accepted : Accepted b) where
   -- The formula has a meaning, and no other.
-  pub meaning_exists : (ρ : Valuation) → Sized (case_of b .states) ρ → (v : States) × MeansIn (case_of b) ρ v
+  pub meaning_exists : (ρ : Valuation) → Sized (case_of b).states ρ → (v : States) × MeansIn (case_of b) ρ v
   meaning_exists ρ s = (_, (s, meaning_of b ρ s))
 
   pub meaning_unique : (ρ σ : Valuation) (v w : States) → MeansIn (case_of b) ρ v → MeansIn (case_of b) σ w → v ≡ w
-  meaning_unique ρ σ v w x y = one_meaning b accepted ρ σ (x .0) (y .0) v w (x .1) (y .1)
+  meaning_unique ρ σ v w x y = one_meaning b accepted ρ σ x.0 y.0 v w x.1 y.1
 
   -- A route has own rounds, and one number of them.
   pub rounds_exist : (R : Route) → (r : ℕ) × OwnRounds R (case_of b) r
-  rounds_exist R = (run_of R (case_of b) .1, own_exists b accepted R)
+  rounds_exist R = ((run_of R (case_of b)).1, own_exists b accepted R)
 
   pub rounds_unique : (R : Route) (r q : ℕ) → OwnRounds R (case_of b) r → OwnRounds R (case_of b) q → r ≡ q
   rounds_unique R r q o p = own_one b accepted R r o ∙ sym (own_one b accepted R q p)
@@ -65,238 +65,238 @@ module _ (b : List ℕ) (accepted : Accepted b) where
   -- Condition 14 holds exactly if they exceed the limit.
   pub exceeds_iff : (R : Route) (r : ℕ) → OwnRounds R (case_of b) r → (limit : ℕ) → exceeds R (case_of b) limit ≡ true ↔ limit < r
   unfolding exceeds
-  exceeds_iff R r o limit = rw (own_one b accepted R r o) (ltb-true limit (run_of R (case_of b) .1), lt-ltb limit (run_of R (case_of b) .1))
+  exceeds_iff R r o limit = rw (own_one b accepted R r o) (ltb-true limit (run_of R (case_of b)).1, lt-ltb limit (run_of R (case_of b)).1)
 
-  module _ {R : Route} {l : Lent} {limit : ℕ} {o : Outcome} {t : Tally} {marks′ : List ℕ} (ran : Ran R b l limit o t marks′)
+  module _ {R : Route} {l : Lent} {limit : ℕ} {o : Outcome} {t : Tally} {marks' : List ℕ} (ran : Ran R b l limit o t marks')
       (enough : Enough R (case_of b) l) (r : ℕ) (own : OwnRounds R (case_of b) r) where
     -- (a) A route is spent exactly if its own rounds exceed the limit.
     pub spent_iff : Spent o ↔ limit < r
-    spent_iff = rw (own_one b accepted R r own, number_ran (ran .by)) (spent_number R b l limit accepted enough)
+    spent_iff = rw (own_one b accepted R r own, number_ran ran.by) (spent_number R b l limit accepted enough)
 
     -- (b) Otherwise it gives marks, and reports exactly those rounds, with verdict and count of the formula's meaning.
     pub gives_iff : GivesMarks o ↔ r ≤ limit
-    gives_iff = rw (own_one b accepted R r own, number_ran (ran .by)) (gives_number R b l limit accepted enough)
+    gives_iff = rw (own_one b accepted R r own, number_ran ran.by) (gives_number R b l limit accepted enough)
 
-    pub reports : r ≤ limit → (ρ : Valuation) (v : States) → MeansIn (case_of b) ρ v → o ≡ report_of (case_of b .initial) v r
-    reports h ρ v m = rw (run_means b accepted R ρ (m .0) v (m .1), own_one b accepted R r own) (reported (ran .by) (gives_iff .1 h))
+    pub reports : r ≤ limit → (ρ : Valuation) (v : States) → MeansIn (case_of b) ρ v → o ≡ report_of (case_of b).initial v r
+    reports h ρ v m = rw (run_means b accepted R ρ m.0 v m.1, own_one b accepted R r own) (reported ran.by (gives_iff.1 h))
 
 -- (c) Where a route gives marks, a state is marked exactly if it lies in the formula's meaning, no bit from n up is 1, and the words behind
 -- are as lent.
-module _ {R : Route} {b : List ℕ} {l : Lent} {limit : ℕ} {o : Outcome} {t : Tally} {marks′ : List ℕ} (ran : Ran R b l limit o t marks′) where
+module _ {R : Route} {b : List ℕ} {l : Lent} {limit : ℕ} {o : Outcome} {t : Tally} {marks' : List ℕ} (ran : Ran R b l limit o t marks') where
   accepted_run : GivesMarks o → Accepted b
-  accepted_run g = given R b l limit (sym (number_ran (ran .by)) ∙ g) .0
+  accepted_run g = (given R b l limit (sym (number_ran ran.by) ∙ g)).0
 
-  pub marks_mean : GivesMarks o → (ρ : Valuation) (v : States) → MeansIn (case_of b) ρ v → Marks (case_of b .states) v (l .marks) marks′
+  pub marks_mean : GivesMarks o → (ρ : Valuation) (v : States) → MeansIn (case_of b) ρ v → Marks (case_of b).states v l.marks marks'
   marks_mean g ρ v m =
-      rw (written (ran .by) g, ← run_means b (accepted_run g) R ρ (m .0) v (m .1)) (shows v (l .marks) _ refl (means_sized _ _ _ ρ (m .0) v (m .1)))
+      rw (written ran.by g, ← run_means b (accepted_run g) R ρ m.0 v m.1) (shows v l.marks _ refl (means_sized _ _ _ ρ m.0 v m.1))
 
   -- (d) Any two runs that give marks, by either route and at whatever limits and lent memory, are alike in marks, verdict and count.
-  pub alike : {R′ : Route} {l′ : Lent} {limit′ : ℕ} {o′ : Outcome} {t′ : Tally} {marks″ : List ℕ} → Ran R′ b l′ limit′ o′ t′ marks″ → GivesMarks o → GivesMarks o′
-      → (take word_count marks′ ≡ take word_count marks″) × (o .verdict ≡ o′ .verdict) × (o .count ≡ o′ .count)
-  alike {R′} ran′ g g′ =
-      let same = runs_alike b (accepted_run g) R R′ in (
-        rw (written (ran .by) g, written (ran′ .by) g′, take_words word_count (run_of R (case_of b) .0), take_words word_count (run_of R′ (case_of b) .0), same),
-        rw (reported (ran .by) g, reported (ran′ .by) g′, same),
-        rw (reported (ran .by) g, reported (ran′ .by) g′, same),
+  pub alike : {R' : Route} {l' : Lent} {limit' : ℕ} {o' : Outcome} {t' : Tally} {marks'' : List ℕ} → Ran R' b l' limit' o' t' marks'' → GivesMarks o → GivesMarks o'
+      → (take word_count marks' ≡ take word_count marks'') × (o.verdict ≡ o'.verdict) × (o.count ≡ o'.count)
+  alike {R'} ran' g g' =
+      let same = runs_alike b (accepted_run g) R R' in (
+        rw (written ran.by g, written ran'.by g', take_words word_count (run_of R (case_of b)).0, take_words word_count (run_of R' (case_of b)).0, same),
+        rw (reported ran.by g, reported ran'.by g', same),
+        rw (reported ran.by g, reported ran'.by g', same),
       )
 
   -- (e) What gives marks at a limit gives the same marks and report at each larger one, with whatever memory that is enough.
-  pub larger : {l′ : Lent} {more : ℕ} {o′ : Outcome} {t′ : Tally} {marks″ : List ℕ} → Ran R b l′ more o′ t′ marks″ → Enough R (case_of b) l′ → limit ≤ more → GivesMarks o
-      → (o′ ≡ o) × (marks″ ≡ take word_count marks′ ++ drop word_count (l′ .marks))
-  larger {l′} {more} {o′} ran′ enough h g =
-      let (ok, _, low) = given R b l limit (sym (number_ran (ran .by)) ∙ g) in
-      let g′ : GivesMarks o′ = number_ran (ran′ .by) ∙ gives_number R b l′ more ok enough .1 (omega arith) in
-      let words_are = ap (take word_count) (written (ran .by) g) ∙ take_words word_count (run_of R (case_of b) .0) _ in
-      (reported (ran′ .by) g′ ∙ sym (reported (ran .by) g), written (ran′ .by) g′ ∙ ap (λ (ws : List ℕ). ws ++ drop word_count (l′ .marks)) (sym words_are))
+  pub larger : {l' : Lent} {more : ℕ} {o' : Outcome} {t' : Tally} {marks'' : List ℕ} → Ran R b l' more o' t' marks'' → Enough R (case_of b) l' → limit ≤ more → GivesMarks o
+      → (o' ≡ o) × (marks'' ≡ take word_count marks' ++ drop word_count l'.marks)
+  larger {l'} {more} {o'} ran' enough h g =
+      let (ok, _, low) = given R b l limit (sym (number_ran ran.by) ∙ g) in
+      let g' : GivesMarks o' = number_ran ran'.by ∙ (gives_number R b l' more ok enough).1 (omega arith) in
+      let words_are = ap (take word_count) (written ran.by g) ∙ take_words word_count (run_of R (case_of b)).0 _ in
+      (reported ran'.by g' ∙ sym (reported ran.by g), written ran'.by g' ∙ ap (λ (ws : List ℕ). ws ++ drop word_count l'.marks) (sym words_are))
 
   -- (f) A limit of m + m ^ 2 + .. + m ^ d, for m = n + 1 and the d blocks of the equation file, is never spent.
-  pub never_spent : powers (suc (case_of b .states)) (sizes_of (file b) .blocks) ≤ limit → ¬ Spent o
+  pub never_spent : powers (suc (case_of b).states) (sizes_of (file b)).blocks ≤ limit → ¬ Spent o
   never_spent h s =
-      let z = sym (number_ran (ran .by)) ∙ s in
+      let z = sym (number_ran ran.by) ∙ s in
       omega (arith, spent_over R b l limit z, run_bound b (spent_accepted R b l limit z) R)
 
   -- ---- Demand 1, of any bytes
 
   -- One answer: the report of a set and of rounds, or one number of the conditions, with zeros for verdict, count and rounds.
-  pub one_answer : ((v : States) × (r : ℕ) × (o ≡ report_of (case_of b .initial) v r))
-      ⊎ ((k : ℕ) × List·Memᴰ k (numbers_of (route_conditions R b l limit)) × (o ≡ refused k))
-  one_answer = by-cases (ℕ_discrete (o .refusal) 0)
-      (λ g. inl (run_of R (case_of b) .0, run_of R (case_of b) .1, reported (ran .by) g))
-      (λ d. inr (_, answered_member _ (number_ran (ran .by)) d, refused_with (ran .by) d ∙ ap refused (sym (number_ran (ran .by)))))
+  pub one_answer : ((v : States) × (r : ℕ) × (o ≡ report_of (case_of b).initial v r))
+      ⊎ ((k : ℕ) × Memᴰ k (numbers_of (route_conditions R b l limit)) × (o ≡ refused k))
+  one_answer = by_cases (ℕ_discrete o.refusal 0)
+      (λ g. inl ((run_of R (case_of b)).0, (run_of R (case_of b)).1, reported ran.by g))
+      (λ d. inr (_, answered_member _ (number_ran ran.by) d, refused_with ran.by d ∙ ap refused (sym (number_ran ran.by))))
 
   -- The number is that of the first condition that holds, of the case's own, then 13, then 14; a report says that none does.
-  pub first_condition : (k : ℕ) → ¬ (k ≡ 0) → o .refusal ≡ k ↔ FirstHolds (route_conditions R b l limit) k
-  first_condition = answered_first (route_conditions R b l limit) (number_ran (ran .by))
+  pub first_condition : (k : ℕ) → ¬ (k ≡ 0) → o.refusal ≡ k ↔ FirstHolds (route_conditions R b l limit) k
+  first_condition = answered_first (route_conditions R b l limit) (number_ran ran.by)
 
   pub no_condition : GivesMarks o ↔ NoneHolds (route_conditions R b l limit)
   unfolding route_conditions run_conditions case_conditions layout_conditions model_conditions formula_conditions every
-  no_condition = answered_none (route_conditions R b l limit) (number_ran (ran .by)) tt
+  no_condition = answered_none (route_conditions R b l limit) (number_ran ran.by) tt
 
-  pub never_11_12 : ¬ (o .refusal ≡ 11) × ¬ (o .refusal ≡ 12)
+  pub never_11_12 : ¬ (o.refusal ≡ 11) × ¬ (o.refusal ≡ 12)
   unfolding route_conditions run_conditions case_conditions layout_conditions model_conditions formula_conditions every
   never_11_12 = (
-    λ e. apart 11 (route_conditions R b l limit) (λ z. omega arith) tt (sym (number_ran (ran .by)) ∙ e),
-    λ e. apart 12 (route_conditions R b l limit) (λ z. omega arith) tt (sym (number_ran (ran .by)) ∙ e),
+    λ e. apart 11 (route_conditions R b l limit) (λ z. omega arith) tt (sym (number_ran ran.by) ∙ e),
+    λ e. apart 12 (route_conditions R b l limit) (λ z. omega arith) tt (sym (number_ran ran.by) ∙ e),
   )
 
   -- Only an accepted case with enough lent memory gives marks.
   pub gives_only : GivesMarks o → Accepted b × Enough R (case_of b) l
-  gives_only g = let (ok, enough, _) = given R b l limit (sym (number_ran (ran .by)) ∙ g) in (ok, enough)
+  gives_only g = let (ok, enough, _) = given R b l limit (sym (number_ran ran.by) ∙ g) in (ok, enough)
 
   -- A refusal leaves the marks as they were.
-  pub marks_kept : ¬ GivesMarks o → marks′ ≡ l .marks
-  marks_kept = kept (ran .by)
+  pub marks_kept : ¬ GivesMarks o → marks' ≡ l.marks
+  marks_kept = kept ran.by
 
   -- ---- The count, a word at a time
 
   -- The count is the sum of the ones of the set's words in the marks, and the number of states below n whose bit is 1.
-  pub count_ones : GivesMarks o → (o .count ≡ ones_of (take word_count marks′)) × (o .count ≡ marked_below marks′ (case_of b .states))
+  pub count_ones : GivesMarks o → (o.count ≡ ones_of (take word_count marks')) × (o.count ≡ marked_below marks' (case_of b).states)
   unfolding case_of
   count_ones g =
       let ok = accepted_run g in
-      rw (reported (ran .by) g)
-      (marks_size (passed b ok .lies .counts .few_states) (shows (run_of R (case_of b) .0) (l .marks) marks′ (written (ran .by) g) (run_sized b ok R)))
+      rw (reported ran.by g)
+      (marks_size (passed b ok).lies.counts.few_states (shows (run_of R (case_of b)).0 l.marks marks' (written ran.by g) (run_sized b ok R)))
 
 -- ---- How many records were copies, of any bytes
 
 -- no number of a case's own conditions is 0, 13 or 14
-own_numbers : (b : List ℕ) (k : ℕ) → List·Memᴰ k (0 ∷ 13 ∷ 14 ∷ []) → ¬ List·Memᴰ k (numbers_of (case_conditions b))
+own_numbers : (b : List ℕ) (k : ℕ) → Memᴰ k (0 ∷ 13 ∷ 14 ∷ []) → ¬ Memᴰ k (numbers_of (case_conditions b))
 unfolding case_conditions layout_conditions model_conditions formula_conditions every
-own_numbers b k (List·Memᴰ·head e) m = absent 0 (case_conditions b) tt (rw e at m)
-own_numbers b k (List·Memᴰ·tail (List·Memᴰ·head e)) m = absent 13 (case_conditions b) tt (rw e at m)
-own_numbers b k (List·Memᴰ·tail (List·Memᴰ·tail (List·Memᴰ·head e))) m = absent 14 (case_conditions b) tt (rw e at m)
+own_numbers b k (Memᴰ.head e) m = absent 0 (case_conditions b) tt (rw e at m)
+own_numbers b k (Memᴰ.tail (Memᴰ.head e)) m = absent 13 (case_conditions b) tt (rw e at m)
+own_numbers b k (Memᴰ.tail (Memᴰ.tail (Memᴰ.head e))) m = absent 14 (case_conditions b) tt (rw e at m)
 
 -- a run over a case answers no others
-run_numbers : (R : Route) (c : Case) (l : Lent) (limit : ℕ) → List·Memᴰ (first_of (run_conditions R c l limit)) (0 ∷ 13 ∷ 14 ∷ [])
+run_numbers : (R : Route) (c : Case) (l : Lent) (limit : ℕ) → Memᴰ (first_of (run_conditions R c l limit)) (0 ∷ 13 ∷ 14 ∷ [])
 unfolding run_conditions
-run_numbers R c l limit = by-cases (ℕ_discrete (first_of (run_conditions R c l limit)) 0) List·Memᴰ·head (λ d. List·Memᴰ·tail (member (run_conditions R c l limit) d))
+run_numbers R c l limit = by_cases (ℕ_discrete (first_of (run_conditions R c l limit)) 0) Memᴰ.head (λ d. Memᴰ.tail (member (run_conditions R c l limit) d))
 
-module _ {R : Route} {b : List ℕ} {l : Lent} {limit : ℕ} {o : Outcome} {t : Tally} {marks′ : List ℕ} (ran : Ran R b l limit o t marks′) where
+module _ {R : Route} {b : List ℕ} {l : Lent} {limit : ℕ} {o : Outcome} {t : Tally} {marks' : List ℕ} (ran : Ran R b l limit o t marks') where
   -- A case is accepted exactly if a route answers none of the numbers of its own conditions.
-  pub accepted_iff : Accepted b ↔ ¬ List·Memᴰ (o .refusal) (numbers_of (case_conditions b))
+  pub accepted_iff : Accepted b ↔ ¬ Memᴰ o.refusal (numbers_of (case_conditions b))
   unfolding case_refusal
   accepted_iff = (
-    (λ ok m. own_numbers b _ (rw (number_ran (ran .by) ∙ case_accepted R b l limit ok) (run_numbers R (case_of b) l limit)) m),
-    λ d. by-cases (ℕ_discrete (case_refusal b) 0) (λ z. z)
-        (λ n. absurd (d (rw (number_ran (ran .by) ∙ case_refused R b l limit n) (member (case_conditions b) n)))),
+    (λ ok m. own_numbers b _ (rw (number_ran ran.by ∙ case_accepted R b l limit ok) (run_numbers R (case_of b) l limit)) m),
+    λ d. by_cases (ℕ_discrete (case_refusal b) 0) (λ z. z)
+        (λ n. absurd (d (rw (number_ran ran.by ∙ case_refused R b l limit n) (member (case_conditions b) n)))),
   )
 
   -- After one of those numbers both numbers of the tally are 0. After a report (0), 13 and 14 they are those of the case's table.
-  pub tally_none : List·Memᴰ (o .refusal) (numbers_of (case_conditions b)) → t ≡ no_tally
-  tally_none m = ran .tally_is ∙ tally_refused b (λ ok. accepted_iff .0 ok m)
+  pub tally_none : Memᴰ o.refusal (numbers_of (case_conditions b)) → t ≡ no_tally
+  tally_none m = ran.tally_is ∙ tally_refused b (λ ok. accepted_iff.0 ok m)
 
-  pub tally_carried : List·Memᴰ (o .refusal) (0 ∷ 13 ∷ 14 ∷ []) → t ≡ tallied (case_of b .transitions)
-  tally_carried m = ran .tally_is ∙ tally_accepted b (accepted_iff .1 (own_numbers b _ m))
+  pub tally_carried : Memᴰ o.refusal (0 ∷ 13 ∷ 14 ∷ []) → t ≡ tallied (case_of b).transitions
+  tally_carried m = ran.tally_is ∙ tally_accepted b (accepted_iff.1 (own_numbers b _ m))
 
   -- Both routes give the same two numbers, whatever is lent and whatever the limit.
-  pub tally_alike : {R′ : Route} {l′ : Lent} {limit′ : ℕ} {o′ : Outcome} {t′ : Tally} {marks″ : List ℕ} → Ran R′ b l′ limit′ o′ t′ marks″ → t ≡ t′
-  tally_alike ran′ = ran .tally_is ∙ sym (ran′ .tally_is)
+  pub tally_alike : {R' : Route} {l' : Lent} {limit' : ℕ} {o' : Outcome} {t' : Tally} {marks'' : List ℕ} → Ran R' b l' limit' o' t' marks'' → t ≡ t'
+  tally_alike ran' = ran.tally_is ∙ sym ran'.tally_is
 
   -- No more are distinct than there are.
-  pub distinct_most : t .distinct ≤ t .records
+  pub distinct_most : t.distinct ≤ t.records
   unfolding tallied
-  distinct_most = by-cases (ℕ_discrete (case_refusal b) 0)
-      (λ ok. rw (ran .tally_is ∙ tally_accepted b ok) (length_distinct (case_of b .transitions)))
-      (λ d. rw (ran .tally_is ∙ tally_refused b d) (omega arith))
+  distinct_most = by_cases (ℕ_discrete (case_refusal b) 0)
+      (λ ok. rw (ran.tally_is ∙ tally_accepted b ok) (length_distinct (case_of b).transitions))
+      (λ d. rw (ran.tally_is ∙ tally_refused b d) (omega arith))
 
   module _ (accepted : Accepted b) where
     -- An accepted case has the tally of its table, whatever is answered.
-    pub tally_table : t ≡ tallied (case_of b .transitions)
-    tally_table = ran .tally_is ∙ tally_accepted b accepted
+    pub tally_table : t ≡ tallied (case_of b).transitions
+    tally_table = ran.tally_is ∙ tally_accepted b accepted
 
     -- There are as many exactly if no record has a copy.
-    pub no_copies : t .records ≡ t .distinct ↔ List·Nodup (case_of b .transitions)
+    pub no_copies : t.records ≡ t.distinct ↔ Nodup (case_of b).transitions
     unfolding tallied
-    no_copies = rw tally_table (distinct_all (case_of b .transitions))
+    no_copies = rw tally_table (distinct_all (case_of b).transitions)
 
     -- They do not depend on the order of the records.
-    pub any_order : {R′ : Route} {b′ : List ℕ} {l′ : Lent} {limit′ : ℕ} {o′ : Outcome} {t′ : Tally} {marks″ : List ℕ} → Ran R′ b′ l′ limit′ o′ t′ marks″
-        → Accepted b′ → Perm (case_of b .transitions) (case_of b′ .transitions) → t ≡ t′
-    any_order {b′ = b′} ran′ accepted′ p =
-        tally_table ∙ tallied_order (case_of b .transitions) (case_of b′ .transitions) p
-        ∙ sym (ran′ .tally_is ∙ tally_accepted b′ accepted′)
+    pub any_order : {R' : Route} {b' : List ℕ} {l' : Lent} {limit' : ℕ} {o' : Outcome} {t' : Tally} {marks'' : List ℕ} → Ran R' b' l' limit' o' t' marks''
+        → Accepted b' → Perm (case_of b).transitions (case_of b').transitions → t ≡ t'
+    any_order {b' = b'} ran' accepted' p =
+        tally_table ∙ tallied_order (case_of b).transitions (case_of b').transitions p
+        ∙ sym (ran'.tally_is ∙ tally_accepted b' accepted')
 
     -- The answer and the marks of an accepted case are by 13 and 14 only.
-    by_run : RanBy (run_conditions R (case_of b) l limit) R (case_of b) (l .marks) o marks′
-    by_run = ran_first (case_accepted R b l limit accepted) (ran .by)
+    by_run : RanBy (run_conditions R (case_of b) l limit) R (case_of b) l.marks o marks'
+    by_run = ran_first (case_accepted R b l limit accepted) ran.by
 
 -- ---- Which transitions there are
 
 -- Two cases with the same states, initial state and formula, and the same set of transitions: neither the order of the records
 -- nor a recorded copy matters.
-module _ (b b′ : List ℕ) (same : SameTransitionSet (case_of b) (case_of b′)) where
+module _ (b b' : List ℕ) (same : SameTransitionSet (case_of b) (case_of b')) where
   -- Their formula means the same.
-  pub same_meaning : (ρ : Valuation) (v : States) → MeansIn (case_of b) ρ v → MeansIn (case_of b′) ρ v
+  pub same_meaning : (ρ : Valuation) (v : States) → MeansIn (case_of b) ρ v → MeansIn (case_of b') ρ v
   same_meaning = means_same same
 
-  module _ (accepted : Accepted b) (accepted′ : Accepted b′) where
+  module _ (accepted : Accepted b) (accepted' : Accepted b') where
     -- Where both are accepted, direct has the same own rounds,
-    pub same_rounds : (r : ℕ) → OwnRounds direct (case_of b) r → OwnRounds direct (case_of b′) r
-    same_rounds r own = rw (own_one b accepted direct r own, run_same same) (own_exists b′ accepted′ direct)
+    pub same_rounds : (r : ℕ) → OwnRounds direct (case_of b) r → OwnRounds direct (case_of b') r
+    same_rounds r own = rw (own_one b accepted direct r own, run_same same) (own_exists b' accepted' direct)
 
     -- and it answers the same and leaves the same marks, whatever is lent and whatever the limit. The tally counts copies, so it may differ.
-    pub same_answers : {l : Lent} {limit : ℕ} {o o′ : Outcome} {t t′ : Tally} {marks′ marks″ : List ℕ} → Ran direct b l limit o t marks′
-        → Ran direct b′ l limit o′ t′ marks″ → (o ≡ o′) × (marks′ ≡ marks″)
-    same_answers {l} {limit} ran ran′ =
+    pub same_answers : {l : Lent} {limit : ℕ} {o o' : Outcome} {t t' : Tally} {marks' marks'' : List ℕ} → Ran direct b l limit o t marks'
+        → Ran direct b' l limit o' t' marks'' → (o ≡ o') × (marks' ≡ marks'')
+    same_answers {l} {limit} ran ran' =
         let one = ran_same same l limit (by_run ran accepted) in
-        let two = by_run ran′ accepted′ in
-        (one .answers ∙ sym (two .answers), one .marks_are ∙ sym (two .marks_are))
+        let two = by_run ran' accepted' in
+        (one.answers ∙ sym two.answers, one.marks_are ∙ sym two.marks_are)
 
 -- ---- Events that fire together
 
 -- Two accepted cases that are the same case: whatever the route, the lent memory and the limit, answer, tally and marks are the same.
-module _ {R : Route} {b b′ : List ℕ} {l : Lent} {limit : ℕ} {o o′ : Outcome} {t t′ : Tally} {marks′ marks″ : List ℕ} (ran : Ran R b l limit o t marks′)
-    (ran′ : Ran R b′ l limit o′ t′ marks″) (accepted : Accepted b) (accepted′ : Accepted b′) where
-  pub same_runs : case_of b ≡ case_of b′ → (o ≡ o′) × (t ≡ t′) × (marks′ ≡ marks″) × (file b ≡ file b′)
+module _ {R : Route} {b b' : List ℕ} {l : Lent} {limit : ℕ} {o o' : Outcome} {t t' : Tally} {marks' marks'' : List ℕ} (ran : Ran R b l limit o t marks')
+    (ran' : Ran R b' l limit o' t' marks'') (accepted : Accepted b) (accepted' : Accepted b') where
+  pub same_runs : case_of b ≡ case_of b' → (o ≡ o') × (t ≡ t') × (marks' ≡ marks'') × (file b ≡ file b')
   same_runs e =
       let one = by_run ran accepted in
-      let two = by_run ran′ accepted′ in (
-        one .answers ∙ rw e (sym (two .answers)),
-        tally_table ran accepted ∙ rw e (sym (tally_table ran′ accepted′)),
-        one .marks_are ∙ rw e (sym (two .marks_are)),
+      let two = by_run ran' accepted' in (
+        one.answers ∙ rw e (sym two.answers),
+        tally_table ran accepted ∙ rw e (sym (tally_table ran' accepted')),
+        one.marks_are ∙ rw e (sym two.marks_are),
         ap file_of e,
       )
 
   -- A version 2 case whose label records are all different as multisets answers as the version 1 case with the same tables does,
-  pub different_names : SameTables b b′ → version b ≡ 2 → version b′ ≡ 1
-      → ((j x : ℕ) → j < header_of b .labels → x < header_of b .labels → T (same_names (label_names (label_table b) j) (label_names (label_table b) x)) → j ≡ x)
-      → (o ≡ o′) × (t ≡ t′) × (marks′ ≡ marks″) × (file b ≡ file b′)
-  different_names s two one d = same_runs (different_case b b′ accepted s two one d)
+  pub different_names : SameTables b b' → version b ≡ 2 → version b' ≡ 1
+      → ((j x : ℕ) → j < (header_of b).labels → x < (header_of b).labels → T (same_names (label_names (label_table b) j) (label_names (label_table b) x)) → j ≡ x)
+      → (o ≡ o') × (t ≡ t') × (marks' ≡ marks'') × (file b ≡ file b')
+  different_names s two one d = same_runs (different_case b b' accepted s two one d)
 
   -- and the order of the names in a record does not matter.
-  pub permuted_names : SameTables b b′ → version b ≡ version b′ → ((j : ℕ) → Perm (label_names (label_table b) j) (label_names (label_table b′) j))
-      → (o ≡ o′) × (t ≡ t′) × (marks′ ≡ marks″) × (file b ≡ file b′)
-  permuted_names s v p = same_runs (permuted_case b b′ accepted s v p)
+  pub permuted_names : SameTables b b' → version b ≡ version b' → ((j : ℕ) → Perm (label_names (label_table b) j) (label_names (label_table b') j))
+      → (o ≡ o') × (t ≡ t') × (marks' ≡ marks'') × (file b ≡ file b')
+  permuted_names s v p = same_runs (permuted_case b b' accepted s v p)
 
 -- The equation route's file and working bytes.
-module _ {b : List ℕ} {l : Lent} {limit : ℕ} {o : Outcome} {t : Tally} {file′ work′ marks′ : List ℕ} (e : EquationRan b l limit o t file′ work′ marks′) where
+module _ {b : List ℕ} {l : Lent} {limit : ℕ} {o : Outcome} {t : Tally} {file' work' marks' : List ℕ} (e : EquationRan b l limit o t file' work' marks') where
   -- It writes the file of an accepted case where there is room for it, whatever solve then answers; otherwise the buffer is unchanged.
-  pub file_written : Accepted b → length (file b) ≤ length (l .file) → file′ ≡ file b ++ drop (length (file b)) (l .file)
+  pub file_written : Accepted b → length (file b) ≤ length l.file → file' ≡ file b ++ drop (length (file b)) l.file
   unfolding file_after
-  file_written ok h = e .file_is ∙ rw (unrefused b (length (l .file)) .1 (ok, h))
+  file_written ok h = e.file_is ∙ rw ((unrefused b (length l.file)).1 (ok, h))
 
-  pub file_kept : ¬ (Accepted b × (length (file b) ≤ length (l .file))) → file′ ≡ l .file
+  pub file_kept : ¬ (Accepted b × (length (file b) ≤ length l.file)) → file' ≡ l.file
   unfolding file_after
-  file_kept h = e .file_is ∙ refusing _ _ _ (λ z. h (unrefused b (length (l .file)) .0 z))
+  file_kept h = e.file_is ∙ refusing _ _ _ (λ z. h ((unrefused b (length l.file)).0 z))
 
   -- After success the working bytes are the cells' values under the standard solution of all blocks, and the bytes behind are as lent.
-  pub work_solved : GivesMarks o → (ρ σ : Valuation) → Sized (sizes_of (file b) .states) ρ → StandardSolution (file b) ρ σ
-      → (vs : List Bool) → Values (cells (file b)) σ vs → work′ ≡ map bit vs ++ drop (sizes_of (file b) .cells) (l .work)
+  pub work_solved : GivesMarks o → (ρ σ : Valuation) → Sized (sizes_of (file b)).states ρ → StandardSolution (file b) ρ σ
+      → (vs : List Bool) → Values (cells (file b)) σ vs → work' ≡ map bit vs ++ drop (sizes_of (file b)).cells l.work
   unfolding work_after
   work_solved g ρ σ start s vs v =
-      let z = sym (number_ran (e .ran .by)) ∙ g in
-      let ok = given equation b l limit z .0 in
-      rw (own_values (well_formed b ok) ρ σ start s vs v) (e .work_is (λ s. omega (arith, sym g ∙ s)) ∙ rw z)
+      let z = sym (number_ran e.ran.by) ∙ g in
+      let ok = (given equation b l limit z).0 in
+      rw (own_values (well_formed b ok) ρ σ start s vs v) (e.work_is (λ s. omega (arith, sym g ∙ s)) ∙ rw z)
 
   -- A refusal but 14 leaves them as they were; after 14 each of the first c is 0 or 1, and the rest is unchanged.
-  pub work_kept : ¬ GivesMarks o → ¬ Spent o → work′ ≡ l .work
+  pub work_kept : ¬ GivesMarks o → ¬ Spent o → work' ≡ l.work
   unfolding work_after
-  work_kept d n = e .work_is n ∙ refusing _ _ _ (λ z. d (number_ran (e .ran .by) ∙ z))
+  work_kept d n = e.work_is n ∙ refusing _ _ _ (λ z. d (number_ran e.ran.by ∙ z))
 
-  pub work_spent : Spent o → Scratch (sizes_of (file b) .cells) (l .work) work′
-  work_spent = e .work_14
+  pub work_spent : Spent o → Scratch (sizes_of (file b)).cells l.work work'
+  work_spent = e.work_14
 
   -- The number is translate's, or where that is 0 solve's on the file.
-  pub in_turn : o .refusal
-      ≡ by_refusal (translate_refusal b (length (l .file))) (solve_refusal (file b) (length (l .work)) (length (l .marks)) limit) (translate_refusal b (length (l .file)))
-  in_turn = number_ran (e .ran .by) ∙ translate_then_solve b l limit
+  pub in_turn : o.refusal
+      ≡ by_refusal (translate_refusal b (length l.file)) (solve_refusal (file b) (length l.work) (length l.marks) limit) (translate_refusal b (length l.file))
+  in_turn = number_ran e.ran.by ∙ translate_then_solve b l limit

@@ -1,44 +1,44 @@
 -- Evaluating from the root: what the evaluator is handed and answers there, and the three parts of an accepted case.
-use mathlib.Core.Path.{_≡_, sym, _∙_}
+use mathlib.Core.Path.{◌≡◌, sym, ◌∙◌}
 use mathlib.Core.Bool.{false}
 use mathlib.Core.List.{List, []}
-use Prim.Native.Nat.{ℕ, _+_, _<_, _≤_}
+use Prim.Native.Nat.{ℕ, ◌+◌, ◌<◌, ◌≤◌}
 use native.Mathlib.Omega.{arith}
 use borrow.Author.Tests.{ltb-false}
-use borrow.Rule.Slice.PartAt.{part-to-end}
-use lib.ListN.{length, take, replicate, length-replicate, getD-replicate}
-use Rattle·sets.specs.Words.{words, word_count}
-use Rattle·sets.specs.computed.Iteration.{Worked}
-use Rattle·sets.proofs.Words.{words_none}
-use Rattle·solver.specs.File.{block_limit}
-use Rattle·sets.specs.States.{all_empty}
-use Rattle·cases.specs.Action.{Action}
-use Rattle·cases.specs.declared.Header.{Header}
-use Rattle·cases.specs.declared.Node.{Node}
-use Rattle·cases.specs.Prefix.{formula_at}
-use Rattle·cases.specs.File.{header_of, label_table, transition_table, action_table, formula_table, node_limit}
-use Rattle·cases.specs.Case.{case_of}
-use Rattle·cases.specs.declared.Tally.{Tally}
-use Rattle·cases.specs.Tally.{tally_of}
-use Rattle·cases.specs.Conditions.{binder_count, block_total, too_deep, Accepted}
-use Rattle·sets.specs.Refusals.{Outcome}
-use Rattle·cases.specs.internal.Checks.{labels_in, transitions_in, nodes_in}
-use Rattle·cases.specs.internal.Masks.{action_in, ActionMasks}
-use Rattle·cases.proofs.Accepting.{Passed, passed}
-use Rattle·cases.proofs.TableTrees.{formula_table_lem, root}
-use Rattle·cases.proofs.Masks.{whole_actions}
-use Rattle·cases.proofs.ModelRules.{labels_inside, transitions_inside, actions_inside, nodes_inside}
-use Rattle·cases.proofs.Tallies.{model_holds, part_at}
-use Rattle·cases.proofs.FormulaRules.{length_nodes}
-use Rattle·routes·specs.specs.declared.Value.{Value}
-use Rattle·routes·specs.specs.computed.Worked.{worked}
-use Rattle·routes·specs.specs.Route.{direct, run_of, marks_only, run_conditions, RanBy, Ran}
-use Rattle·routes·specs.specs.internal.Answering.{Rooted}
-use Rattle·routes·specs.specs.internal.Evaluating.{Records, FormulaPart, case_in, CaseParts, BinderBlocks, Shown, Asks, Rule, Evaluated}
-use Rattle·routes·proofs.proofs.DirectLaws.{direct_exists}
-use Rattle·routes·proofs.proofs.TableLaws.{binders_before}
-use Rattle·routes·proofs.proofs.RouteLaws.{case_accepted}
-use Rattle·routes·proofs.proofs.DirectAnswers.{ran_first}
+use borrow.Author.Rules.{part_to_end}
+use lib.ListN.{length, take, replicate, length-replicate, get_or-replicate}
+use Rattle.sets.specs.Words.{words, word_count}
+use Rattle.sets.specs.computed.Iteration.{Worked}
+use Rattle.sets.proofs.Words.{words_none}
+use Rattle.solver.specs.File.{block_limit}
+use Rattle.sets.specs.States.{all_empty}
+use Rattle.cases.specs.Action.{Action}
+use Rattle.cases.specs.declared.Header.{Header}
+use Rattle.cases.specs.declared.Node.{Node}
+use Rattle.cases.specs.Prefix.{formula_at}
+use Rattle.cases.specs.File.{header_of, label_table, transition_table, action_table, formula_table, node_limit}
+use Rattle.cases.specs.Case.{case_of}
+use Rattle.cases.specs.declared.Tally.{Tally}
+use Rattle.cases.specs.Tally.{tally_of}
+use Rattle.cases.specs.Conditions.{binder_count, block_total, too_deep, Accepted}
+use Rattle.sets.specs.Refusals.{Outcome}
+use Rattle.cases.specs.internal.Checks.{labels_in, transitions_in, nodes_in}
+use Rattle.cases.specs.internal.Masks.{action_in, ActionMasks}
+use Rattle.cases.proofs.Accepting.{Passed, passed}
+use Rattle.cases.proofs.TableTrees.{formula_table_lem, root}
+use Rattle.cases.proofs.Masks.{whole_actions}
+use Rattle.cases.proofs.ModelRules.{labels_inside, transitions_inside, actions_inside, nodes_inside}
+use Rattle.cases.proofs.Tallies.{model_holds, part_at}
+use Rattle.cases.proofs.FormulaRules.{length_nodes}
+use Rattle.routes.specs.declared.Value.{Value}
+use Rattle.routes.specs.computed.Worked.{worked}
+use Rattle.routes.specs.Route.{direct, run_of, marks_only, run_conditions, RanBy, Ran}
+use Rattle.routes.specs.internal.Answering.{Rooted}
+use Rattle.routes.specs.internal.Evaluating.{Records, FormulaPart, case_in, CaseParts, BinderBlocks, Shown, Asks, Rule, Evaluated}
+use Rattle.routes.proofs.DirectLaws.{direct_exists}
+use Rattle.routes.proofs.TableLaws.{binders_before}
+use Rattle.routes.proofs.RouteLaws.{case_accepted}
+use Rattle.routes.proofs.DirectAnswers.{ran_first}
 
 -- ---- from the parts
 
@@ -46,7 +46,7 @@ use Rattle·routes·proofs.proofs.DirectAnswers.{ran_first}
 some_node : {part : List ℕ} {f a : ℕ} → FormulaPart part f a → 0 < f
 some_node {part} {f} {a} p =
     let t : List Node = nodes_in part f in
-    omega (arith, root t (formula_table_lem a t (p .formed)), length_nodes part f)
+    omega (arith, root t (formula_table_lem a t p.formed), length_nodes part f)
 
 -- before any round every set is empty
 none_shown : (n : ℕ) (t : List Node) → binder_count t ≤ block_limit → Shown n t (replicate block_limit (replicate word_count 0)) (all_empty n)
@@ -54,19 +54,19 @@ none_shown n t few = record {
   sized = λ i. length-replicate n false;
   row = λ i h e.
       let low : binder_count (take i t) < block_limit = omega (arith, binders_before t i h e) in
-      getD-replicate block_limit (binder_count (take i t)) (replicate word_count 0) [] low ∙ words_none word_count n;
+      get_or-replicate block_limit (binder_count (take i t)) (replicate word_count 0) [] low ∙ words_none word_count n;
 }
 
-module _ {h : Header} {records formula masks : List ℕ} (limit : ℕ) (nodes : FormulaPart formula (h .nodes) (h .actions)) where
+module _ {h : Header} {records formula masks : List ℕ} (limit : ℕ) (nodes : FormulaPart formula h.nodes h.actions) where
   -- what the evaluator is handed at the root
-  pub root_asked : {blocks : List ℕ} → Records records (h .transitions) (h .states) (h .labels) → h .actions ≤ length masks
-      → length blocks ≡ node_limit → BinderBlocks (nodes_in formula (h .nodes)) blocks → Asks h records formula masks blocks 0 0 limit
+  pub root_asked : {blocks : List ℕ} → Records records h.transitions h.states h.labels → h.actions ≤ length masks
+      → length blocks ≡ node_limit → BinderBlocks (nodes_in formula h.nodes) blocks → Asks h records formula masks blocks 0 0 limit
   root_asked model l b numbered = record {
     parts = record {
       model = model;
       nodes = nodes;
       masks_room = l;
-      blocks_room = omega (arith, nodes .holds .few);
+      blocks_room = omega (arith, nodes.holds.few);
       numbered = numbered;
     };
     node = some_node nodes;
@@ -74,33 +74,33 @@ module _ {h : Header} {records formula masks : List ℕ} (limit : ℕ) (nodes : 
   }
 
   -- what it answers there
-  root_worked : {action : ℕ → Action} {o : Value} → ActionMasks action (h .actions) masks
+  root_worked : {action : ℕ → Action} {o : Value} → ActionMasks action h.actions masks
       → Evaluated h records formula masks (replicate block_limit (replicate word_count 0)) 0 0 limit o
-      → Rooted (worked (h .states) (transitions_in records (h .transitions)) (formula_at action (nodes_in formula (h .nodes)) 0) (all_empty (h .states)))
+      → Rooted (worked h.states (transitions_in records h.transitions) (formula_at action (nodes_in formula h.nodes) 0) (all_empty h.states))
       limit o
   root_worked {action} {o} are e =
-      let n : ℕ = h .states in
-      let t : List Node = nodes_in formula (h .nodes) in
-      let w : Worked = worked n (transitions_in records (h .transitions)) (formula_at action t 0) (all_empty n) in
-      let shown = none_shown n t (nodes .shallow) in
-      let given : Rule h records formula masks (replicate block_limit (replicate word_count 0)) 0 0 limit action (all_empty n) (w .0) (w .1) =
-      (are, shown, direct_exists n (transitions_in records (h .transitions)) (formula_at action t 0) (all_empty n) (shown .sized)) in
-      let right : o .spent ≡ false → (o .rounds ≡ 0 + w .1) × (o .set ≡ words word_count (w .0)) =
-      λ z. e .right z action (all_empty n) (w .0) (w .1) given in
+      let n : ℕ = h.states in
+      let t : List Node = nodes_in formula h.nodes in
+      let w : Worked = worked n (transitions_in records h.transitions) (formula_at action t 0) (all_empty n) in
+      let shown = none_shown n t nodes.shallow in
+      let given : Rule h records formula masks (replicate block_limit (replicate word_count 0)) 0 0 limit action (all_empty n) w.0 w.1 =
+      (are, shown, direct_exists n (transitions_in records h.transitions) (formula_at action t 0) (all_empty n) shown.sized) in
+      let right : o.spent ≡ false → (o.rounds ≡ 0 + w.1) × (o.set ≡ words word_count w.0) =
+      λ z. e.right z action (all_empty n) w.0 w.1 given in
       record {
-        over = λ z. omega (arith, e .over z action (all_empty n) (w .0) (w .1) given);
-        within = λ z. omega (arith, e .high z, right z .0);
-        rounds = λ z. omega (arith, right z .0);
-        set = λ z. right z .1;
+        over = λ z. omega (arith, e.over z action (all_empty n) w.0 w.1 given);
+        within = λ z. omega (arith, e.high z, (right z).0);
+        rounds = λ z. omega (arith, (right z).0);
+        set = λ z. (right z).1;
       }
 
 -- and so of the case that the parts give
 pub root_answer : {h : Header} {labels records actions formula masks : List ℕ} {limit : ℕ} {o : Value} → CaseParts h labels records actions formula
-    → ActionMasks (action_in h labels actions) (h .actions) masks
+    → ActionMasks (action_in h labels actions) h.actions masks
     → Evaluated h records formula masks (replicate block_limit (replicate word_count 0)) 0 0 limit o
     → Rooted (run_of direct (case_in h labels records actions formula)) limit o
 unfolding run_of case_in
-root_answer {limit = limit} parts are e = root_worked limit (parts .formula_part_lem) are e
+root_answer {limit = limit} parts are e = root_worked limit parts.formula_part_lem are e
 
 -- ---- an accepted case
 
@@ -111,42 +111,42 @@ few_binders t e = omega (arith, ltb-false block_limit (block_total t) e)
 
 module _ (b : List ℕ) (accepted : Accepted b) where
   -- The parts of an accepted case at the offsets of its header are as the evaluator asks,
-  header_parts : CaseParts (header_of b) (part_at b (header_of b .«labels_at»)) (part_at b (header_of b .«transitions_at»)) (part_at b (header_of b .«actions_at»)) (part_at b (header_of b .«formula_at_lem»))
+  header_parts : CaseParts (header_of b) (part_at b (header_of b).labels_at) (part_at b (header_of b).transitions_at) (part_at b (header_of b).actions_at) (part_at b (header_of b).formula_at)
   unfolding transition_table action_table formula_table transitions_in nodes_in
   header_parts =
       let good : Passed b = passed b accepted in
-      let l = good .lies in
+      let l = good.lies in
       record {
-        model = rw (part-to-end b (header_of b .«transitions_at»)) (record {
+        model = rw (part_to_end b (header_of b).transitions_at) (record {
           inside = transitions_inside l;
-          ok = model_holds b (good .model) .1;
-          few_states = l .counts .few_states;
-          few_labels = l .counts .few_labels;
+          ok = (model_holds b good.model).1;
+          few_states = l.counts.few_states;
+          few_labels = l.counts.few_labels;
         });
-        initial = model_holds b (good .model) .0;
-        label_part_lem = rw (part-to-end b (header_of b .«labels_at»)) (labels_inside l);
-        action_part_lem = rw (part-to-end b (header_of b .«actions_at»)) (actions_inside l);
-        whole_actions = rw (part-to-end b (header_of b .«actions_at»)) (whole_actions b (good .actions));
-        formula_part_lem = rw (part-to-end b (header_of b .«formula_at_lem»)) (record {
+        initial = (model_holds b good.model).0;
+        label_part_lem = rw (part_to_end b (header_of b).labels_at) (labels_inside l);
+        action_part_lem = rw (part_to_end b (header_of b).actions_at) (actions_inside l);
+        whole_actions = rw (part_to_end b (header_of b).actions_at) (whole_actions b good.actions);
+        formula_part_lem = rw (part_to_end b (header_of b).formula_at) (record {
           holds = nodes_inside l;
-          formed = good .formula;
-          bound = good .variables;
-          shallow = few_binders (formula_table b) (good .depth);
+          formed = good.formula;
+          bound = good.variables;
+          shallow = few_binders (formula_table b) good.depth;
         });
       }
 
   -- and their case is the case of the bytes.
-  header_case : case_in (header_of b) (part_at b (header_of b .«labels_at»)) (part_at b (header_of b .«transitions_at»)) (part_at b (header_of b .«actions_at»)) (part_at b (header_of b .«formula_at_lem»)) ≡ case_of b
+  header_case : case_in (header_of b) (part_at b (header_of b).labels_at) (part_at b (header_of b).transitions_at) (part_at b (header_of b).actions_at) (part_at b (header_of b).formula_at) ≡ case_of b
   unfolding case_in case_of label_table transition_table action_table formula_table labels_in transitions_in nodes_in
-  header_case = rw (part-to-end b (header_of b .«labels_at»), part-to-end b (header_of b .«transitions_at»), part-to-end b (header_of b .«actions_at»), part-to-end b (header_of b .«formula_at_lem»))
+  header_case = rw (part_to_end b (header_of b).labels_at, part_to_end b (header_of b).transitions_at, part_to_end b (header_of b).actions_at, part_to_end b (header_of b).formula_at)
 
   module _ {h : Header} (is : h ≡ header_of b) where
-    pub case_parts : CaseParts h (part_at b (h .«labels_at»)) (part_at b (h .«transitions_at»)) (part_at b (h .«actions_at»)) (part_at b (h .«formula_at_lem»))
+    pub case_parts : CaseParts h (part_at b h.labels_at) (part_at b h.transitions_at) (part_at b h.actions_at) (part_at b h.formula_at)
     case_parts = rw is header_parts
 
     -- So what direct promises from the parts it promises of the case.
     pub case_ran : {marks : List ℕ} {limit : ℕ} {o : Outcome} {after : List ℕ}
-        → RanBy (run_conditions direct (case_in h (part_at b (h .«labels_at»)) (part_at b (h .«transitions_at»)) (part_at b (h .«actions_at»)) (part_at b (h .«formula_at_lem»))) (marks_only marks) limit) direct
-        (case_in h (part_at b (h .«labels_at»)) (part_at b (h .«transitions_at»)) (part_at b (h .«actions_at»)) (part_at b (h .«formula_at_lem»))) marks o after
+        → RanBy (run_conditions direct (case_in h (part_at b h.labels_at) (part_at b h.transitions_at) (part_at b h.actions_at) (part_at b h.formula_at)) (marks_only marks) limit) direct
+        (case_in h (part_at b h.labels_at) (part_at b h.transitions_at) (part_at b h.actions_at) (part_at b h.formula_at)) marks o after
         → {t : Tally} → t ≡ tally_of b → Ran direct b (marks_only marks) limit o t after
     case_ran {marks} {limit} r {t} tally_is = record { tally_is = tally_is; by = ran_first (sym (case_accepted direct b (marks_only marks) limit accepted)) (rw (is, header_case) at r) }

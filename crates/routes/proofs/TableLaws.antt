@@ -1,30 +1,30 @@
 -- What is worked out once for each node: numbers stored one after the other, and the blocks of the binders.
-use mathlib.Core.Path.{_≡_, refl, ap, _∙_}
-use mathlib.Core.Logic.{_⊎_, inl, inr}
+use mathlib.Core.Path.{◌≡◌, refl, ap, ◌∙◌}
+use mathlib.Core.Logic.{◌⊎◌, inl, inr}
 use mathlib.Core.Bool.{Bool, true, cond}
-use mathlib.Core.List.{List, [], _∷_}
-use Prim.Native.Nat.{ℕ, zero, suc, _+_, _<_, _≤_}
-use native.Mathlib.Nat.{eq-or-lt-of-le}
+use mathlib.Core.List.{List, [], ◌∷◌}
+use Prim.Native.Nat.{ℕ, zero, suc, ◌+◌, ◌<◌, ◌≤◌}
+use native.Mathlib.Nat.{eq-or-lt_of_le}
 use native.Mathlib.Numerals.{add-one}
 use native.Mathlib.Omega.{arith}
 use lib.Dec.{T, ltb→lt}
-use lib.ListN.{length, getD, set, take, length-set}
-use lib.Seq.{getD-set-same, getD-set-other, take-length}
-use Rattle·cases.specs.declared.Node.{Node}
-use Rattle·cases.specs.File.{node_in, node_limit}
-use Rattle·cases.specs.Conditions.{node_at, node_ok, is_binder, binder_count}
-use Rattle·cases.specs.internal.Checks.{nodes_in}
-use Rattle·cases.proofs.FormulaRules.{length_nodes}
-use Rattle·translate.proofs.ShapeFields.{node_read}
-use Rattle·translate.proofs.CaseSources.{nodes_pass}
-use Rattle·routes·specs.specs.internal.Evaluating.{FormulaPart, BinderBlocks}
+use lib.ListN.{length, get_or, set, take, length-set}
+use lib.Seq.{get_or-set_same, get_or-set_other, take-length}
+use Rattle.cases.specs.declared.Node.{Node}
+use Rattle.cases.specs.File.{node_in, node_limit}
+use Rattle.cases.specs.Conditions.{node_at, node_ok, is_binder, binder_count}
+use Rattle.cases.specs.internal.Checks.{nodes_in}
+use Rattle.cases.proofs.FormulaRules.{length_nodes}
+use Rattle.translate.proofs.ShapeFields.{node_read}
+use Rattle.translate.proofs.CaseSources.{nodes_pass}
+use Rattle.routes.specs.internal.Evaluating.{FormulaPart, BinderBlocks}
 
 -- ---- a number for each node
 
 -- The first i numbers are as P says: a loop's invariant.
 pub record SetBefore (P : ℕ → ℕ → Type 0) (xs : List ℕ) (i : ℕ) : Type 0 where
   pub long : length xs ≡ node_limit
-  pub so_far : (j : ℕ) → j < i → P j (getD xs j 0)
+  pub so_far : (j : ℕ) → j < i → P j (get_or xs j 0)
 
 module _ {P : ℕ → ℕ → Type 0} {xs : List ℕ} where
   -- before the first turn
@@ -34,35 +34,35 @@ module _ {P : ℕ → ℕ → Type 0} {xs : List ℕ} where
   -- one turn, which stores number i
   pub set_next : {i : ℕ} (x : ℕ) → SetBefore P xs i → i < node_limit → P i x → SetBefore P (set xs i x) (i + 1)
   set_next {i} x s h p = record {
-    long = length-set xs i x ∙ s .long;
-    so_far = λ j l. go j (eq-or-lt-of-le {n = j} {m = i} (omega arith));
+    long = length-set xs i x ∙ s.long;
+    so_far = λ j l. go j (eq-or-lt_of_le {n = j} {m = i} (omega arith));
   }
     where
-      go : (j : ℕ) → (j ≡ i) ⊎ (j < i) → P j (getD (set xs i x) j 0)
-      go j (inl e) = rw (e, getD-set-same xs i x 0 (omega (arith, s .long))) p
-      go j (inr l) = rw (getD-set-other xs i j x 0 (λ z. omega arith)) (s .so_far j l)
+      go : (j : ℕ) → (j ≡ i) ⊎ (j < i) → P j (get_or (set xs i x) j 0)
+      go j (inl e) = rw (e, get_or-set_same xs i x 0 (omega (arith, s.long))) p
+      go j (inr l) = rw (get_or-set_other xs i j x 0 (λ z. omega arith)) (s.so_far j l)
 
 -- ---- nodes
 
 -- node i of a formula part, as it is read
 module _ (part : List ℕ) {f i : ℕ} (h : i < f) {x : Node} (e : x ≡ node_in part i) where
   -- it has the kind that was read
-  pub kind_read : node_at (nodes_in part f) i .kind ≡ x .kind
-  kind_read = ap (λ (y : Node). y .kind) (node_read part f i h x e)
+  pub kind_read : (node_at (nodes_in part f) i).kind ≡ x.kind
+  kind_read = ap (λ (y : Node). y.kind) (node_read part f i h x e)
 
   -- the argument of a box or diamond is an action node
-  pub modal_arg : (a : ℕ) → FormulaPart part f a → 4 ≤ x .kind → x .kind ≤ 5 → x .arg < a
-  modal_arg a p l m = go (eq-or-lt-of-le {n = 4} {m = x .kind} l)
+  pub modal_arg : (a : ℕ) → FormulaPart part f a → 4 ≤ x.kind → x.kind ≤ 5 → x.arg < a
+  modal_arg a p l m = go (eq-or-lt_of_le {n = 4} {m = x.kind} l)
     where
       ok : T (node_ok a x)
-      ok = rw (node_read part f i h x e) at (nodes_pass a (nodes_in part f) (p .formed) i (rw (length_nodes part f) h))
+      ok = rw (node_read part f i h x e) at (nodes_pass a (nodes_in part f) p.formed i (rw (length_nodes part f) h))
 
-      go : (4 ≡ x .kind) ⊎ (4 < x .kind) → x .arg < a
-      go (inl k) = ltb→lt (x .arg) a (rw (← k) at ok)
-      go (inr k) = let five : 5 ≡ x .kind = omega arith in ltb→lt (x .arg) a (rw (← five) at ok)
+      go : (4 ≡ x.kind) ⊎ (4 < x.kind) → x.arg < a
+      go (inl k) = ltb→lt x.arg a (rw (← k) at ok)
+      go (inr k) = let five : 5 ≡ x.kind = omega arith in ltb→lt x.arg a (rw (← five) at ok)
 
   -- whether it is a binder
-  pub binder_read : (b : Bool) → b ≡ is_binder x → _≡_ {A = ℕ} (cond b 1 0) (cond (is_binder (node_at (nodes_in part f) i)) 1 0)
+  pub binder_read : (b : Bool) → b ≡ is_binder x → ◌≡◌ {A = ℕ} (cond b 1 0) (cond (is_binder (node_at (nodes_in part f) i)) 1 0)
   binder_read b is = rw (node_read part f i h x e) (ap (λ (t : Bool). cond {A = ℕ} t 1 0) is)
 
 -- ---- blocks
@@ -101,11 +101,11 @@ module _ {t : List Node} {xs : List ℕ} where
   pub counted_next : {count i one : ℕ} → Counted t xs count i → i < length t → i < node_limit → one ≡ cond (is_binder (node_at t i)) 1 0 → one ≤ 1
       → Counted t (set xs i count) (count + one) (i + 1)
   counted_next {count} {i} c h l e low = record {
-    stored = set_next count (c .stored) l (c .counts);
-    counts = rw (add-one i) (omega (arith, c .counts, binders_next t i h));
-    small = omega (arith, c .small);
+    stored = set_next count c.stored l c.counts;
+    counts = rw (add-one i) (omega (arith, c.counts, binders_next t i h));
+    small = omega (arith, c.small);
   }
 
 -- blocks of all nodes
 pub blocks_done : (part : List ℕ) (f i : ℕ) {xs : List ℕ} {count : ℕ} → Counted (nodes_in part f) xs count i → f ≤ i → BinderBlocks (nodes_in part f) xs
-blocks_done part f i c h = record { block = λ j l _. c .stored .so_far j (omega (arith, length_nodes part f)) }
+blocks_done part f i c h = record { block = λ j l _. c.stored.so_far j (omega (arith, length_nodes part f)) }

@@ -1,35 +1,35 @@
 -- The formula that is translated, with a nu before a root that is no binder, has no free variable and the same meaning.
-use mathlib.Core.Path.{_≡_, refl, ap, ap₂, subst, _∙_}
-use mathlib.Core.Bool.{Bool, true, false, cond, not, _&&_, _||_}
+use mathlib.Core.Path.{◌≡◌, refl, ap, ap₂, subst, ◌∙◌}
+use mathlib.Core.Bool.{Bool, true, false, cond, not, ◌&&◌, ◌||◌}
 use mathlib.Core.List.{List}
-use Prim.Native.Nat.{ℕ, zero, suc, _+_}
+use Prim.Native.Nat.{ℕ, zero, suc, ◌+◌}
 use native.Mathlib.Numerals.{add-one}
 use borrow.Author.Tests.{eq-eqb}
-use lib.Dec.{T, eqb, eqb·suc-suc}
-use Rattle·sets.specs.States.{States, has, start, Extremal, Valuation, update, Sized}
-use Rattle·sets.specs.computed.Iteration.{Worked, repeated}
-use Rattle·sets.proofs.Lists.{and_right}
-use Rattle·sets.proofs.Valuation.{update_sized}
-use Rattle·cases.specs.Formula.{Formula, False, True, And, Or, Box, Diamond, Variable, Fix}
-use Rattle·cases.specs.internal.Scope.{free}
-use Rattle·cases.specs.declared.Transition.{Transition}
-use Rattle·cases.specs.Meaning.{set_of, box_in, diamond_in, Means}
-use Rattle·cases.specs.computed.Meanings.{meaning}
-use Rattle·cases.proofs.MeaningLaws.{means_scope, means_exists, means_unique}
-use Rattle·translate.specs.Whole.{raise, binds_first, whole, binder_nodes, index_in, block_in}
-use Rattle·routes·proofs.proofs.Shallow.{shallow}
+use lib.Dec.{T, eqb, eqb-suc-suc}
+use Rattle.sets.specs.States.{States, has, start, Extremal, Valuation, update, Sized}
+use Rattle.sets.specs.computed.Iteration.{Worked, repeated}
+use Rattle.sets.proofs.Lists.{and_right}
+use Rattle.sets.proofs.Valuation.{update_sized}
+use Rattle.cases.specs.Formula.{Formula, False, True, And, Or, Box, Diamond, Variable, Fix}
+use Rattle.cases.specs.internal.Scope.{free}
+use Rattle.cases.specs.declared.Transition.{Transition}
+use Rattle.cases.specs.Meaning.{set_of, box_in, diamond_in, Means}
+use Rattle.cases.specs.computed.Meanings.{meaning}
+use Rattle.cases.proofs.MeaningLaws.{means_scope, means_exists, means_unique}
+use Rattle.translate.specs.Whole.{raise, binds_first, whole, binder_nodes, index_in, block_in}
+use Rattle.routes.proofs.Shallow.{shallow}
 
 -- numbers that are raised are equal if they were
 same_raised : (i j : ℕ) → eqb (i + 1) (j + 1) ≡ eqb i j
-same_raised i j = rw (add-one i, add-one j) (eqb·suc-suc i j)
+same_raised i j = rw (add-one i, add-one j) (eqb-suc-suc i j)
 
 -- a raised variable is free if it was
 free_raise : (a : Formula) (i : ℕ) → free (i + 1) (raise a) ≡ free i a
 unfolding free raise
 free_raise False i = refl
 free_raise True i = refl
-free_raise (And a b) i = ap₂ _||_ (free_raise a i) (free_raise b i)
-free_raise (Or a b) i = ap₂ _||_ (free_raise a i) (free_raise b i)
+free_raise (And a b) i = ap₂ ◌||◌ (free_raise a i) (free_raise b i)
+free_raise (Or a b) i = ap₂ ◌||◌ (free_raise a i) (free_raise b i)
 free_raise (Box α a) i = free_raise a i
 free_raise (Diamond α a) i = free_raise a i
 free_raise (Variable j) i = same_raised i j
@@ -69,7 +69,7 @@ module _ (n : ℕ) (ts : List Transition) where
   meaning_raise (Diamond α a) ρ = ap (λ (x : States). set_of n (diamond_in n ts α x)) (meaning_raise a ρ)
   meaning_raise (Variable i) ρ = refl
   meaning_raise (Fix sign i a) ρ =
-      ap (λ (f : States → Worked). repeated (suc n) f (start n sign) .0) (λ t v. (body v (meaning_raise a (update ρ (i + 1) v)) t, 0))
+      ap (λ (f : States → Worked). (repeated (suc n) f (start n sign)).0) (λ t v. (body v (meaning_raise a (update ρ (i + 1) v)) t, 0))
     where
       body : (v : States) → meaning n ts (raise a) (update ρ (i + 1) v) ≡ meaning n ts a (λ j. update ρ (i + 1) v (j + 1))
           → meaning n ts (raise a) (update ρ (i + 1) v) ≡ meaning n ts a (update (λ j. ρ (j + 1)) i v)
@@ -89,11 +89,11 @@ module _ (n : ℕ) (ts : List Transition) where
       fixed = means_exists n ts (Fix true 0 (raise a)) ρ r
 
       sized : Sized n (update ρ 0 w)
-      sized = update_sized ρ 0 w r (fixed .sized)
+      sized = update_sized ρ 0 w r fixed.sized
 
       go : (b : Bool) → meaning n ts (cond b a (Fix true 0 (raise a))) ρ ≡ meaning n ts a σ
       go true = means_scope n ts a ρ σ r q (λ i t. absurd (none i t))
       go false =
-          means_unique n ts (raise a) (update ρ 0 w) sized w (fixed .holds)
+          means_unique n ts (raise a) (update ρ 0 w) sized w fixed.holds
           ∙ meaning_raise a (update ρ 0 w)
           ∙ means_scope n ts a (λ j. update ρ 0 w (j + 1)) σ (λ j. sized (j + 1)) q (λ i t. absurd (none i t))

@@ -1,14 +1,10 @@
 -- Direct: a formula's set worked out on sets of states, and how many rounds that takes.
-use mathlib.Core.Path.{_≡_}
-use mathlib.Core.Bool.{true, false}
-use Prim.Native.Nat.{ℕ, _+_}
-use mathlib.Core.List.{List}
-use lib.ListN.{replicate}
-use Rattle·sets.specs.States.{States, start, Valuation, update}
-use Rattle·sets.specs.Loop.{Loop, itself}
-use Rattle·cases.specs.Formula.{Formula, False, True, And, Or, Box, Diamond, Variable, Fix}
-use Rattle·cases.specs.declared.Transition.{Transition}
-use Rattle·cases.specs.Meaning.{set_of, intersection, union, box_in, diamond_in}
+use Rattle.std.specs.Prelude.{◌≡◌, true, false, ℕ, ◌+◌, List, replicate}
+use Rattle.sets.specs.States.{States, start, Valuation, update}
+use Rattle.sets.specs.Loop.{Loop, itself}
+use Rattle.cases.specs.Formula.{Formula, False, True, And, Or, Box, Diamond, Variable, Fix}
+use Rattle.cases.specs.declared.Transition.{Transition}
+use Rattle.cases.specs.Meaning.{set_of, intersection, union, box_in, diamond_in}
 
 -- a set that is worked out from those of two operands, left first; the rounds add up
 pub record FromTwo (one two : States → ℕ → Type 0) (op : States → States → States) (v : States) (r : ℕ) : Type 0 where

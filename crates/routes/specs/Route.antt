@@ -1,31 +1,26 @@
 -- The two routes: what each works out, its own rounds, what it answers, and what it leaves in lent memory; and what the programs lend.
-use mathlib.Core.Path.{_≡_}
-use mathlib.Core.Bool.{Bool, false, _||_}
-use mathlib.Core.List.{List, [], _∷_, _++_, map}
-use Prim.Native.Nat.{ℕ}
-use lib.Dec.{ltb}
-use lib.ListN.{length, drop, replicate}
-use Rattle·sets.specs.States.{States, all_empty}
-use Rattle·sets.specs.Words.{words, bit, word_count}
-use Rattle·sets.specs.computed.Iteration.{Worked}
-use Rattle·sets.specs.Refusals.{Conditions, first_of, Outcome, Spent, refused, report_of, by_refusal, outcome_by}
-use Rattle·solver.specs.computed.Solved.{evaluate, run}
-use Rattle·solver.specs.File.{sizes_of, cells, cell_limit}
-use Rattle·solver.specs.Outcome.{Scratch, solve_number, FileRounds, solve_too_short}
-use Rattle·cases.specs.Case.{Case, case_of}
-use Rattle·cases.specs.Tally.{tally_of}
-use Rattle·cases.specs.declared.Tally.{Tally}
-use Rattle·translate.specs.Bytes.{file_of}
-use Rattle·cases.specs.Conditions.{case_conditions}
-use Rattle·cases.specs.Opening.{case_number}
-use Rattle·translate.specs.Translating.{file, file_after}
-use Rattle·routes·specs.specs.declared.Cause.{Cause}
-use Rattle·routes·specs.specs.declared.Cause.the-variants.{Open, Run}
-use Rattle·routes·specs.specs.declared.Answer.{Answer}
-use Rattle·routes·specs.specs.declared.Answer.the-variants.{Solved, Refused}
-use Rattle·routes·specs.specs.declared.Numbers.{Numbers}
-use Rattle·routes·specs.specs.Direct.{Direct}
-use Rattle·routes·specs.specs.computed.Worked.{worked}
+use Rattle.std.specs.Prelude.{◌≡◌, Bool, false, ◌||◌, List, [], ◌∷◌, ◌++◌, map, ℕ, ltb, length, drop, replicate}
+use Rattle.sets.specs.States.{States, all_empty}
+use Rattle.sets.specs.Words.{words, bit, word_count}
+use Rattle.sets.specs.computed.Iteration.{Worked}
+use Rattle.sets.specs.Refusals.{Conditions, first_of, Outcome, Spent, refused, report_of, by_refusal, outcome_by}
+use Rattle.solver.specs.computed.Solved.{evaluate, run}
+use Rattle.solver.specs.File.{sizes_of, cells, cell_limit}
+use Rattle.solver.specs.Outcome.{Scratch, solve_number, FileRounds, solve_too_short}
+use Rattle.cases.specs.Case.{Case, case_of}
+use Rattle.cases.specs.Tally.{tally_of}
+use Rattle.cases.specs.declared.Tally.{Tally}
+use Rattle.translate.specs.Bytes.{file_of}
+use Rattle.cases.specs.Conditions.{case_conditions}
+use Rattle.cases.specs.Opening.{case_number}
+use Rattle.translate.specs.Translating.{file, file_after}
+use Rattle.routes.specs.declared.Cause.{Cause}
+use Rattle.routes.specs.declared.Cause.TheVariants.{Open, Run}
+use Rattle.routes.specs.declared.Answer.{Answer}
+use Rattle.routes.specs.declared.Answer.TheVariants.{Solved, Refused}
+use Rattle.routes.specs.declared.Numbers.{Numbers}
+use Rattle.routes.specs.Direct.{Direct}
+use Rattle.routes.specs.computed.Worked.{worked}
 
 -- the paper's number of each cause
 unfoldable pub route_number : Cause → ℕ
@@ -34,12 +29,12 @@ route_number (Run cause) = solve_number cause
 
 -- the outcome that an answer stands for
 unfoldable pub route_answer : Answer → Outcome
-route_answer (Solved r) = record { refusal = 0; verdict = bit (r .verdict); count = r .count; rounds = r .rounds }
+route_answer (Solved r) = record { refusal = 0; verdict = bit r.verdict; count = r.count; rounds = r.rounds }
 route_answer (Refused cause) = refused (route_number cause)
 
 -- the outcome that numbers stand for
 unfoldable pub shown : Numbers → Outcome
-shown n = record { refusal = n .refusal; verdict = n .verdict; count = n .count; rounds = n .rounds }
+shown n = record { refusal = n.refusal; verdict = n.verdict; count = n.count; rounds = n.rounds }
 
 -- ---- what a route works out of a case
 
@@ -49,13 +44,13 @@ pub data Route : Type 0 where
 -- Own rounds: what a route's rules count without a limit. Of direct: until the root's set is worked out. Of the equation route: on the
 -- case's equation file, from block 0 until that block stops. This is the paper's.
 unfoldable pub OwnRounds : Route → Case → ℕ → Type 0
-OwnRounds direct c r = (v : States) × Direct (c .states) (c .transitions) (c .formula) (all_empty (c .states)) v r
+OwnRounds direct c r = (v : States) × Direct c.states c.transitions c.formula (all_empty c.states) v r
 OwnRounds equation c r = FileRounds (file_of c) r
 
 -- The same by functions that compute: the set of the root, or of block 0, and the rounds.
 unfoldable pub run_of : Route → Case → Worked
-run_of direct c = worked (c .states) (c .transitions) (c .formula) (all_empty (c .states))
-run_of equation c = (run (file_of c) .0 0, run (file_of c) .1)
+run_of direct c = worked c.states c.transitions c.formula (all_empty c.states)
+run_of equation c = ((run (file_of c)).0 0, (run (file_of c)).1)
 
 -- ---- the conditions in order
 
@@ -75,12 +70,12 @@ marks_only marks = lent [] [] marks
 -- 13: the lent memory is too short. It looks at the marks in both routes, and in the equation route also at the file buffer, which needs
 -- the file's length, and at the working bytes.
 unfoldable pub too_short : Route → Case → Lent → Bool
-too_short direct c l = ltb (length (l .marks)) word_count
-too_short equation c l = ltb (length (l .file)) (length (file_of c)) || solve_too_short (file_of c) (length (l .work)) (length (l .marks))
+too_short direct c l = ltb (length l.marks) word_count
+too_short equation c l = ltb (length l.file) (length (file_of c)) || solve_too_short (file_of c) (length l.work) (length l.marks)
 
 -- 14: the rounds exceed the limit. Of an accepted case they are the own rounds, by `exceeds_iff` (proofs/Promises.antt).
 unfoldable pub exceeds : Route → Case → ℕ → Bool
-exceeds R c limit = ltb limit (run_of R c .1)
+exceeds R c limit = ltb limit (run_of R c).1
 
 -- the conditions of a run over a case
 unfoldable pub run_conditions : Route → Case → Lent → ℕ → Conditions
@@ -98,7 +93,7 @@ Enough R c l = too_short R c l ≡ false
 
 -- the report, or the number of the first condition that holds
 unfoldable pub route_outcome : Conditions → Route → Case → Outcome
-route_outcome cs R c = outcome_by cs (report_of (c .initial) (run_of R c .0) (run_of R c .1))
+route_outcome cs R c = outcome_by cs (report_of c.initial (run_of R c).0 (run_of R c).1)
 
 -- of any bytes
 abbrev pub outcome_of : Route → List ℕ → Lent → ℕ → Outcome
@@ -106,13 +101,13 @@ outcome_of R b l limit = route_outcome (route_conditions R b l limit) R (case_of
 
 -- After success the first words are the route's set; a refusal changes nothing.
 unfoldable pub marks_after : Conditions → Route → Case → List ℕ → List ℕ
-marks_after cs R c marks = by_refusal (first_of cs) (words word_count (run_of R c .0) ++ drop word_count marks) marks
+marks_after cs R c marks = by_refusal (first_of cs) (words word_count (run_of R c).0 ++ drop word_count marks) marks
 
 -- After success the first working bytes are 1 or 0 for each cell under the solution; a refusal but 14 changes nothing.
 unfoldable pub work_after : List ℕ → Lent → ℕ → List ℕ
 work_after b l limit =
     by_refusal (first_of (route_conditions equation b l limit))
-    (map bit (evaluate (cells (file b)) (run (file b) .0)) ++ drop (sizes_of (file b) .cells) (l .work)) (l .work)
+    (map bit (evaluate (cells (file b)) (run (file b)).0) ++ drop (sizes_of (file b)).cells l.work) l.work
 
 -- ---- the contracts
 
@@ -124,16 +119,16 @@ pub record RanBy (cs : Conditions) (R : Route) (c : Case) (marks : List ℕ) (o 
 -- What a route promises of any bytes: of the outcome o, and beside it of the tally t, which is that of the bytes, whatever is lent and answered.
 -- Direct promises this.
 pub record Ran (R : Route) (b : List ℕ) (l : Lent) (limit : ℕ) (o : Outcome) (t : Tally) (after : List ℕ) : Type 0 where
-  pub by : RanBy (route_conditions R b l limit) R (case_of b) (l .marks) o after
+  pub by : RanBy (route_conditions R b l limit) R (case_of b) l.marks o after
   pub tally_is : t ≡ tally_of b
 
 -- What the equation route promises: this, and the bytes of the file buffer, which are translate's whatever solve then answers, and the working
 -- bytes. After 14 each of the c working bytes is 0 or 1.
-pub record EquationRan (b : List ℕ) (l : Lent) (limit : ℕ) (o : Outcome) (t : Tally) (file′ work′ marks′ : List ℕ) : Type 0 where
-  pub ran : Ran equation b l limit o t marks′
-  pub file_is : file′ ≡ file_after b (l .file)
-  pub work_is : ¬ Spent o → work′ ≡ work_after b l limit
-  pub work_14 : Spent o → Scratch (sizes_of (file b) .cells) (l .work) work′
+pub record EquationRan (b : List ℕ) (l : Lent) (limit : ℕ) (o : Outcome) (t : Tally) (file' work' marks' : List ℕ) : Type 0 where
+  pub ran : Ran equation b l limit o t marks'
+  pub file_is : file' ≡ file_after b l.file
+  pub work_is : ¬ Spent o → work' ≡ work_after b l limit
+  pub work_14 : Spent o → Scratch (sizes_of (file b)).cells l.work work'
 
 -- ---- what the programs lend
 

@@ -1,26 +1,25 @@
 // Evaluating a formula on sets of states: each node after its operands, a binder by rounds.
+ghost use Rattle.std.specs.Prelude.{◌≡◌};
+ghost use Rattle.routes.specs.Route.{direct, run_of};
+ghost use Rattle.routes.specs.internal.Answering.{Rooted};
+ghost use Rattle.routes.specs.internal.Evaluating.{returned, case_in, CaseParts, Asks, KindAt, Evaluated};
+
 use crate::Value;
 use crate::modal::modal_set;
 use crate::tables::blocks_of;
-use cases::Header;
-use cases::action_masks;
-use cases::node_at;
+use cases::{Header, action_masks, node_at};
 use sets::WORDS;
 use solver::BLOCKS;
-ghost use mathlib.Core.Path.{_≡_};
-ghost use Rattle·routes·specs.specs.Route.{direct, run_of};
-ghost use Rattle·routes·specs.specs.internal.Answering.{Rooted};
-ghost use Rattle·routes·specs.specs.internal.Evaluating.{returned, case_in, CaseParts, Asks, KindAt, Evaluated};
 
 fn wide(x: u8) -> usize
-    ensures { λ r. ⌜ r ≡ x ⌝ }
+    ensures { result ≡ x }
 {
     x as usize
 }
 
 // A set, the node after those that it is of, the rounds so far, and whether they are spent.
 fn value_of(set: [u64; WORDS], next: usize, rounds: u64, spent: bool) -> Value
-    ensures { λ r. ⌜ r ≡ returned set next rounds spent ⌝ }
+    ensures { result ≡ returned set next rounds spent }
 {
     Value {
         set: set,
@@ -32,6 +31,7 @@ fn value_of(set: [u64; WORDS], next: usize, rounds: u64, spent: bool) -> Value
 
 // The set of node `at`, after `used` rounds. Beside the parts of the case it is handed, for each action formula, the labels accepted as a mask,
 // and for each node its block.
+#[cycle(binder_evaluate_modal_pair)]
 fn evaluate(
     h: Header,
     records: &[u8],
@@ -43,8 +43,8 @@ fn evaluate(
     used: u64,
     limit: u64,
 ) -> Value
-    requires { ⌜ Asks h (now records) (now nodes) (now masks) (now block) at used limit ⌝ }
-    ensures { λ r. ⌜ Evaluated h (now (records .entry)) (now (nodes .entry)) (now (masks .entry)) (now (sets .entry)) at used limit r ⌝ }
+    requires { Asks h records.now nodes.now masks.now block.now at used limit }
+    ensures { Evaluated h records.now nodes.now masks.now sets.now at used limit result }
 {
     let x = node_at(nodes, at);
     let kind = x.kind;
@@ -68,6 +68,7 @@ fn evaluate(
 }
 
 // An and or an or: both operands, left first.
+#[cycle(binder_evaluate_modal_pair)]
 fn pair(
     h: Header,
     records: &[u8],
@@ -80,8 +81,8 @@ fn pair(
     used: u64,
     limit: u64,
 ) -> Value
-    requires { ⌜ Asks h (now records) (now nodes) (now masks) (now block) at used limit × KindAt (now nodes) (h .nodes) at kind 2 3 ⌝ }
-    ensures { λ r. ⌜ Evaluated h (now (records .entry)) (now (nodes .entry)) (now (masks .entry)) (now (sets .entry)) at used limit r ⌝ }
+    requires { Asks h records.now nodes.now masks.now block.now at used limit × KindAt nodes.now h.nodes at kind 2 3 }
+    ensures { Evaluated h records.now nodes.now masks.now sets.now at used limit result }
 {
     let one = evaluate(h, records, nodes, masks, block, sets, at + 1, used, limit);
     if one.spent {
@@ -100,6 +101,7 @@ fn pair(
 }
 
 // A box or a diamond.
+#[cycle(binder_evaluate_modal_pair)]
 fn modal(
     h: Header,
     records: &[u8],
@@ -112,8 +114,8 @@ fn modal(
     used: u64,
     limit: u64,
 ) -> Value
-    requires { ⌜ Asks h (now records) (now nodes) (now masks) (now block) at used limit × KindAt (now nodes) (h .nodes) at kind 4 5 ⌝ }
-    ensures { λ r. ⌜ Evaluated h (now (records .entry)) (now (nodes .entry)) (now (masks .entry)) (now (sets .entry)) at used limit r ⌝ }
+    requires { Asks h records.now nodes.now masks.now block.now at used limit × KindAt nodes.now h.nodes at kind 4 5 }
+    ensures { Evaluated h records.now nodes.now masks.now sets.now at used limit result }
 {
     let action = node_at(nodes, at).arg;
     let one = evaluate(h, records, nodes, masks, block, sets, at + 1, used, limit);
@@ -134,6 +136,7 @@ fn modal(
 }
 
 // A mu or a nu: the rounds of its loop. The sets of outer binders are held.
+#[cycle(binder_evaluate_modal_pair)]
 fn binder(
     h: Header,
     records: &[u8],
@@ -146,8 +149,8 @@ fn binder(
     used: u64,
     limit: u64,
 ) -> Value
-    requires { ⌜ Asks h (now records) (now nodes) (now masks) (now block) at used limit × KindAt (now nodes) (h .nodes) at kind 7 8 ⌝ }
-    ensures { λ r. ⌜ Evaluated h (now (records .entry)) (now (nodes .entry)) (now (masks .entry)) (now (sets .entry)) at used limit r ⌝ }
+    requires { Asks h records.now nodes.now masks.now block.now at used limit × KindAt nodes.now h.nodes at kind 7 8 }
+    ensures { Evaluated h records.now nodes.now masks.now sets.now at used limit result }
 {
     let k = wide(block[at]);
     let mut held = sets::initial(h.states, kind == 8);
@@ -181,8 +184,8 @@ pub fn evaluate_root(
     formula: &[u8],
     limit: u64,
 ) -> Value
-    requires { ⌜ CaseParts h (now labels) (now records) (now actions) (now formula) ⌝ }
-    ensures { λ r. ⌜ Rooted (run_of direct (case_in h (now (labels .entry)) (now (records .entry)) (now (actions .entry)) (now (formula .entry)))) limit r ⌝ }
+    requires { CaseParts h labels.now records.now actions.now formula.now }
+    ensures { Rooted (run_of direct (case_in h labels.now records.now actions.now formula.now)) limit result }
 {
     let masks = action_masks(labels, h, actions);
     let blocks = blocks_of(formula, h.nodes);

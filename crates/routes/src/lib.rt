@@ -4,48 +4,46 @@ mod modal;
 mod outcome;
 mod tables;
 
-use cases::Header;
-use cases::Opened;
-use cases::TRANSITIONS;
-use cases::Tally;
-use cases::first_appearances;
+ghost use Rattle.std.specs.Prelude.{◌≡◌, ◌<◌, ◌≤◌};
+ghost use Rattle.sets.specs.Words.{state_limit};
+ghost use Rattle.sets.specs.Refusals.{refused as Outcome·refused};
+ghost use Rattle.cases.specs.File.{header_of};
+ghost use Rattle.cases.specs.Conditions.{Accepted};
+ghost use Rattle.cases.specs.Opening.{case_number};
+ghost use Rattle.cases.specs.Tally.{no_tally};
+ghost use Rattle.routes.specs.Route.{route_answer, direct as Route·direct, lent, marks_only, run_conditions, RanBy, Ran, EquationRan};
+ghost use Rattle.routes.specs.internal.Answering.{Reported};
+ghost use Rattle.routes.specs.internal.Evaluating.{case_in, CaseParts};
+
+use cases::{Header, Opened, TRANSITIONS, Tally, first_appearances};
 use evaluate::evaluate_root;
-pub use outcome::numbers_of;
-pub use outcome::solving_answer;
+pub use outcome::{numbers_of, solving_answer};
 use sets::WORDS;
-use translate::Written;
-use translate::write_case;
-ghost use mathlib.Core.Path.{_≡_};
-ghost use Prim.Native.Nat.{_<_, _≤_};
-ghost use Rattle·sets.specs.Words.{state_limit};
-ghost use Rattle·sets.specs.Refusals.{refused as Outcome·refused};
-ghost use Rattle·cases.specs.File.{header_of};
-ghost use Rattle·cases.specs.Conditions.{Accepted};
-ghost use Rattle·cases.specs.Opening.{case_number};
-ghost use Rattle·cases.specs.Tally.{no_tally};
-ghost use Rattle·routes·specs.specs.Route.{route_answer, direct as Route·direct, lent, marks_only, run_conditions, RanBy, Ran, EquationRan};
-ghost use Rattle·routes·specs.specs.internal.Answering.{Reported};
-ghost use Rattle·routes·specs.specs.internal.Evaluating.{case_in, CaseParts};
+use translate::{Written, write_case};
 
 // Why a case gets no marks: found on opening it, or on running it.
+#[derive(Drop)]
 pub enum Cause {
     Open(cases::Cause),
     Run(solver::Cause),
 }
 
 // What is reported of a case with its marks.
+#[derive(Drop)]
 pub struct Report {
     pub verdict: bool,
     pub count: usize,
     pub rounds: u64,
 }
 
+#[derive(Drop)]
 pub enum Answer {
     Solved(Report),
     Refused(Cause),
 }
 
 // A route's answer, and the tally of the case's transition table: both its numbers are 0 where the case is refused on opening.
+#[derive(Drop)]
 pub struct Tallied {
     pub answer: Answer,
     pub tally: Tally,
@@ -53,6 +51,7 @@ pub struct Tallied {
 
 // The numbers of an answer: the refusal number (0 if none), the verdict as 1 or 0, the count and the rounds; the last three are 0 after a
 // refusal.
+#[derive(Drop)]
 pub struct Numbers {
     pub refusal: u64,
     pub verdict: u64,
@@ -61,6 +60,7 @@ pub struct Numbers {
 }
 
 // The set of a node, the node after its subtree, and the rounds so far; or the rounds are spent.
+#[derive(Drop)]
 pub struct Value {
     pub set: [u64; WORDS],
     pub next: usize,
@@ -70,8 +70,8 @@ pub struct Value {
 
 // What is reported of a set of states, after so many rounds.
 fn report_of(h: Header, set: [u64; WORDS], rounds: u64) -> Report
-    requires { ⌜ (h .states ≤ state_limit) × (h .initial < state_limit) ⌝ }
-    ensures { λ r. ⌜ Reported h set rounds r ⌝ }
+    requires { (h.states ≤ state_limit) × (h.initial < state_limit) }
+    ensures { Reported h set rounds result }
 {
     Report {
         verdict: sets::test(&set, h.initial),
@@ -90,10 +90,10 @@ pub fn direct_parts(
     marks: &mut [u64],
     limit: u64,
 ) -> Answer
-    requires { ⌜ CaseParts h (now labels) (now records) (now actions) (now formula) ⌝ }
-    ensures { λ r. ⌜ RanBy
-        (run_conditions Route·direct (case_in h (now (labels .entry)) (now (records .entry)) (now (actions .entry)) (now (formula .entry))) (marks_only (now (marks .entry))) limit)
-        Route·direct (case_in h (now (labels .entry)) (now (records .entry)) (now (actions .entry)) (now (formula .entry))) (now (marks .entry)) (route_answer r) (now (marks .exit)) ⌝ }
+    requires { CaseParts h labels.now records.now actions.now formula.now }
+    ensures { RanBy
+        (run_conditions Route·direct (case_in h labels.now records.now actions.now formula.now) (marks_only marks.old) limit)
+        Route·direct (case_in h labels.now records.now actions.now formula.now) marks.old (route_answer result) marks.new }
 {
     if marks.len() < WORDS {
         return Answer::Refused(Cause::Run(solver::Cause::Memory));
@@ -109,8 +109,8 @@ pub fn direct_parts(
 
 // Direct on an accepted case and its header.
 fn direct_opened(case: &[u8], h: Header, marks: &mut [u64], limit: u64) -> Tallied
-    requires { ⌜ Accepted (now case) × (h ≡ header_of (now case)) ⌝ }
-    ensures { λ r. ⌜ Ran Route·direct (now (case .entry)) (marks_only (now (marks .entry))) limit (route_answer (r .answer)) (r .tally) (now (marks .exit)) ⌝ }
+    requires { Accepted case.now × (h ≡ header_of case.now) }
+    ensures { Ran Route·direct case.now (marks_only marks.old) limit (route_answer result.answer) result.tally marks.new }
 {
     let mut first = [0u8; TRANSITIONS];
     let tally = first_appearances(case, h, &mut first);
@@ -135,7 +135,7 @@ fn direct_opened(case: &[u8], h: Header, marks: &mut [u64], limit: u64) -> Talli
 
 // The answer to a case that is refused on opening.
 fn unopened(cause: cases::Cause) -> Tallied
-    ensures { λ r. ⌜ (route_answer (r .answer) ≡ Outcome·refused (case_number cause)) × (r .tally ≡ no_tally) ⌝ }
+    ensures { (route_answer result.answer ≡ Outcome·refused (case_number cause)) × (result.tally ≡ no_tally) }
 {
     Tallied {
         answer: Answer::Refused(Cause::Open(cause)),
@@ -148,7 +148,7 @@ fn unopened(cause: cases::Cause) -> Tallied
 
 // Evaluates the formula of a case on sets of states. Is lent the words of a set for the marks.
 pub fn direct(case: &[u8], marks: &mut [u64], limit: u64) -> Tallied
-    ensures { λ r. ⌜ Ran Route·direct (now (case .entry)) (marks_only (now (marks .entry))) limit (route_answer (r .answer)) (r .tally) (now (marks .exit)) ⌝ }
+    ensures { Ran Route·direct case.now (marks_only marks.old) limit (route_answer result.answer) result.tally marks.new }
 {
     match cases::open(case) {
         Opened::Accepted(h) => direct_opened(case, h, marks, limit),
@@ -166,9 +166,9 @@ fn equation_opened(
     marks: &mut [u64],
     limit: u64,
 ) -> Tallied
-    requires { ⌜ Accepted (now case) × (h ≡ header_of (now case)) ⌝ }
-    ensures { λ r. ⌜ EquationRan (now (case .entry)) (lent (now (file .entry)) (now (work .entry)) (now (marks .entry))) limit (route_answer (r .answer)) (r .tally)
-        (now (file .exit)) (now (work .exit)) (now (marks .exit)) ⌝ }
+    requires { Accepted case.now × (h ≡ header_of case.now) }
+    ensures { EquationRan case.now (lent file.old work.old marks.old) limit (route_answer result.answer) result.tally
+        file.new work.new marks.new }
 {
     let mut first = [0u8; TRANSITIONS];
     let tally = first_appearances(case, h, &mut first);
@@ -195,8 +195,8 @@ pub fn equation(
     marks: &mut [u64],
     limit: u64,
 ) -> Tallied
-    ensures { λ r. ⌜ EquationRan (now (case .entry)) (lent (now (file .entry)) (now (work .entry)) (now (marks .entry))) limit (route_answer (r .answer)) (r .tally)
-        (now (file .exit)) (now (work .exit)) (now (marks .exit)) ⌝ }
+    ensures { EquationRan case.now (lent file.old work.old marks.old) limit (route_answer result.answer) result.tally
+        file.new work.new marks.new }
 {
     match cases::open(case) {
         Opened::Accepted(h) => equation_opened(case, h, file, work, marks, limit),

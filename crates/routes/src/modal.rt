@@ -1,26 +1,24 @@
 // Boxes and diamonds on sets of states.
-use cases::Transition;
-use cases::transition_at;
+ghost use Rattle.std.specs.Prelude.{◌≡◌, true, cond, ◌&&◌, ◌<◌, ◌≤◌, length, set as ListN·set};
+ghost use Rattle.std.specs.Bool.{beq};
+ghost use Rattle.sets.specs.States.{States, has};
+ghost use Rattle.sets.specs.Lists.{for_some};
+ghost use Rattle.sets.specs.Words.{words, word_count, state_limit};
+ghost use Rattle.cases.specs.File.{label_limit};
+ghost use Rattle.cases.specs.Action.{Action, accepts};
+ghost use Rattle.cases.specs.internal.Masks.{mask_of};
+ghost use Rattle.cases.specs.Meaning.{set_of, from};
+ghost use Rattle.cases.specs.internal.Checks.{transitions_in};
+ghost use Rattle.routes.specs.internal.Evaluating.{modal_in, Records};
+
+use cases::{Transition, transition_at};
 use sets::WORDS;
-ghost use mathlib.Core.Path.{_≡_};
-ghost use mathlib.Core.Bool.{true, cond, _&&_, Bool·beq};
-ghost use Prim.Native.Nat.{_<_, _≤_};
-ghost use lib.ListN.{length, set as ListN·set};
-ghost use Rattle·sets.specs.States.{States, has};
-ghost use Rattle·sets.specs.Lists.{for_some};
-ghost use Rattle·sets.specs.Words.{words, word_count, state_limit};
-ghost use Rattle·cases.specs.File.{label_limit};
-ghost use Rattle·cases.specs.Action.{Action, accepts};
-ghost use Rattle·cases.specs.internal.Masks.{mask_of};
-ghost use Rattle·cases.specs.Meaning.{set_of, from};
-ghost use Rattle·cases.specs.internal.Checks.{transitions_in};
-ghost use Rattle·routes·specs.specs.internal.Evaluating.{modal_in, Records};
 
 // Whether a transition has one of the labels, and its target is in the set exactly if `inside`.
 fn leads(t: Transition, labels: u64, set: &[u64; WORDS], inside: bool) -> bool
-    requires { ⌜ (t .label < label_limit) × (t .target < state_limit) ⌝ }
-    ensures { λ r. ⌜ ((α : Action) (v : States) → labels ≡ mask_of α → length v ≤ state_limit → now (set .entry) ≡ words word_count v
-        → r ≡ (accepts α (t .label) && Bool·beq (has v (t .target)) inside)) ⌝ }
+    requires { (t.label < label_limit) × (t.target < state_limit) }
+    ensures { (α : Action) (v : States) → labels ≡ mask_of α → length v ≤ state_limit → set.now ≡ words word_count v
+        → result ≡ (accepts α t.label && beq (has v t.target) inside) }
 {
     if (labels >> t.label) % 2 != 1 {
         return false;
@@ -36,11 +34,11 @@ fn with_source(
     set: &[u64; WORDS],
     inside: bool,
 )
-    requires { ⌜ (t .source < state_limit) × (t .label < label_limit) × (t .target < state_limit) ⌝ }
-    ensures { λ _. ⌜ ((α : Action) (v w : States) → labels ≡ mask_of α → length v ≤ state_limit → now (set .entry) ≡ words word_count v
-        → t .source < length w → now (found .entry) ≡ words word_count w
-        → now (found .exit) ≡ words word_count (cond (accepts α (t .label) && Bool·beq (has v (t .target)) inside)
-        (ListN·set w (t .source) true) w)) ⌝ }
+    requires { (t.source < state_limit) × (t.label < label_limit) × (t.target < state_limit) }
+    ensures { (α : Action) (v w : States) → labels ≡ mask_of α → length v ≤ state_limit → set.now ≡ words word_count v
+        → t.source < length w → found.old ≡ words word_count w
+        → found.new ≡ words word_count (cond (accepts α t.label && beq (has v t.target) inside)
+        (ListN·set w t.source true) w) }
 {
     if leads(t, labels, set, inside) {
         sets::add(found, t.source);
@@ -57,9 +55,9 @@ fn sources(
     set: [u64; WORDS],
     inside: bool,
 ) -> [u64; WORDS]
-    requires { ⌜ Records (now records) m n l ⌝ }
-    ensures { λ r. ⌜ ((α : Action) (v : States) → labels ≡ mask_of α → length v ≡ n → set ≡ words word_count v
-        → r ≡ words word_count (set_of n (λ s. for_some (λ t. from s α t && Bool·beq (has v (t .target)) inside) (transitions_in (now (records .entry)) m)))) ⌝ }
+    requires { Records records.now m n l }
+    ensures { (α : Action) (v : States) → labels ≡ mask_of α → length v ≡ n → set ≡ words word_count v
+        → result ≡ words word_count (set_of n (λ s. for_some (λ t. from s α t && beq (has v t.target) inside) (transitions_in records.now m))) }
 {
     let mut found = sets::empty();
     let mut i = 0;
@@ -80,9 +78,9 @@ pub fn modal_set(
     set: [u64; WORDS],
     diamond: bool,
 ) -> [u64; WORDS]
-    requires { ⌜ Records (now records) m n l ⌝ }
-    ensures { λ r. ⌜ ((α : Action) (v : States) → labels ≡ mask_of α → length v ≡ n → set ≡ words word_count v
-        → r ≡ words word_count (set_of n (modal_in diamond n (transitions_in (now (records .entry)) m) α v))) ⌝ }
+    requires { Records records.now m n l }
+    ensures { (α : Action) (v : States) → labels ≡ mask_of α → length v ≡ n → set ≡ words word_count v
+        → result ≡ words word_count (set_of n (modal_in diamond n (transitions_in records.now m) α v)) }
 {
     if diamond {
         return sources(records, m, n, l, labels, set, true);

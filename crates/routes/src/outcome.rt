@@ -1,16 +1,14 @@
 // Answers of solve's as answers of a route, and answers as numbers.
-use crate::Answer;
-use crate::Cause;
-use crate::Numbers;
-use crate::Report;
-ghost use mathlib.Core.Path.{_≡_};
-ghost use Rattle·sets.specs.Words.{bit};
-ghost use Rattle·solver.specs.Outcome.{solve_number, solve_answer};
-ghost use Rattle·routes·specs.specs.Route.{route_number, route_answer, shown};
+ghost use Rattle.std.specs.Prelude.{◌≡◌};
+ghost use Rattle.sets.specs.Words.{bit};
+ghost use Rattle.solver.specs.Outcome.{solve_number, solve_answer};
+ghost use Rattle.routes.specs.Route.{route_number, route_answer, shown};
+
+use crate::{Answer, Cause, Numbers, Report};
 
 // An answer of solve's.
 pub fn solving_answer(answer: solver::Answer) -> Answer
-    ensures { λ r. ⌜ route_answer r ≡ solve_answer answer ⌝ }
+    ensures { route_answer result ≡ solve_answer answer }
 {
     match answer {
         solver::Answer::Solved(report) => Answer::Solved(Report {
@@ -24,7 +22,7 @@ pub fn solving_answer(answer: solver::Answer) -> Answer
 
 // The number of a cause that is found on running a case.
 fn running_number(cause: solver::Cause) -> u64
-    ensures { λ r. ⌜ r ≡ solve_number cause ⌝ }
+    ensures { result ≡ solve_number cause }
 {
     match cause {
         solver::Cause::Layout => 11,
@@ -36,7 +34,7 @@ fn running_number(cause: solver::Cause) -> u64
 
 // The number of a cause.
 fn number_of(cause: Cause) -> u64
-    ensures { λ r. ⌜ r ≡ route_number cause ⌝ }
+    ensures { result ≡ route_number cause }
 {
     match cause {
         Cause::Open(cause) => cases::number_of(cause) as u64,
@@ -45,14 +43,14 @@ fn number_of(cause: Cause) -> u64
 }
 
 fn flag(b: bool) -> u64
-    ensures { λ r. ⌜ r ≡ bit b ⌝ }
+    ensures { result ≡ bit b }
 {
     if b { 1 } else { 0 }
 }
 
 // The numbers of an answer.
 pub fn numbers_of(answer: Answer) -> Numbers
-    ensures { λ r. ⌜ shown r ≡ route_answer answer ⌝ }
+    ensures { shown result ≡ route_answer answer }
 {
     match answer {
         Answer::Solved(report) => Numbers {

@@ -1,7 +1,6 @@
 // Reads a stream of cases from standard input, each as its length, a 16-bit number, low byte first, and then so many bytes. Prints a line
 // for each: its number in the stream, and then what `twosides` prints. A stream that ends inside a case ends there.
-use libc::STDIN_FILENO;
-use libc::STDOUT_FILENO;
+use libc::{STDIN_FILENO, STDOUT_FILENO};
 
 // The line of a case.
 fn run(number: u64, case: &[u8]) {

@@ -1,15 +1,15 @@
 -- Laws of truth values, range, all and any.
-use mathlib.Core.Path.{_≡_, refl, sym, ap, ap₂, _∙_}
-use mathlib.Core.Bool.{Bool, true, false, cond, not, _&&_, _||_, and-assoc}
-use mathlib.Core.List.{List, [], _∷_, _++_, map}
-use Prim.Native.Nat.{ℕ, zero, suc, _+_, _≤_, _<_}
+use mathlib.Core.Path.{◌≡◌, refl, sym, ap, ap₂, ◌∙◌}
+use mathlib.Core.Bool.{Bool, true, false, cond, not, ◌&&◌, ◌||◌, and_assoc}
+use mathlib.Core.List.{List, [], ◌∷◌, ◌++◌, map}
+use Prim.Native.Nat.{ℕ, zero, suc, ◌+◌, ◌≤◌, ◌<◌}
 use native.Mathlib.Nat.{zero-add}
 use native.Mathlib.Numerals.{add-one}
 use native.Mathlib.Omega.{arith}
 use lib.Dec.{T, ltb, ltb→lt}
-use lib.ListN.{length, getD, take, drop, length-map, drop-of-length-le}
+use lib.ListN.{length, get_or, take, drop, length-map, drop_of_length-le}
 use lib.Seq.{drop-cons}
-use Rattle·sets·specs.specs.Lists.{numbers_from, every, for_some, keep, sum}
+use Rattle.sets.specs.Lists.{numbers_from, every, for_some, keep, sum}
 
 -- range i k has k numbers
 pub length_range : (i k : ℕ) → length (numbers_from i k) ≡ k
@@ -18,20 +18,20 @@ length_range i zero = refl
 length_range i (suc k) = ap suc (length_range (suc i) k)
 
 -- the number at place j
-get_or_range : (i k j d : ℕ) → j < k → getD (numbers_from i k) j d ≡ i + j
+get_or_range : (i k j d : ℕ) → j < k → get_or (numbers_from i k) j d ≡ i + j
 unfolding numbers_from
 get_or_range i zero j d h = absurd (omega arith)
 get_or_range i (suc k) zero d h = omega arith
 get_or_range i (suc k) (suc j) d h = get_or_range (suc i) k j d (omega arith) ∙ (omega arith)
 
-pub range_at : (k j d : ℕ) → j < k → getD (numbers_from 0 k) j d ≡ j
+pub range_at : (k j d : ℕ) → j < k → get_or (numbers_from 0 k) j d ≡ j
 range_at k j d h = get_or_range 0 k j d h ∙ zero-add j
 
 -- an element of a mapped list, whatever stands for an element past the end
-pub get_or_map : {A B : Type 0} (f : A → B) (xs : List A) (i : ℕ) (a : A) (b : B) → i < length xs → getD (map f xs) i b ≡ f (getD xs i a)
-get_or_map f [] i a b h = absurd (omega arith)
-get_or_map f (x ∷ xs) zero a b h = refl
-get_or_map f (x ∷ xs) (suc i) a b h = get_or_map f xs i a b (omega arith)
+pub get_d_map : {A B : Type 0} (f : A → B) (xs : List A) (i : ℕ) (a : A) (b : B) → i < length xs → get_or (map f xs) i b ≡ f (get_or xs i a)
+get_d_map f [] i a b h = absurd (omega arith)
+get_d_map f (x ∷ xs) zero a b h = refl
+get_d_map f (x ∷ xs) (suc i) a b h = get_d_map f xs i a b (omega arith)
 
 -- the first i elements of a mapped list, and those after them
 pub take_map : {A B : Type 0} (f : A → B) (xs : List A) (i : ℕ) → take i (map f xs) ≡ map f (take i xs)
@@ -48,23 +48,23 @@ drop_map f (x ∷ xs) (suc i) = drop_map f xs i
 pub length_map_range : {B : Type 0} (f : ℕ → B) (i k : ℕ) → length (map f (numbers_from i k)) ≡ k
 length_map_range f i k = length-map (numbers_from i k) f ∙ length_range i k
 
-pub get_or_map_range : {B : Type 0} (f : ℕ → B) (i k j : ℕ) (b : B) → j < k → getD (map f (numbers_from i k)) j b ≡ f (i + j)
-get_or_map_range f i k j b h = get_or_map f (numbers_from i k) j 0 b (omega (arith, length_range i k)) ∙ ap f (get_or_range i k j 0 h)
+pub get_or_map_range : {B : Type 0} (f : ℕ → B) (i k j : ℕ) (b : B) → j < k → get_or (map f (numbers_from i k)) j b ≡ f (i + j)
+get_or_map_range f i k j b h = get_d_map f (numbers_from i k) j 0 b (omega (arith, length_range i k)) ∙ ap f (get_or_range i k j 0 h)
 
 -- the table of f at the first k numbers
 pub length_table : {B : Type 0} (f : ℕ → B) (k : ℕ) → length (map f (numbers_from 0 k)) ≡ k
 length_table f k = length_map_range f 0 k
 
-pub table_at : {B : Type 0} (f : ℕ → B) (k i : ℕ) (b : B) → i < k → getD (map f (numbers_from 0 k)) i b ≡ f i
+pub table_at : {B : Type 0} (f : ℕ → B) (k i : ℕ) (b : B) → i < k → get_or (map f (numbers_from 0 k)) i b ≡ f i
 table_at f k i b h = get_or_map_range f 0 k i b h ∙ ap f (zero-add i)
 
 -- the sum of f over the first elements of a list: one element more, and it grows
 pub sum_next : {A : Type 0} (f : A → ℕ) (xs : List A) (i : ℕ) (d : A) → i < length xs
-    → sum (map f (take (i + 1) xs)) ≡ sum (map f (take i xs)) + f (getD xs i d)
+    → sum (map f (take (i + 1) xs)) ≡ sum (map f (take i xs)) + f (get_or xs i d)
 unfolding sum
 sum_next f xs i d h = rw add-one (go xs i h)
   where
-    go : (xs : List _) (i : ℕ) → i < length xs → sum (map f (take (suc i) xs)) ≡ sum (map f (take i xs)) + f (getD xs i d)
+    go : (xs : List _) (i : ℕ) → i < length xs → sum (map f (take (suc i) xs)) ≡ sum (map f (take i xs)) + f (get_or xs i d)
     go [] i h = absurd (omega arith)
     go (x ∷ xs) zero h = omega arith
     go (x ∷ xs) (suc i) h = omega (arith, go xs i (omega arith))
@@ -78,7 +78,7 @@ sum_grows f (x ∷ xs) (suc i) (suc j) h = omega (arith, sum_grows f xs i j (ome
 
 -- the truth values differ
 pub false_true : ¬ (false ≡ true)
-false_true t = let z : _≡_ {A = ℕ} 0 1 = cc in omega arith
+false_true t = let z : ◌≡◌ {A = ℕ} 0 1 = cc in omega arith
 
 -- an or is true if one is
 pub or_left : (a b : Bool) → T a → T (a || b)
@@ -108,32 +108,32 @@ and_false true b h = h
 and_false false b h = refl
 
 -- the elements from place j on, where x stands at j
-pub drop_next : {A : Type 0} (l : List A) (j : ℕ) (d x : A) → j < length l → getD l j d ≡ x → drop j l ≡ x ∷ drop (j + 1) l
+pub drop_next : {A : Type 0} (l : List A) (j : ℕ) (d x : A) → j < length l → get_or l j d ≡ x → drop j l ≡ x ∷ drop (j + 1) l
 drop_next l j d x h is = rw (add-one, drop-cons l j d, is)
 
 -- A loop over a list: f of all of it, as all and any are, is f of what is left from place j on.
 module _ {A : Type 0} (f : List A → Bool) (l : List A) (j : ℕ) (left : f l ≡ f (drop j l)) where
   -- none is left
   pub loop_ends : length l ≤ j → f l ≡ f []
-  loop_ends h = left ∙ ap f (drop-of-length-le l h)
+  loop_ends h = left ∙ ap f (drop_of_length-le l h)
 
   -- the next element is x
-  pub loop_next : (d x : A) → j < length l → getD l j d ≡ x → f l ≡ f (x ∷ drop (j + 1) l)
+  pub loop_next : (d x : A) → j < length l → get_or l j d ≡ x → f l ≡ f (x ∷ drop (j + 1) l)
   loop_next d x h is = left ∙ ap f (drop_next l j d x h is)
 
 -- a property of all elements holds of each
-pub all_at : {A : Type 0} (p : A → Bool) (xs : List A) (j : ℕ) (d : A) → j < length xs → T (every p xs) → T (p (getD xs j d))
+pub all_at : {A : Type 0} (p : A → Bool) (xs : List A) (j : ℕ) (d : A) → j < length xs → T (every p xs) → T (p (get_or xs j d))
 unfolding every
 all_at p [] j d h t = absurd (omega arith)
 all_at p (x ∷ xs) zero d h t = and_left (p x) (every p xs) t
 all_at p (x ∷ xs) (suc j) d h t = all_at p xs j d (omega arith) (and_right (p x) (every p xs) t)
 
 -- test k of a list of tests
-pub test : (k : ℕ) (ts : List Bool) → T (every (λ t. t) ts) → T (ltb k (length ts)) → T (getD ts k true)
+pub test : (k : ℕ) (ts : List Bool) → T (every (λ t. t) ts) → T (ltb k (length ts)) → T (get_or ts k true)
 test k ts t h = all_at (λ t. t) ts k true (ltb→lt _ _ h) t
 
 -- a property of each element holds of all
-pub all_from : {A : Type 0} (p : A → Bool) (xs : List A) (d : A) → ((j : ℕ) → j < length xs → T (p (getD xs j d))) → T (every p xs)
+pub all_from : {A : Type 0} (p : A → Bool) (xs : List A) (d : A) → ((j : ℕ) → j < length xs → T (p (get_or xs j d))) → T (every p xs)
 unfolding every
 all_from p [] d h = tt
 all_from p (x ∷ xs) d h = and_both (p x) (every p xs) (h 0 (omega arith)) (all_from p xs d (λ j g. h (suc j) (omega arith)))
@@ -148,7 +148,7 @@ all_true (x ∷ xs) = all_true xs
 pub all_of_both : {A : Type 0} (p : A → Bool) (xs ys : List A) → every p (xs ++ ys) ≡ (every p xs && every p ys)
 unfolding every
 all_of_both p [] ys = refl
-all_of_both p (x ∷ xs) ys = rw (all_of_both p xs ys) (sym (and-assoc (p x) (every p xs) (every p ys)))
+all_of_both p (x ∷ xs) ys = rw (all_of_both p xs ys) (sym (and_assoc (p x) (every p xs) (every p ys)))
 
 -- all of the elements that are kept
 pub all_of_kept : {A : Type 0} (p q : A → Bool) (xs : List A) → every p (keep q xs) ≡ every (λ x. not (q x) || p x) xs
@@ -173,8 +173,8 @@ abbrev pub Implies : Bool → Bool → Type 0
 Implies a b = T a → T b
 
 -- equality is kept
-pub kept_equal : Kept (_≡_ {A = Bool})
-kept_equal = record { yes = refl; no = refl; and = λ a b c d p q. ap₂ _&&_ p q; or = λ a b c d p q. ap₂ _||_ p q }
+pub kept_equal : Kept (◌≡◌ {A = Bool})
+kept_equal = record { yes = refl; no = refl; and = λ a b c d p q. ap₂ ◌&&◌ p q; or = λ a b c d p q. ap₂ ◌||◌ p q }
 
 -- implication is kept
 and_mono : (a b c d : Bool) → Implies a c → Implies b d → Implies (a && b) (c && d)
@@ -194,15 +194,15 @@ kept_implies = record { yes = λ t. t; no = λ t. t; and = and_mono; or = or_mon
 module _ {R : Bool → Bool → Type 0} (kept : Kept R) {A : Type 0} (u p q : A → Bool) (each : (x : A) → T (u x) → R (p x) (q x)) where
   pub all_kept : (xs : List A) → T (every u xs) → R (every p xs) (every q xs)
   unfolding every
-  all_kept [] t = kept .yes
+  all_kept [] t = kept.yes
   all_kept (x ∷ xs) t =
-      kept .and (p x) (every p xs) (q x) (every q xs) (each x (and_left (u x) (every u xs) t)) (all_kept xs (and_right (u x) (every u xs) t))
+      kept.and (p x) (every p xs) (q x) (every q xs) (each x (and_left (u x) (every u xs) t)) (all_kept xs (and_right (u x) (every u xs) t))
 
   pub any_kept : (xs : List A) → T (every u xs) → R (for_some p xs) (for_some q xs)
   unfolding every for_some
-  any_kept [] t = kept .no
+  any_kept [] t = kept.no
   any_kept (x ∷ xs) t =
-      kept .or (p x) (for_some p xs) (q x) (for_some q xs) (each x (and_left (u x) (every u xs) t)) (any_kept xs (and_right (u x) (every u xs) t))
+      kept.or (p x) (for_some p xs) (q x) (for_some q xs) (each x (and_left (u x) (every u xs) t)) (any_kept xs (and_right (u x) (every u xs) t))
 
 -- what holds of all grows with the property
 pub all_mono : {A : Type 0} (p q : A → Bool) → ((x : A) → T (p x) → T (q x)) → (xs : List A) → T (every p xs) → T (every q xs)

@@ -1,21 +1,21 @@
 -- Laws of the numbers and words of sets that a property picks out of a list: bit by bit, the operations on numbers are those on truth values.
-use mathlib.Core.Path.{_≡_, refl, sym, ap, _∙_}
-use mathlib.Core.Bool.{Bool, true, false, not, cond, _&&_, _||_}
-use mathlib.Core.List.{List, [], _∷_, map, map-id}
-use Prim.Native.Nat.{ℕ, zero, suc, _+_, _-_, _*_, _/_, _%_, _^_, _<_, min, max}
+use mathlib.Core.Path.{◌≡◌, refl, sym, ap, ◌∙◌}
+use mathlib.Core.Bool.{Bool, true, false, not, cond, ◌&&◌, ◌||◌}
+use mathlib.Core.List.{List, [], ◌∷◌, map, map-id}
+use Prim.Native.Nat.{ℕ, zero, suc, ◌+◌, ◌-◌, ◌*◌, ◌/◌, ◌%◌, ◌^◌, ◌<◌, min, max}
 use native.Mathlib.Omega.{arith}
 use native.Mathlib.Nat.{pow-suc}
-use lib.ListN.{length, getD, take, drop, length-map}
-use lib.Seq.{ext-getD}
-use lib.Bits.{bitAnd, bitOr, bitXor, differ, and-step, or-step, xor-step, and-zero-l, or-zero-l, xor-zero-l}
+use lib.ListN.{length, get_or, take, drop, length-map}
+use lib.Seq.{ext_get_or}
+use lib.Bits.{bit_and, bit_or, bit_xor, differ, and_step, or_step, xor_step, and_zero_l, or_zero_l, xor_zero_l}
 use lib.Dec.{eqb}
-use lib.Pow.{pow-pos}
-use borrow.Author.Tests.{eq-eqb, ne-eqb}
-use Rattle·sets·specs.specs.Lists.{numbers_from}
-use Rattle·sets·specs.specs.States.{States, has, start}
-use Rattle·sets·specs.specs.Words.{words, from_bits, bit}
-use Rattle·sets·proofs.proofs.Lists.{length_table, table_at, take_map, drop_map}
-use Rattle·sets·proofs.proofs.Words.{half, odd, number_fits, part, word_at}
+use lib.Pow.{pow_pos}
+use borrow.Author.Tests.{eq-eqb, ne_eqb}
+use Rattle.sets.specs.Lists.{numbers_from}
+use Rattle.sets.specs.States.{States, has, start}
+use Rattle.sets.specs.Words.{words, from_bits, bit}
+use Rattle.sets.proofs.Lists.{length_table, table_at, take_map, drop_map}
+use Rattle.sets.proofs.Words.{half, odd, number_fits, part, word_at}
 
 -- ---- operations bit by bit
 
@@ -35,16 +35,16 @@ digitwise digit z step is = record {
 }
 
 -- one bit of an and, an or, a difference and a not
-bit_and : (a b : Bool) → min (bit a) (bit b) ≡ bit (a && b)
-bit_and true true = omega arith
-bit_and true false = omega arith
-bit_and false b = omega arith
+bit_and_lem : (a b : Bool) → min (bit a) (bit b) ≡ bit (a && b)
+bit_and_lem true true = omega arith
+bit_and_lem true false = omega arith
+bit_and_lem false b = omega arith
 
-bit_or : (a b : Bool) → max (bit a) (bit b) ≡ bit (a || b)
-bit_or true true = omega arith
-bit_or true false = omega arith
-bit_or false true = omega arith
-bit_or false false = omega arith
+bit_or_lem : (a b : Bool) → max (bit a) (bit b) ≡ bit (a || b)
+bit_or_lem true true = omega arith
+bit_or_lem true false = omega arith
+bit_or_lem false true = omega arith
+bit_or_lem false false = omega arith
 
 bit_differ : (a b : Bool) → differ (bit a) (bit b) ≡ bit (cond a (not b) b)
 bit_differ true true = refl
@@ -56,19 +56,19 @@ bit_not true = refl
 bit_not false = refl
 
 -- both
-pub bitwise_and : Bitwise bitAnd _&&_
-bitwise_and = digitwise min (and-zero-l 0) and-step bit_and
+pub bitwise_and : Bitwise bit_and ◌&&◌
+bitwise_and = digitwise min (and_zero_l 0) and_step bit_and_lem
 
 -- one or the other
-pub bitwise_or : Bitwise bitOr _||_
-bitwise_or = digitwise max (or-zero-l 0) or-step bit_or
+pub bitwise_or : Bitwise bit_or ◌||◌
+bitwise_or = digitwise max (or_zero_l 0) or_step bit_or_lem
 
 -- exactly one
-bitwise_xor : Bitwise bitXor (λ a b. cond a (not b) b)
-bitwise_xor = digitwise differ (xor-zero-l 0) xor-step bit_differ
+bitwise_xor : Bitwise bit_xor (λ a b. cond a (not b) b)
+bitwise_xor = digitwise differ (xor_zero_l 0) xor_step bit_differ
 
 -- an or, if `either`, else an and
-pub bitwise_either : (either : Bool) → Bitwise (λ x y. cond either (bitOr x y) (bitAnd x y)) (λ a b. cond either (a || b) (a && b))
+pub bitwise_either : (either : Bool) → Bitwise (λ x y. cond either (bit_or x y) (bit_and x y)) (λ a b. cond either (a || b) (a && b))
 bitwise_either true = bitwise_or
 bitwise_either false = bitwise_and
 
@@ -84,15 +84,15 @@ module _ {A : Type 0} where
   pub number_true : (xs : List A) → from_bits (map (λ x. true) xs) ≡ 2 ^ length xs - 1
   unfolding from_bits
   number_true [] = refl
-  number_true (x ∷ xs) = omega (arith, number_true xs, pow-suc 2 (length xs), pow-pos (length xs))
+  number_true (x ∷ xs) = omega (arith, number_true xs, pow-suc 2 (length xs), pow_pos (length xs))
 
   -- those that an operation picks
   pub number_bitwise : {op : ℕ → ℕ → ℕ} {f : Bool → Bool → Bool} → Bitwise op f
       → (p q : A → Bool) (xs : List A) → op (from_bits (map p xs)) (from_bits (map q xs)) ≡ from_bits (map (λ x. f (p x) (q x)) xs)
   unfolding from_bits
-  number_bitwise o p q [] = o .none
+  number_bitwise o p q [] = o.none
   number_bitwise o p q (x ∷ xs) =
-      o .more (p x) (q x) (from_bits (map p xs)) (from_bits (map q xs)) ∙ rw (number_bitwise o p q xs)
+      o.more (p x) (q x) (from_bits (map p xs)) (from_bits (map q xs)) ∙ rw (number_bitwise o p q xs)
 
   -- the others
   pub number_not : (p : A → Bool) (xs : List A) → (2 ^ length xs - 1) - from_bits (map p xs) ≡ from_bits (map (λ x. not (p x)) xs)
@@ -107,7 +107,7 @@ module _ {A : Type 0} where
 none_before : (j i m : ℕ) → j < i → from_bits (map (eqb j) (numbers_from i m)) ≡ 0
 unfolding from_bits numbers_from
 none_before j i zero h = refl
-none_before j i (suc m) h = rw (ne-eqb j i (λ e. omega arith)) (omega (arith, none_before j (suc i) m (omega arith)))
+none_before j i (suc m) h = rw (ne_eqb j i (λ e. omega arith)) (omega (arith, none_before j (suc i) m (omega arith)))
 
 -- the number j of the range from i on, alone
 one_from : (j i m : ℕ) → i + j < i + m → from_bits (map (eqb (i + j)) (numbers_from i m)) ≡ 2 ^ j
@@ -116,7 +116,7 @@ one_from j i zero h = absurd (omega arith)
 one_from zero i (suc m) h = rw (eq-eqb (i + 0) i (omega arith)) (omega (arith, none_before (i + 0) (suc i) m (omega arith)))
 one_from (suc j) i (suc m) h =
     let e : i + suc j ≡ suc i + j = omega arith in
-    rw (ne-eqb (i + suc j) i (λ q. omega arith), e) (omega (arith, one_from j (suc i) m (omega arith), pow-suc 2 j))
+    rw (ne_eqb (i + suc j) i (λ q. omega arith), e) (omega (arith, one_from j (suc i) m (omega arith), pow-suc 2 j))
 
 -- j alone
 pub number_one : (j m : ℕ) → j < m → from_bits (map (eqb j) (numbers_from 0 m)) ≡ 2 ^ j
@@ -134,18 +134,18 @@ module _ {op : ℕ → ℕ → ℕ} {f : Bool → Bool → Bool} (o : Bitwise op
 
   -- from the words of two sets of n states
   pub word_combined : (k n : ℕ) (v w : States) → length v ≡ n → length w ≡ n → (j : ℕ) → j < k
-      → op (getD (words k v) j 0) (getD (words k w) j 0) ≡ from_bits (part (map (λ s. f (has v s) (has w s)) (numbers_from 0 n)) j)
+      → op (get_or (words k v) j 0) (get_or (words k w) j 0) ≡ from_bits (part (map (λ s. f (has v s) (has w s)) (numbers_from 0 n)) j)
   word_combined k n v w d e j h =
       rw (word_at k v j h, word_at k w j h) (rw (table n v d, table n w e) at (word_bitwise (has v) (has w) (numbers_from 0 n) j))
     where
       -- a set by its states
       table : (n : ℕ) (v : States) → length v ≡ n → map (has v) (numbers_from 0 n) ≡ v
-      table n v d = ext-getD false (map (has v) (numbers_from 0 n)) v (length_table (has v) n ∙ sym d) λ s b.
+      table n v d = ext_get_or false (map (has v) (numbers_from 0 n)) v (length_table (has v) n ∙ sym d) λ s b.
           table_at (has v) n s false (omega (arith, length_table (has v) n))
 
 -- word j of the states that are not in a set of n states
 pub word_complement : (k n : ℕ) (v : States) → length v ≡ n → (j : ℕ) → j < k
-    → bitXor (from_bits (part (start n true) j)) (getD (words k v) j 0) ≡ from_bits (part (map not v) j)
+    → bit_xor (from_bits (part (start n true) j)) (get_or (words k v) j 0) ≡ from_bits (part (map not v) j)
 word_complement k n v d j h =
     rw (word_at k v j h, ← d, ← full v) (rw (map-id v) at (word_bitwise bitwise_xor (λ b. true) (λ b. b) v j))
   where

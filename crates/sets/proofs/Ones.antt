@@ -1,20 +1,20 @@
 -- The ones of a set's words are as many as the states that the words have room for: for any number of words and of states.
-use mathlib.Core.Path.{_≡_, refl, sym, ap, _∙_}
-use mathlib.Core.Logic.{by-cases}
+use mathlib.Core.Path.{◌≡◌, refl, sym, ap, ◌∙◌}
+use mathlib.Core.Logic.{by_cases}
 use mathlib.Core.Bool.{Bool, true, false, cond}
-use mathlib.Core.List.{List, [], _∷_, map}
-use Prim.Native.Nat.{ℕ, zero, suc, _+_, _*_, _/_, _%_, _^_, _<_, _≤_}
+use mathlib.Core.List.{List, [], ◌∷◌, map}
+use Prim.Native.Nat.{ℕ, zero, suc, ◌+◌, ◌*◌, ◌/◌, ◌%◌, ◌^◌, ◌<◌, ◌≤◌}
 use native.Mathlib.Nat.{zero-div}
 use native.Mathlib.Omega.{arith}
-use native.Mathlib.Decide.{decLt}
-use lib.ListN.{length, take, drop, length-take, List·getD-eq-default, drop-of-length-le}
-use lib.Seq.{drop-drop, getD-take}
-use lib.Count.{ones, ones-step}
-use Rattle·sets·specs.specs.Lists.{numbers_from, keep, sum}
-use Rattle·sets·specs.specs.States.{States, has, size}
-use Rattle·sets·specs.specs.Words.{words, from_bits, bit, marked, ones_of, marked_below, Marks, word_count, state_limit}
-use Rattle·sets·proofs.proofs.Lists.{length_table, table_at}
-use Rattle·sets·proofs.proofs.Words.{half, odd, words_length, marked_words, take_words}
+use native.Mathlib.Decide.{dec_lt}
+use lib.ListN.{length, take, drop, length-take, get_or-eq_default, drop_of_length-le}
+use lib.Seq.{drop-drop, get_or-take}
+use lib.Count.{ones, ones_step}
+use Rattle.sets.specs.Lists.{numbers_from, keep, sum}
+use Rattle.sets.specs.States.{States, has, size}
+use Rattle.sets.specs.Words.{words, from_bits, bit, marked, ones_of, marked_below, Marks, word_count, state_limit}
+use Rattle.sets.proofs.Lists.{length_table, table_at}
+use Rattle.sets.proofs.Words.{half, odd, words_length, marked_words, take_words}
 
 -- ---- one word, then all
 
@@ -22,7 +22,7 @@ use Rattle·sets·proofs.proofs.Words.{half, odd, words_length, marked_words, ta
 number_ones : (v : States) → ones (from_bits v) ≡ size v
 unfolding from_bits size ones
 number_ones [] = refl
-number_ones (b ∷ v) = ones-step (bit b + 2 * from_bits v) ∙ rw (half b (from_bits v), odd b (from_bits v), number_ones v) refl
+number_ones (b ∷ v) = ones_step (bit b + 2 * from_bits v) ∙ rw (half b (from_bits v), odd b (from_bits v), number_ones v) refl
 
 -- the first states and the others
 size_parts : (m : ℕ) (v : States) → size (take m v) + size (drop m v) ≡ size v
@@ -43,7 +43,7 @@ words_ones (suc k) v =
 -- The ones of a set's words are its states, where there is room for them all.
 pub ones_size : (k : ℕ) (v : States) → length v ≤ 64 * k → ones_of (words k v) ≡ size v
 unfolding size
-ones_size k v h = omega (arith, words_ones k v, ap size (drop-of-length-le v h))
+ones_size k v h = omega (arith, words_ones k v, ap size (drop_of_length-le v h))
 
 -- ---- the states below n whose bit is 1
 
@@ -70,14 +70,14 @@ below_size : (p : ℕ → Bool) (n : ℕ) (v : States) → length v ≤ n → ((
 below_size p n v l is =
     kept_size p (numbers_from 0 n)
     ∙ same_size (map p (numbers_from 0 n)) v λ s.
-    by-cases (decLt s n)
+    by_cases (dec_lt s n)
     (λ h. table_at p n s false h ∙ is s h)
-    (λ h. List·getD-eq-default (map p (numbers_from 0 n)) false {n = s} (omega (arith, length_table p n)) ∙ sym (List·getD-eq-default v false {n = s} (omega arith)))
+    (λ h. get_or-eq_default (map p (numbers_from 0 n)) false {n = s} (omega (arith, length_table p n)) ∙ sym (get_or-eq_default v false {n = s} (omega arith)))
 
 -- no word, no bit
 marked_none : (ws : List ℕ) (s : ℕ) → 64 * length ws ≤ s → marked ws s ≡ false
 unfolding marked
-marked_none ws s h = rw (List·getD-eq-default ws 0 {n = s / 64} (omega arith), zero-div (2 ^ (s % 64))) refl
+marked_none ws s h = rw (get_or-eq_default ws 0 {n = s / 64} (omega arith), zero-div (2 ^ (s % 64))) refl
 
 -- The sum of the ones of the words of a set of n states is the number of states below n whose bit is 1: for any number of words, also if there is
 -- no room in them for every state.
@@ -85,10 +85,10 @@ pub ones_marked : (k n : ℕ) (v : States) → length v ≡ n → ones_of (words
 ones_marked k n v l = sym (below_size (marked (words k v)) n (take (64 * k) v) (simp length-take (omega arith)) held ∙ whole)
   where
     held : (s : ℕ) → s < n → marked (words k v) s ≡ has (take (64 * k) v) s
-    held s h = by-cases (decLt s (64 * k))
-        (λ b. marked_words k v s b ∙ sym (getD-take (64 * k) v s false b))
+    held s h = by_cases (dec_lt s (64 * k))
+        (λ b. marked_words k v s b ∙ sym (get_or-take (64 * k) v s false b))
         (λ b. marked_none (words k v) s (omega (arith, words_length k v))
-        ∙ sym (List·getD-eq-default (take (64 * k) v) false {n = s} (simp length-take (omega arith))))
+        ∙ sym (get_or-eq_default (take (64 * k) v) false {n = s} (simp length-take (omega arith))))
 
     whole : size (take (64 * k) v) ≡ ones_of (words k v)
     whole = omega (arith, words_ones k v, size_parts (64 * k) v)
@@ -97,6 +97,6 @@ ones_marked k n v l = sym (below_size (marked (words k v)) n (take (64 * k) v) (
 pub marks_size : {n : ℕ} {v : States} {lent after : List ℕ} → n ≤ state_limit → Marks n v lent after
     → (size v ≡ ones_of (take word_count after)) × (size v ≡ marked_below after n)
 marks_size {n} {v} {lent} {after} few m = (
-  rw (m .are, take_words word_count v (drop word_count lent)) (sym (ones_size word_count v (omega (arith, m .sized)))),
-  sym (below_size (marked after) n v (omega (arith, m .sized)) (λ s h. m .shown s (omega arith))),
+  rw (m.are, take_words word_count v (drop word_count lent)) (sym (ones_size word_count v (omega (arith, m.sized)))),
+  sym (below_size (marked after) n v (omega (arith, m.sized)) (λ s h. m.shown s (omega arith))),
 )

@@ -1,19 +1,19 @@
 -- Equality of sets, and the order in which an iteration of either sign goes.
-use mathlib.Core.Path.{_≡_, refl, sym, ap, ap₂, subst, _∙_}
-use mathlib.Core.Bool.{Bool, true, false, Bool·beq, true≢false}
-use mathlib.Core.List.{[], _∷_}
-use Prim.Native.Nat.{ℕ, zero, suc, _-_, _≤_, _<_}
+use mathlib.Core.Path.{◌≡◌, refl, sym, ap, ap₂, subst, ◌∙◌}
+use mathlib.Core.Bool.{Bool, true, false, beq, true≢false}
+use mathlib.Core.List.{[], ◌∷◌}
+use Prim.Native.Nat.{ℕ, zero, suc, ◌-◌, ◌≤◌, ◌<◌}
 use native.Mathlib.Omega.{arith}
 use borrow.Author.Tests.{ltb-true, ltb-false}
 use lib.Dec.{T, ltb}
 use lib.ListN.{length, replicate}
-use Rattle·sets·specs.specs.States.{States, has, Subset, size, start, Before, Extremal}
-use Rattle·sets·specs.specs.computed.Iteration.{same}
-use Rattle·sets·specs.specs.Words.{bit}
-use Rattle·sets·proofs.proofs.Lists.{and_left, and_right}
+use Rattle.sets.specs.States.{States, has, Subset, size, start, Before, Extremal}
+use Rattle.sets.specs.computed.Iteration.{same}
+use Rattle.sets.specs.Words.{bit}
+use Rattle.sets.proofs.Lists.{and_left, and_right}
 
 -- same says true only of equal sets
-beq_eq : (a b : Bool) → T (Bool·beq a b) → a ≡ b
+beq_eq : (a b : Bool) → T (beq a b) → a ≡ b
 beq_eq true true t = refl
 beq_eq true false t = absurd t
 beq_eq false true t = absurd t
@@ -24,7 +24,7 @@ unfolding same
 same_true [] [] t = refl
 same_true [] (b ∷ y) t = absurd t
 same_true (a ∷ x) [] t = absurd t
-same_true (a ∷ x) (b ∷ y) t = ap₂ _∷_ (beq_eq a b (and_left (Bool·beq a b) (same x y) t)) (same_true x y (and_right (Bool·beq a b) (same x y) t))
+same_true (a ∷ x) (b ∷ y) t = ap₂ ◌∷◌ (beq_eq a b (and_left (beq a b) (same x y) t)) (same_true x y (and_right (beq a b) (same x y) t))
 
 pub same_eq : (x y : States) → same x y ≡ true → x ≡ y
 same_eq x y e = same_true x y (subst T (sym e) tt)
@@ -75,7 +75,7 @@ size_eq (a ∷ x) (b ∷ y) e h l =
     let p = bit_le a b (h 0) in
     let o : length x ≡ length y = omega arith in
     let q = size_subset x y o (λ s. h (suc s)) in
-    ap₂ _∷_ (bit_eq a b (omega (arith, p, q))) (size_eq x y o (λ s. h (suc s)) (omega (arith, p, q)))
+    ap₂ ◌∷◌ (bit_eq a b (omega (arith, p, q))) (size_eq x y o (λ s. h (suc s)) (omega (arith, p, q)))
 
 -- If they are not equal, it has more.
 pub size_less : (x y : States) → length x ≡ length y → Subset x y → ¬ (x ≡ y) → size x < size y
@@ -143,9 +143,9 @@ room_less true x y e h d = size_less y x (sym e) h d
 -- What is least or greatest with a property is so with any property that holds of the same sets.
 pub extremal_map : {n : ℕ} {sign : Bool} {P Q : States → Type 0} → ((u : States) → length u ≡ n → P u → Q u) → ((u : States) → length u ≡ n → Q u → P u)
     → {v : States} → Extremal n sign P v → Extremal n sign Q v
-extremal_map there back {v} x = record { sized = x .sized; holds = there v (x .sized) (x .holds); first = λ u o q. x .first u o (back u o q) }
+extremal_map there back {v} x = record { sized = x.sized; holds = there v x.sized x.holds; first = λ u o q. x.first u o (back u o q) }
 
 -- There is only one.
 pub extremal_one : {n : ℕ} {sign : Bool} {P : States → Type 0} {v w : States} → Extremal n sign P v → Extremal n sign P w → v ≡ w
 extremal_one {sign = sign} {v = v} {w = w} x y =
-    before_antisym sign v w (x .sized ∙ sym (y .sized)) (x .first w (y .sized) (y .holds)) (y .first v (x .sized) (x .holds))
+    before_antisym sign v w (x.sized ∙ sym y.sized) (x.first w y.sized y.holds) (y.first v x.sized x.holds)

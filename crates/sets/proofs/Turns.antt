@@ -1,9 +1,9 @@
 -- The loop with no bound, seen from its head, where the run from the set held is still to come: one turn of it, and then it stops or goes on.
-use mathlib.Core.Path.{_≡_, refl}
-use Prim.Native.Nat.{ℕ, _+_, _≤_}
+use mathlib.Core.Path.{◌≡◌, refl}
+use Prim.Native.Nat.{ℕ, ◌+◌, ◌≤◌}
 use native.Mathlib.Omega.{arith}
-use Rattle·sets·specs.specs.States.{States}
-use Rattle·sets·specs.specs.Loop.{Step, Loop, stop, again}
+use Rattle.sets.specs.States.{States}
+use Rattle.sets.specs.Loop.{Step, Loop, stop, again}
 
 -- What is left of a loop whose last turn holds u, after `used` rounds of `total`: from the set that it is at, of which something is known.
 pub record Left {A : Type 0} (F : Step A) (Known : States → Type 0) (u : A) (used total : ℕ) : Type 0 where

@@ -1,11 +1,11 @@
 -- Laws of valuations.
-use mathlib.Core.Path.{_≡_, refl}
+use mathlib.Core.Path.{◌≡◌, refl}
 use mathlib.Core.Bool.{Bool, true, false, cond}
 use Prim.Native.Nat.{ℕ}
-use borrow.Author.Tests.{eq-eqb, ne-eqb}
+use borrow.Author.Tests.{eq-eqb, ne_eqb}
 use lib.Dec.{eqb}
 use lib.ListN.{length}
-use Rattle·sets·specs.specs.States.{States, Subset, Valuation, update, Sized}
+use Rattle.sets.specs.States.{States, Subset, Valuation, update, Sized}
 
 -- The set of variable k is v, and those of the others are as before.
 pub update_same : (ρ : Valuation) (k : ℕ) (v : States) → update ρ k v k ≡ v
@@ -14,7 +14,7 @@ update_same ρ k v = rw (eq-eqb k k refl)
 
 pub update_other : (ρ : Valuation) (k : ℕ) (v : States) (j : ℕ) → ¬ (j ≡ k) → update ρ k v j ≡ ρ j
 unfolding update
-update_other ρ k v j d = rw (ne-eqb j k d)
+update_other ρ k v j d = rw (ne_eqb j k d)
 
 -- each set of ρ is in that of σ
 abbrev pub Included : Valuation → Valuation → Type 0

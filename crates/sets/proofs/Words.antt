@@ -1,22 +1,22 @@
 -- Laws of the words that hold a set, for any number of words.
-use mathlib.Core.Path.{_≡_, refl, sym, ap, _∙_}
-use mathlib.Core.Logic.{_≢_}
+use mathlib.Core.Path.{◌≡◌, refl, sym, ap, ◌∙◌}
+use mathlib.Core.Logic.{◌≢◌}
 use mathlib.Core.Bool.{Bool, true, false, cond}
-use mathlib.Core.List.{List, [], _∷_, _++_}
-use Prim.Native.Nat.{ℕ, zero, suc, _+_, _-_, _*_, _/_, _%_, _^_, _<_, _≤_, min}
+use mathlib.Core.List.{List, [], ◌∷◌, ◌++◌}
+use Prim.Native.Nat.{ℕ, zero, suc, ◌+◌, ◌-◌, ◌*◌, ◌/◌, ◌%◌, ◌^◌, ◌<◌, ◌≤◌, min}
 use native.Mathlib.Omega.{arith}
-use native.Mathlib.Decide.{decLt, ℕ_discrete}
+use native.Mathlib.Decide.{dec_lt, ℕ_discrete}
 use native.Mathlib.Nat.{pow-suc, pow-zero, zero-div, div-one, one-mul, sub-zero, zero-sub, suc-sub-suc, zero-min, min-zero, suc-min-suc}
 use native.Mathlib.Numerals.{one-add}
-use lib.ListN.{length, getD, set, take, drop, replicate, length-set, length-take, length-drop, length-replicate, getD-replicate, List·getD-append, List·getD-eq-default}
-use lib.Seq.{getD-take, getD-drop, drop-drop, ext-getD, getD-set-same, getD-set-other, drop-set-add, drop-set-lt, take-set-le, take-set-lt, take-append-seam}
+use lib.ListN.{length, get_or, set, take, drop, replicate, length-set, length-take, length-drop, length-replicate, get_or-replicate, get_or-append, get_or-eq_default}
+use lib.Seq.{get_or-take, get_or-drop, drop-drop, ext_get_or, get_or-set_same, get_or-set_other, drop-set-add, drop-set-lt, take-set-le, take-set-lt, take-append_seam}
 use lib.Dec.{eqb, lit<}
-use lib.Bits.{bitAnd, bitOr, and-step, or-step, and-zero-l, or-zero-r}
-use lib.Pow.{pow-mono, pow-pos, shl-exact, shr-shr}
-use Rattle·sets·specs.specs.States.{States, has, start}
-use Rattle·sets·specs.specs.Words.{words, from_bits, marked, bit, Marks, word_count, state_limit}
-use Rattle·sets·specs.specs.internal.Decides.{Decides}
-use Rattle·sets·proofs.proofs.Lists.{false_true}
+use lib.Bits.{bit_and, bit_or, and_step, or_step, and_zero_l, or_zero_r}
+use lib.Pow.{pow_mono, pow_pos, shl_exact, shr-shr}
+use Rattle.sets.specs.States.{States, has, start}
+use Rattle.sets.specs.Words.{words, from_bits, marked, bit, Marks, word_count, state_limit}
+use Rattle.sets.specs.internal.Decides.{Decides}
+use Rattle.sets.proofs.Lists.{false_true}
 
 -- ---- the number of a set
 
@@ -49,14 +49,14 @@ number_fits [] = omega arith
 number_fits (b ∷ v) = omega (arith, number_fits v, pow-suc 2 (length v), bit_small b)
 
 -- one state more is one bit more
-number_add : (v : States) (s : ℕ) → s < length v → bitOr (from_bits v) (2 ^ s) ≡ from_bits (set v s true)
+number_add : (v : States) (s : ℕ) → s < length v → bit_or (from_bits v) (2 ^ s) ≡ from_bits (set v s true)
 unfolding from_bits
 number_add [] s h = absurd (omega arith)
 number_add (b ∷ v) zero h =
-    or-step (bit b + 2 * from_bits v) 1 ∙ rw (half b (from_bits v), odd b (from_bits v), or-zero-r (from_bits v)) (omega (arith, bit_small b))
+    or_step (bit b + 2 * from_bits v) 1 ∙ rw (half b (from_bits v), odd b (from_bits v), or_zero_r (from_bits v)) (omega (arith, bit_small b))
 number_add (b ∷ v) (suc s) h =
     rw (pow-suc 2 s)
-    (or-step (bit b + 2 * from_bits v) (2 ^ s * 2)
+    (or_step (bit b + 2 * from_bits v) (2 ^ s * 2)
     ∙ rw (half b (from_bits v), odd b (from_bits v), double (2 ^ s), even (2 ^ s), number_add v s (omega arith)) (omega (arith, bit_small b)))
   where
     double : (x : ℕ) → x * 2 / 2 ≡ x
@@ -66,36 +66,36 @@ number_add (b ∷ v) (suc s) h =
     even x = omega arith
 
 -- a number of m bits, and a mask of all m
-mask_all : (v : States) (m : ℕ) → length v ≤ m → bitAnd (from_bits v) (2 ^ m - 1) ≡ from_bits v
+mask_all : (v : States) (m : ℕ) → length v ≤ m → bit_and (from_bits v) (2 ^ m - 1) ≡ from_bits v
 unfolding from_bits
-mask_all [] m h = and-zero-l (2 ^ m - 1)
+mask_all [] m h = and_zero_l (2 ^ m - 1)
 mask_all (b ∷ v) zero h = absurd (omega arith)
 mask_all (b ∷ v) (suc m) h =
-    let l : (2 ^ suc m - 1) / 2 ≡ 2 ^ m - 1 = omega (arith, pow-suc 2 m, pow-pos m) in
-    let o : (2 ^ suc m - 1) % 2 ≡ 1 = omega (arith, pow-suc 2 m, pow-pos m) in
-    and-step (bit b + 2 * from_bits v) (2 ^ suc m - 1)
+    let l : (2 ^ suc m - 1) / 2 ≡ 2 ^ m - 1 = omega (arith, pow-suc 2 m, pow_pos m) in
+    let o : (2 ^ suc m - 1) % 2 ≡ 1 = omega (arith, pow-suc 2 m, pow_pos m) in
+    and_step (bit b + 2 * from_bits v) (2 ^ suc m - 1)
     ∙ rw (half b (from_bits v), odd b (from_bits v), l, o, mask_all v m (omega arith)) (omega (arith, bit_small b))
 
 -- one state less is one bit less, in words of m bits
-number_remove : (v : States) (s m : ℕ) → s < length v → length v ≤ m → bitAnd (from_bits v) (2 ^ m - 1 - 2 ^ s) ≡ from_bits (set v s false)
+number_remove : (v : States) (s m : ℕ) → s < length v → length v ≤ m → bit_and (from_bits v) (2 ^ m - 1 - 2 ^ s) ≡ from_bits (set v s false)
 unfolding from_bits
 number_remove [] s m h g = absurd (omega arith)
 number_remove (b ∷ v) s zero h g = absurd (omega arith)
 number_remove (b ∷ v) zero (suc m) h g =
-    let l : (2 ^ suc m - 1 - 2 ^ 0) / 2 ≡ 2 ^ m - 1 = omega (arith, pow-suc 2 m, pow-pos m, pow-zero 2) in
-    let o : (2 ^ suc m - 1 - 2 ^ 0) % 2 ≡ 0 = omega (arith, pow-suc 2 m, pow-pos m, pow-zero 2) in
-    and-step (bit b + 2 * from_bits v) (2 ^ suc m - 1 - 2 ^ 0)
+    let l : (2 ^ suc m - 1 - 2 ^ 0) / 2 ≡ 2 ^ m - 1 = omega (arith, pow-suc 2 m, pow_pos m, pow-zero 2) in
+    let o : (2 ^ suc m - 1 - 2 ^ 0) % 2 ≡ 0 = omega (arith, pow-suc 2 m, pow_pos m, pow-zero 2) in
+    and_step (bit b + 2 * from_bits v) (2 ^ suc m - 1 - 2 ^ 0)
     ∙ rw (half b (from_bits v), odd b (from_bits v), l, o, mask_all v m (omega arith)) (omega (arith, bit_small b))
 number_remove (b ∷ v) (suc s) (suc m) h g =
-    let wide : 2 ^ suc s ≤ 2 ^ m = pow-mono {i = suc s} {j = m} (omega arith) in
-    let l : (2 ^ suc m - 1 - 2 ^ suc s) / 2 ≡ 2 ^ m - 1 - 2 ^ s = omega (arith, pow-suc 2 m, pow-suc 2 s, pow-pos s) in
-    let o : (2 ^ suc m - 1 - 2 ^ suc s) % 2 ≡ 1 = omega (arith, pow-suc 2 m, pow-suc 2 s, pow-pos s) in
-    and-step (bit b + 2 * from_bits v) (2 ^ suc m - 1 - 2 ^ suc s)
+    let wide : 2 ^ suc s ≤ 2 ^ m = pow_mono {i = suc s} {j = m} (omega arith) in
+    let l : (2 ^ suc m - 1 - 2 ^ suc s) / 2 ≡ 2 ^ m - 1 - 2 ^ s = omega (arith, pow-suc 2 m, pow-suc 2 s, pow_pos s) in
+    let o : (2 ^ suc m - 1 - 2 ^ suc s) % 2 ≡ 1 = omega (arith, pow-suc 2 m, pow-suc 2 s, pow_pos s) in
+    and_step (bit b + 2 * from_bits v) (2 ^ suc m - 1 - 2 ^ suc s)
     ∙ rw (half b (from_bits v), odd b (from_bits v), l, o, number_remove v s m (omega arith) (omega arith)) (omega (arith, bit_small b))
 
 -- a 64-bit word with the bits of a mask, or without them
 abbrev pub with_bits : ℕ → ℕ → Bool → ℕ
-with_bits word mask there = cond there (bitOr word mask) (bitAnd word (2 ^ 64 - 1 - mask))
+with_bits word mask there = cond there (bit_or word mask) (bit_and word (2 ^ 64 - 1 - mask))
 
 number_put : (v : States) (s : ℕ) (there : Bool) → s < length v → length v ≤ 64 → with_bits (from_bits v) (2 ^ s) there ≡ from_bits (set v s there)
 number_put v s true h g = number_add v s h
@@ -111,13 +111,13 @@ number_none (suc m) = omega (arith, number_none m)
 pub number_full : (m : ℕ) → from_bits (replicate m true) ≡ 2 ^ m - 1
 unfolding from_bits
 number_full zero = refl
-number_full (suc m) = omega (arith, number_full m, pow-suc 2 m, pow-pos m)
+number_full (suc m) = omega (arith, number_full m, pow-suc 2 m, pow_pos m)
 
 -- ---- one word
 
 -- 1 shifted by less than a word's width
 pub shifted_one : (m : ℕ) → m < 64 → (1 * 2 ^ m) % 2 ^ 64 ≡ 2 ^ m
-shifted_one m h = shl-exact {a = 1} 1 m 64 (lit< tt) (omega arith) ∙ one-mul (2 ^ m)
+shifted_one m h = shl_exact {a = 1} 1 m 64 (lit< tt) (omega arith) ∙ one-mul (2 ^ m)
 
 -- the states that word j holds
 abbrev pub part : States → ℕ → States
@@ -130,7 +130,7 @@ words_length zero v = refl
 words_length (suc k) v = ap suc (words_length k (drop 64 v))
 
 -- word j of a set
-pub word_at : (k : ℕ) (v : States) (j : ℕ) → j < k → getD (words k v) j 0 ≡ from_bits (part v j)
+pub word_at : (k : ℕ) (v : States) (j : ℕ) → j < k → get_or (words k v) j 0 ≡ from_bits (part v j)
 unfolding words
 word_at zero v j h = absurd (omega arith)
 word_at (suc k) v zero h = refl
@@ -139,19 +139,19 @@ word_at (suc k) v (suc j) h =
     word_at k (drop 64 v) j (omega arith) ∙ rw (drop-drop (64 * j) 64 v, e)
 
 -- each word fits 64 bits
-pub word_fits : (k : ℕ) (v : States) (j : ℕ) → getD (words k v) j 0 < 2 ^ 64
+pub word_fits : (k : ℕ) (v : States) (j : ℕ) → get_or (words k v) j 0 < 2 ^ 64
 unfolding words
 word_fits zero v j = lit< tt
-word_fits (suc k) v zero = omega (arith, number_fits (take 64 v), pow-mono {j = 64} short)
+word_fits (suc k) v zero = omega (arith, number_fits (take 64 v), pow_mono {j = 64} short)
   where
     short : length (take 64 v) ≤ 64
     short = simp length-take (omega arith)
 word_fits (suc k) v (suc j) = word_fits k (drop 64 v) j
 
 -- words that are, one by one, those of a set
-pub words_by : (k : ℕ) (v : States) (ws : List ℕ) → length ws ≡ k → ((j : ℕ) → j < k → getD ws j 0 ≡ from_bits (part v j)) → ws ≡ words k v
+pub words_by : (k : ℕ) (v : States) (ws : List ℕ) → length ws ≡ k → ((j : ℕ) → j < k → get_or ws j 0 ≡ from_bits (part v j)) → ws ≡ words k v
 words_by k v ws l f =
-    ext-getD 0 ws (words k v) (l ∙ sym (words_length k v)) λ j h.
+    ext_get_or 0 ws (words k v) (l ∙ sym (words_length k v)) λ j h.
     let b : j < k = omega arith in
     f j b ∙ sym (word_at k v j b)
 
@@ -168,22 +168,22 @@ unfolding marked
 marked_words k v s h =
     let e : 64 * (s / 64) + s % 64 ≡ s = omega arith in
     rw (word_at k v (s / 64) (omega arith), number_bit (part v (s / 64)) (s % 64), bit_eqb (has (part v (s / 64)) (s % 64)))
-    (rw (getD-take 64 (drop (64 * (s / 64)) v) (s % 64) false (omega arith), getD-drop (64 * (s / 64)) v (s % 64) false, e))
+    (rw (get_or-take 64 (drop (64 * (s / 64)) v) (s % 64) false (omega arith), get_or-drop (64 * (s / 64)) v (s % 64) false, e))
 
 -- Words that follow those of a set change none of its states.
 pub marked_front : (k : ℕ) (v : States) (rest : List ℕ) (s : ℕ) → s < 64 * k → marked (words k v ++ rest) s ≡ has v s
 unfolding marked
-marked_front k v rest s h = rw (List·getD-append (words k v) rest 0 (s / 64) (omega (arith, words_length k v))) (marked_words k v s h)
+marked_front k v rest s h = rw (get_or-append (words k v) rest 0 (s / 64) (omega (arith, words_length k v))) (marked_words k v s h)
 
 pub take_words : (k : ℕ) (v : States) (rest : List ℕ) → take k (words k v ++ rest) ≡ words k v
-take_words k v rest = rw (words_length k v) at (take-append-seam (words k v) rest)
+take_words k v rest = rw (words_length k v) at (take-append_seam (words k v) rest)
 
 -- Words that start with those of a set show it.
 pub shows : {n : ℕ} (v : States) (lent after : List ℕ) → after ≡ words word_count v ++ drop word_count lent → length v ≡ n → Marks n v lent after
 shows v lent after are sized = record {
   sized = sized;
   shown = shown;
-  beyond = λ s h b. shown s b ∙ List·getD-eq-default v false {n = s} (omega (arith, sized));
+  beyond = λ s h b. shown s b ∙ get_or-eq_default v false {n = s} (omega (arith, sized));
   are = are;
 }
   where
@@ -193,7 +193,7 @@ shows v lent after are sized = record {
 -- equal words, equal sets
 pub words_inj : (k : ℕ) (v w : States) → length v ≡ length w → length v ≤ 64 * k → words k v ≡ words k w → v ≡ w
 words_inj k v w l h e =
-    ext-getD false v w l λ s b.
+    ext_get_or false v w l λ s b.
     sym (marked_words k v s (omega arith)) ∙ ap (λ (ws : List ℕ). marked ws s) e ∙ marked_words k w s (omega arith)
 
 -- ---- the words of the empty and of the full set
@@ -218,7 +218,7 @@ part_start n from b = rw (drop_start n from b) (take_start (n - from) 64 b)
 pub words_none : (k n : ℕ) → replicate k 0 ≡ words k (start n false)
 words_none k n =
     words_by k (start n false) (replicate k 0) (length-replicate k 0) λ j h.
-    getD-replicate k j 0 0 h ∙ sym (rw (part_start n (64 * j) false) (number_none (min 64 (n - 64 * j))))
+    get_or-replicate k j 0 0 h ∙ sym (rw (part_start n (64 * j) false) (number_none (min 64 (n - 64 * j))))
 
 -- the word of the 64 states from `from` on, m of which are below n: its first m bits
 pub word_full : (n from m : ℕ) → min 64 (n - from) ≡ m → 2 ^ m - 1 ≡ from_bits (take 64 (drop from (start n true)))
@@ -230,7 +230,7 @@ word_full n from m e = sym (rw (part_start n from true, e) (number_full m))
 pub record Filled (f : ℕ → ℕ) (k : ℕ) (ws : List ℕ) (i : ℕ) : Type 0 where
   pub long : length ws ≡ k
   pub within : i ≤ k
-  pub so_far : (j : ℕ) → j < i → getD ws j 0 ≡ f j
+  pub so_far : (j : ℕ) → j < i → get_or ws j 0 ≡ f j
 
 module _ {f : ℕ → ℕ} {k : ℕ} {ws : List ℕ} where
   -- before the first turn
@@ -239,17 +239,17 @@ module _ {f : ℕ → ℕ} {k : ℕ} {ws : List ℕ} where
 
   -- one turn, which stores word i
   pub filled_more : {i : ℕ} (x : ℕ) → Filled f k ws i → i < k → x ≡ f i → Filled f k (set ws i x) (i + 1)
-  filled_more {i} x w h e = record { long = length-set ws i x ∙ w .long; within = omega arith; so_far = λ j l. go j l (ℕ_discrete j i) }
+  filled_more {i} x w h e = record { long = length-set ws i x ∙ w.long; within = omega arith; so_far = λ j l. go j l (ℕ_discrete j i) }
     where
-      go : (j : ℕ) → j < i + 1 → Dec (j ≡ i) → getD (set ws i x) j 0 ≡ f j
-      go j l (yes q) = rw (q, getD-set-same ws i x 0 (omega (arith, w .long))) e
-      go j l (no n) = rw (getD-set-other ws i j x 0 n) (w .so_far j (omega arith))
+      go : (j : ℕ) → j < i + 1 → Dec (j ≡ i) → get_or (set ws i x) j 0 ≡ f j
+      go j l (yes q) = rw (q, get_or-set_same ws i x 0 (omega (arith, w.long))) e
+      go j l (no n) = rw (get_or-set_other ws i j x 0 n) (w.so_far j (omega arith))
 
 -- after the last turn: a list of k words that are as f says
 pub filled_all : {f : ℕ → ℕ} {k i : ℕ} {ws : List ℕ} → Filled f k ws i → k ≤ i
-    → (us : List ℕ) → length us ≡ k → ((j : ℕ) → j < k → f j ≡ getD us j 0) → ws ≡ us
-filled_all {ws = ws} w h us l is = ext-getD 0 ws us (w .long ∙ sym l) λ j b.
-    w .so_far j (omega (arith, w .long)) ∙ is j (omega (arith, w .long))
+    → (us : List ℕ) → length us ≡ k → ((j : ℕ) → j < k → f j ≡ get_or us j 0) → ws ≡ us
+filled_all {ws = ws} w h us l is = ext_get_or 0 ws us (w.long ∙ sym l) λ j b.
+    w.so_far j (omega (arith, w.long)) ∙ is j (omega (arith, w.long))
 
 -- the words of a set
 pub words_filled : {f : ℕ → ℕ} {k i : ℕ} {ws : List ℕ} → Filled f k ws i → k ≤ i
@@ -266,7 +266,7 @@ drop_set v m s b h =
 
 -- a state of another word changes nothing in word j
 part_other : (v : States) (s j : ℕ) (b : Bool) → j ≢ s / 64 → part (set v s b) j ≡ part v j
-part_other v s j b n = go (decLt (s / 64) j)
+part_other v s j b n = go (dec_lt (s / 64) j)
   where
     go : Dec (s / 64 < j) → part (set v s b) j ≡ part v j
     go (yes l) = rw (drop-set-lt (64 * j) v s b (omega arith))
@@ -284,13 +284,13 @@ pub words_store : (k : ℕ) (v w : States) (q x : ℕ) → q < k → x ≡ from_
 words_store k v w q x h e f =
     words_by k w (set (words k v) q x) (length-set (words k v) q x ∙ words_length k v) λ j l. go j l (ℕ_discrete j q)
   where
-    go : (j : ℕ) → j < k → Dec (j ≡ q) → getD (set (words k v) q x) j 0 ≡ from_bits (part w j)
-    go j l (yes d) = rw (d, getD-set-same (words k v) q x 0 (omega (arith, words_length k v))) e
-    go j l (no n) = rw (getD-set-other (words k v) q j x 0 n, f j n) (word_at k v j l)
+    go : (j : ℕ) → j < k → Dec (j ≡ q) → get_or (set (words k v) q x) j 0 ≡ from_bits (part w j)
+    go j l (yes d) = rw (d, get_or-set_same (words k v) q x 0 (omega (arith, words_length k v))) e
+    go j l (no n) = rw (get_or-set_other (words k v) q j x 0 n, f j n) (word_at k v j l)
 
 -- a state is put in by one bit of one word, and taken out by all others of it
 pub words_put : (k : ℕ) (v : States) (s : ℕ) (there : Bool) → s < length v → s < 64 * k
-    → set (words k v) (s / 64) (with_bits (getD (words k v) (s / 64) 0) ((1 * 2 ^ (s % 64)) % 2 ^ 64) there) ≡ words k (set v s there)
+    → set (words k v) (s / 64) (with_bits (get_or (words k v) (s / 64) 0) ((1 * 2 ^ (s % 64)) % 2 ^ 64) there) ≡ words k (set v s there)
 words_put k v s there h b =
     let inside : s % 64 < length (part v (s / 64)) = simp (length-take, length-drop) (omega arith) in
     words_store k v (set v s there) (s / 64) _ (omega arith)

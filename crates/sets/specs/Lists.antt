@@ -1,7 +1,5 @@
 -- Plain functions on lists.
-use mathlib.Core.Bool.{Bool, true, false, cond, _&&_, _||_}
-use mathlib.Core.List.{List, [], _∷_}
-use Prim.Native.Nat.{ℕ, zero, suc, _+_}
+use Rattle.std.specs.Prelude.{Bool, true, false, cond, ◌&&◌, ◌||◌, List, [], ◌∷◌, ℕ, zero, suc, ◌+◌}
 
 -- the k numbers from i on
 unfoldable pub numbers_from : ℕ → ℕ → List ℕ

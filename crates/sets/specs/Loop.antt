@@ -1,7 +1,6 @@
 -- The loop of the paper: work out, count a round, stop if equal, else replace.
-use mathlib.Core.Path.{_≡_}
-use Prim.Native.Nat.{ℕ, _+_}
-use Rattle·sets·specs.specs.States.{States}
+use Rattle.std.specs.Prelude.{◌≡◌, ℕ, ◌+◌}
+use Rattle.sets.specs.States.{States}
 
 -- What a turn does and costs: F v a w r says that from v it holds a and works out w, in r rounds of loops further in.
 abbrev pub Step : Type 0 → Type 1

@@ -1,12 +1,8 @@
 -- What a call answers, in numbers: the first condition that holds, or a report.
-use mathlib.Core.Path.{_≡_}
-use mathlib.Core.Bool.{Bool, true, false, not, _&&_}
-use mathlib.Core.List.{List, [], _∷_, _++_, map}
-use Prim.Native.Nat.{ℕ, zero, suc}
-use lib.Dec.{T, leb}
-use Rattle·sets·specs.specs.Lists.{every}
-use Rattle·sets·specs.specs.States.{States, has, size}
-use Rattle·sets·specs.specs.Words.{bit}
+use Rattle.std.specs.Prelude.{◌≡◌, Bool, true, false, not, ◌&&◌, List, [], ◌∷◌, ◌++◌, map, ℕ, zero, suc, T, leb}
+use Rattle.sets.specs.Lists.{every}
+use Rattle.sets.specs.States.{States, has, size}
+use Rattle.sets.specs.Words.{bit}
 
 -- whether x is from low to high
 abbrev pub between : ℕ → ℕ → ℕ → Bool
@@ -17,16 +13,16 @@ abbrev pub Conditions : Type 0
 Conditions = List (ℕ × Bool)
 
 abbrev pub numbers_of : Conditions → List ℕ
-numbers_of cs = map (λ c. c .0) cs
+numbers_of cs = map (λ c. c.0) cs
 
 -- the number of the first that holds, or 0
 unfoldable pub first_of : Conditions → ℕ
 first_of [] = 0
-first_of (c ∷ cs) = elim (c .1) [ true ↦ c .0 | false ↦ first_of cs ]
+first_of (c ∷ cs) = elim c.1 [ true ↦ c.0 | false ↦ first_of cs ]
 
 -- none of them holds
 abbrev pub NoneHolds : Conditions → Type 0
-NoneHolds cs = T (every (λ c. not (c .1)) cs)
+NoneHolds cs = T (every (λ c. not c.1) cs)
 
 -- One with number k holds, and none before it. This is the paper's; first_of computes it.
 pub record FirstHolds (cs : Conditions) (k : ℕ) : Type 0 where
@@ -44,10 +40,10 @@ pub record Outcome : Type 0 where
 
 -- A call gives marks exactly when it answers a report. It is spent if it refuses with 14.
 abbrev pub GivesMarks : Outcome → Type 0
-GivesMarks o = o .refusal ≡ 0
+GivesMarks o = o.refusal ≡ 0
 
 abbrev pub Spent : Outcome → Type 0
-Spent o = o .refusal ≡ 14
+Spent o = o.refusal ≡ 14
 
 abbrev pub refused : ℕ → Outcome
 refused k = record { refusal = k; verdict = 0; count = 0; rounds = 0 }

@@ -1,17 +1,12 @@
 -- Sets of states, inclusion, the order in which an iteration of either sign goes; and a set of states for each variable.
-use mathlib.Core.Path.{_≡_}
-use mathlib.Core.Bool.{Bool, true, false, cond}
-use mathlib.Core.List.{List, [], _∷_}
-use Prim.Native.Nat.{ℕ, _+_}
-use lib.Dec.{T, eqb}
-use lib.ListN.{length, getD, replicate}
+use Rattle.std.specs.Prelude.{◌≡◌, Bool, true, false, cond, List, [], ◌∷◌, ℕ, ◌+◌, T, eqb, length, get_or, replicate}
 
 -- A set of n states is a list of n truth values: state s is in it if the value at s is true.
 abbrev pub States : Type 0
 States = List Bool
 
 abbrev pub has : States → ℕ → Bool
-has v s = getD v s false
+has v s = get_or v s false
 
 -- each state of v is one of w
 abbrev pub Subset : States → States → Type 0

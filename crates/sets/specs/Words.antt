@@ -1,13 +1,8 @@
 -- The words that hold a set: state s is bit s mod 64 of word s / 64, and bits from n up are zero; and how many states words mark.
-use mathlib.Core.Path.{_≡_}
-use mathlib.Core.Bool.{Bool, false, cond}
-use mathlib.Core.List.{List, [], _∷_, _++_, map}
-use Prim.Native.Nat.{ℕ, zero, suc, _+_, _*_, _/_, _%_, _^_, _<_, _≤_}
-use lib.ListN.{length, getD, take, drop}
-use lib.Dec.{eqb}
-use lib.Count.{ones}
-use Rattle·sets·specs.specs.Lists.{numbers_from, keep, sum}
-use Rattle·sets·specs.specs.States.{States, has}
+use Rattle.std.specs.Prelude.{◌≡◌, Bool, false, cond, List, [], ◌∷◌, ◌++◌, map, ℕ, zero, suc, ◌+◌, ◌*◌, ◌/◌, ◌%◌, ◌^◌, ◌<◌, ◌≤◌, length, get_or, take, drop, eqb}
+use Rattle.std.specs.Int.Count.{ones}
+use Rattle.sets.specs.Lists.{numbers_from, keep, sum}
+use Rattle.sets.specs.States.{States, has}
 
 -- How many words hold a set, and how many states they have room for. The code's WORDS and STATES.
 abbrev pub word_count : ℕ
@@ -18,7 +13,7 @@ state_limit = 64 * word_count
 
 -- whether the bit of state s is 1
 unfoldable pub marked : List ℕ → ℕ → Bool
-marked ws s = eqb (getD ws (s / 64) 0 / 2 ^ (s % 64) % 2) 1
+marked ws s = eqb (get_or ws (s / 64) 0 / 2 ^ (s % 64) % 2) 1
 
 -- how many states below n have a bit that is 1
 abbrev pub marked_below : List ℕ → ℕ → ℕ

@@ -1,16 +1,12 @@
 // Sets of states in words: state s is bit s mod 64 of word s / 64.
-ghost use mathlib.Core.Path.{_≡_};
-ghost use mathlib.Core.Bool.{true, false, not, cond, _&&_, _||_};
-ghost use mathlib.Core.List.{map, _++_};
-ghost use Prim.Native.Nat.{ℕ, _-_, _^_, _<_, _≤_};
-ghost use lib.Bits.{bitAnd, bitOr};
-ghost use lib.Count.{ones};
-ghost use lib.ListN.{length, set, take, drop};
-ghost use Rattle·sets·specs.specs.Lists.{numbers_from};
-ghost use Rattle·sets·specs.specs.States.{States, has, start};
-ghost use Rattle·sets·specs.specs.Words.{words, from_bits, marked, word_count, state_limit};
-ghost use Rattle·sets·specs.specs.internal.Decides.{Decides};
-ghost use Rattle·sets·specs.specs.internal.Size.{SizeIs};
+ghost use Rattle.std.specs.Prelude.{◌≡◌, true, false, not, cond, ◌&&◌, ◌||◌, map, ◌++◌, ℕ, ◌-◌, ◌^◌, ◌<◌, ◌≤◌, length, set, take, drop};
+ghost use Rattle.std.specs.Int.Bits.{bit_and, bit_or};
+ghost use Rattle.std.specs.Int.Count.{ones};
+ghost use Rattle.sets.specs.Lists.{numbers_from};
+ghost use Rattle.sets.specs.States.{States, has, start};
+ghost use Rattle.sets.specs.Words.{words, from_bits, marked, word_count, state_limit};
+ghost use Rattle.sets.specs.internal.Decides.{Decides};
+ghost use Rattle.sets.specs.internal.Size.{SizeIs};
 
 pub const WORDS: usize = 4;
 
@@ -18,14 +14,14 @@ pub const STATES: usize = 64 * WORDS;
 
 // No state.
 pub fn empty() -> [u64; WORDS]
-    ensures { λ r. ⌜ ((n : ℕ) → r ≡ words word_count (start n false)) ⌝ }
+    ensures { (n : ℕ) → result ≡ words word_count (start n false) }
 {
     [0; WORDS]
 }
 
 // The word of the 64 states from `from` on: those below n.
 fn word_below(n: usize, from: usize) -> u64
-    ensures { λ r. ⌜ r ≡ from_bits (take 64 (drop from (start n true))) ⌝ }
+    ensures { result ≡ from_bits (take 64 (drop from (start n true))) }
 {
     if n <= from {
         return 0;
@@ -39,8 +35,8 @@ fn word_below(n: usize, from: usize) -> u64
 
 // Every state below n.
 pub fn full(n: usize) -> [u64; WORDS]
-    requires { ⌜ n ≤ state_limit ⌝ }
-    ensures { λ r. ⌜ r ≡ words word_count (start n true) ⌝ }
+    requires { n ≤ state_limit }
+    ensures { result ≡ words word_count (start n true) }
 {
     let mut all = [0u64; WORDS];
     for i in 0..WORDS {
@@ -51,23 +47,23 @@ pub fn full(n: usize) -> [u64; WORDS]
 
 // Where an iteration starts: no state for mu, every state below n for nu.
 pub fn initial(n: usize, nu: bool) -> [u64; WORDS]
-    requires { ⌜ n ≤ state_limit ⌝ }
-    ensures { λ r. ⌜ r ≡ words word_count (start n nu) ⌝ }
+    requires { n ≤ state_limit }
+    ensures { result ≡ words word_count (start n nu) }
 {
     if nu { full(n) } else { empty() }
 }
 
 // Whether state s is in the set.
 pub fn test(set: &[u64; WORDS], s: usize) -> bool
-    requires { ⌜ s < state_limit ⌝ }
-    ensures { λ r. ⌜ r ≡ marked (now (set .entry)) s ⌝ }
+    requires { s < state_limit }
+    ensures { result ≡ marked set.now s }
 {
     (set[s / 64] >> (s % 64)) % 2 == 1
 }
 
 // A word with the bits of a mask, or without them.
 fn word_with(word: u64, mask: u64, there: bool) -> u64
-    ensures { λ r. ⌜ r ≡ cond there (bitOr word mask) (bitAnd word (2 ^ 64 - 1 - mask)) ⌝ }
+    ensures { result ≡ cond there (bit_or word mask) (bit_and word (2 ^ 64 - 1 - mask)) }
 {
     if there {
         return word | mask;
@@ -77,8 +73,8 @@ fn word_with(word: u64, mask: u64, there: bool) -> u64
 
 // Puts state s into the set, or takes it out.
 pub fn put(held: &mut [u64; WORDS], s: usize, there: bool)
-    requires { ⌜ s < state_limit ⌝ }
-    ensures { λ _. ⌜ ((v : States) → s < length v → now (held .entry) ≡ words word_count v → now (held .exit) ≡ words word_count (set v s there)) ⌝ }
+    requires { s < state_limit }
+    ensures { (v : States) → s < length v → held.old ≡ words word_count v → held.new ≡ words word_count (set v s there) }
 {
     let k = s / 64;
     held[k] = word_with(held[k], 1 << (s % 64), there);
@@ -86,22 +82,22 @@ pub fn put(held: &mut [u64; WORDS], s: usize, there: bool)
 
 // Puts state s into the set.
 pub fn add(held: &mut [u64; WORDS], s: usize)
-    requires { ⌜ s < state_limit ⌝ }
-    ensures { λ _. ⌜ ((v : States) → s < length v → now (held .entry) ≡ words word_count v → now (held .exit) ≡ words word_count (set v s true)) ⌝ }
+    requires { s < state_limit }
+    ensures { (v : States) → s < length v → held.old ≡ words word_count v → held.new ≡ words word_count (set v s true) }
 {
     put(held, s, true);
 }
 
 // Whether two sets hold the same words.
 pub fn equal(a: &[u64; WORDS], b: &[u64; WORDS]) -> bool
-    ensures { λ r. ⌜ Decides (now (a .entry) ≡ now (b .entry)) r ⌝ }
+    ensures { Decides (a.now ≡ b.now) result }
 {
     equal_words(*a, *b)
 }
 
 // The same of arrays by value, whose length a proof may use.
 fn equal_words(a: [u64; WORDS], b: [u64; WORDS]) -> bool
-    ensures { λ r. ⌜ Decides (a ≡ b) r ⌝ }
+    ensures { Decides (a ≡ b) result }
 {
     for i in 0..WORDS {
         if a[i] != b[i] {
@@ -113,14 +109,14 @@ fn equal_words(a: [u64; WORDS], b: [u64; WORDS]) -> bool
 
 // How many bits of a word are 1.
 fn word_ones(word: u64) -> usize
-    ensures { λ r. ⌜ (r ≡ ones word) × (r ≤ 64) ⌝ }
+    ensures { (result ≡ ones word) × (result ≤ 64) }
 {
     u64::count_ones(word) as usize
 }
 
 // How many states a set has: the sum of the ones of its words.
 pub fn count(set: &[u64; WORDS]) -> usize
-    ensures { λ r. ⌜ SizeIs (now (set .entry)) r ⌝ }
+    ensures { SizeIs set.now result }
 {
     let mut found: usize = 0;
     for i in 0..set.len() {
@@ -131,7 +127,7 @@ pub fn count(set: &[u64; WORDS]) -> usize
 
 // One word of the states in both sets, or (either) in at least one.
 fn combine_word(a: u64, b: u64, either: bool) -> u64
-    ensures { λ r. ⌜ r ≡ cond either (bitOr a b) (bitAnd a b) ⌝ }
+    ensures { result ≡ cond either (bit_or a b) (bit_and a b) }
 {
     if either {
         return a | b;
@@ -141,8 +137,8 @@ fn combine_word(a: u64, b: u64, either: bool) -> u64
 
 // The states in both sets, or (either) in at least one.
 pub fn combine(a: [u64; WORDS], b: [u64; WORDS], either: bool) -> [u64; WORDS]
-    ensures { λ r. ⌜ ((n : ℕ) (v w : States) → length v ≡ n → length w ≡ n → a ≡ words word_count v → b ≡ words word_count w
-        → r ≡ words word_count (map (λ s. cond either (has v s || has w s) (has v s && has w s)) (numbers_from 0 n))) ⌝ }
+    ensures { (n : ℕ) (v w : States) → length v ≡ n → length w ≡ n → a ≡ words word_count v → b ≡ words word_count w
+        → result ≡ words word_count (map (λ s. cond either (has v s || has w s) (has v s && has w s)) (numbers_from 0 n)) }
 {
     let mut c = [0u64; WORDS];
     for i in 0..WORDS {
@@ -153,8 +149,8 @@ pub fn combine(a: [u64; WORDS], b: [u64; WORDS], either: bool) -> [u64; WORDS]
 
 // The states below n that are not in the set: each bit of a state below n is turned over.
 pub fn complement(held: [u64; WORDS], n: usize) -> [u64; WORDS]
-    requires { ⌜ n ≤ state_limit ⌝ }
-    ensures { λ r. ⌜ ((v : States) → length v ≡ n → held ≡ words word_count v → r ≡ words word_count (map not v)) ⌝ }
+    requires { n ≤ state_limit }
+    ensures { (v : States) → length v ≡ n → held ≡ words word_count v → result ≡ words word_count (map not v) }
 {
     let mut rest = [0u64; WORDS];
     for i in 0..WORDS {
@@ -165,8 +161,8 @@ pub fn complement(held: [u64; WORDS], n: usize) -> [u64; WORDS]
 
 // Puts a set into the first words.
 pub fn store(marks: &mut [u64], row: [u64; WORDS])
-    requires { ⌜ word_count ≤ length (now marks) ⌝ }
-    ensures { λ _. ⌜ now (marks .exit) ≡ row ++ drop word_count (now (marks .entry)) ⌝ }
+    requires { word_count ≤ length marks.old }
+    ensures { marks.new ≡ row ++ drop word_count marks.old }
 {
     for i in 0..row.len() {
         marks[i] = row[i];
@@ -175,8 +171,8 @@ pub fn store(marks: &mut [u64], row: [u64; WORDS])
 
 // The set in the first words.
 pub fn load(marks: &[u64]) -> [u64; WORDS]
-    requires { ⌜ word_count ≤ length (now marks) ⌝ }
-    ensures { λ r. ⌜ r ≡ take word_count (now (marks .entry)) ⌝ }
+    requires { word_count ≤ length marks.now }
+    ensures { result ≡ take word_count marks.now }
 {
     let mut row = [0u64; WORDS];
     for i in 0..WORDS {

@@ -1,16 +1,14 @@
 // Solves an equation file from standard input and prints one line: S, the refusal number (0 if none), the verdict as 1 or 0,
 // the count of marked states and the rounds; the last three are 0 on a refusal.
-use libc::STDIN_FILENO;
-use libc::STDOUT_FILENO;
+ghost use Rattle.std.specs.Prelude.{◌≡◌, ◌+◌, length};
+ghost use Rattle.solver.specs.internal.Forms.{largest_file};
+
+use libc::{STDIN_FILENO, STDOUT_FILENO};
 use solver::LARGEST;
-ghost use mathlib.Core.Path.{_≡_};
-ghost use Prim.Native.Nat.{_+_};
-ghost use lib.ListN.{length};
-ghost use Rattle·solver.specs.internal.Forms.{largest_file};
 
 // Room for the largest file and one byte more, so that a longer input is refused for its length.
 fn room() -> [u8; LARGEST + 1]
-    ensures { λ r. ⌜ length r ≡ largest_file + 1 ⌝ }
+    ensures { length result ≡ largest_file + 1 }
 {
     [0u8; LARGEST + 1]
 }

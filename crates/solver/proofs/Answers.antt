@@ -1,35 +1,35 @@
 -- Which outcome the definitions give, from plain facts, and what a call promises with each.
-use mathlib.Core.Path.{_≡_, refl, sym, ap, ap₂, _∙_}
+use mathlib.Core.Path.{◌≡◌, refl, sym, ap, ap₂, ◌∙◌}
 use mathlib.Core.Bool.{Bool, true, false, or-true}
-use mathlib.Core.List.{List, _++_, map}
-use Prim.Native.Nat.{ℕ, _<_, _≤_}
+use mathlib.Core.List.{List, ◌++◌, map}
+use Prim.Native.Nat.{ℕ, ◌<◌, ◌≤◌}
 use native.Mathlib.Omega.{arith}
 use borrow.Author.Tests.{lt-ltb}
 use lib.Dec.{ltb}
 use lib.ListN.{length, drop, length-replicate}
-use Rattle·sets.specs.States.{States, has, size, all_empty}
-use Rattle·sets.specs.Words.{words, bit, marked, word_count}
-use Rattle·sets.specs.internal.Size.{SizeIs}
-use Rattle·sets.proofs.Words.{marked_words}
-use Rattle·solver·specs.specs.computed.Solved.{evaluate, run}
-use Rattle·solver·specs.specs.File.{sizes_of, blocks, cells}
-use Rattle·solver·specs.specs.Conditions.{layout_ok, tables_ok, WellFormed}
-use Rattle·solver·specs.specs.internal.Forms.{opened}
-use Rattle·solver·specs.specs.Outcome.{solve_number, solve_answer, bad_layout, bad_table, solve_too_short, solve_conditions, solve_refusal, SolveEnough, report, solve_outcome, Scratch, Answered}
-use Rattle·sets.specs.Refusals.{Conditions, refused}
-use Rattle·sets.proofs.Refusals.{holds_here, holds_later, reports, refuses}
-use Rattle·solver·specs.specs.internal.Working.{OpenFile, AllSolved, spent}
-use Rattle·solver·specs.specs.declared.Sizes.{Sizes}
-use Rattle·solver·specs.specs.declared.Cause.{Cause}
-use Rattle·solver·specs.specs.declared.Cause.the-variants.{Layout, Table, Memory, Spent}
-use Rattle·solver·specs.specs.declared.Opened.the-variants.{File, Unfit}
-use Rattle·solver·specs.specs.declared.Report.{Report}
-use Rattle·solver·specs.specs.declared.Answer.the-variants.{Solved, Refused}
-use Rattle·solver·proofs.proofs.Tables.{counted, length_cells}
-use Rattle·solver·proofs.proofs.Reading.{layout_facts}
-use Rattle·solver·proofs.proofs.WellFormed.{ordered, inside}
-use Rattle·solver·proofs.proofs.Refusals.{enough, is_0, is_14, marks_written, marks_kept, work_written, work_kept}
-use Rattle·solver·proofs.proofs.Solving.{solved_sized}
+use Rattle.sets.specs.States.{States, has, size, all_empty}
+use Rattle.sets.specs.Words.{words, bit, marked, word_count}
+use Rattle.sets.specs.internal.Size.{SizeIs}
+use Rattle.sets.proofs.Words.{marked_words}
+use Rattle.solver.specs.computed.Solved.{evaluate, run}
+use Rattle.solver.specs.File.{sizes_of, blocks, cells}
+use Rattle.solver.specs.Conditions.{layout_ok, tables_ok, WellFormed}
+use Rattle.solver.specs.internal.Forms.{opened}
+use Rattle.solver.specs.Outcome.{solve_number, solve_answer, bad_layout, bad_table, solve_too_short, solve_conditions, solve_refusal, SolveEnough, report, solve_outcome, Scratch, Answered}
+use Rattle.sets.specs.Refusals.{Conditions, refused}
+use Rattle.sets.proofs.Refusals.{holds_here, holds_later, reports, refuses}
+use Rattle.solver.specs.internal.Working.{OpenFile, AllSolved, spent}
+use Rattle.solver.specs.declared.Sizes.{Sizes}
+use Rattle.solver.specs.declared.Cause.{Cause}
+use Rattle.solver.specs.declared.Cause.TheVariants.{Layout, Table, Memory, Spent}
+use Rattle.solver.specs.declared.Opened.TheVariants.{File, Unfit}
+use Rattle.solver.specs.declared.Report.{Report}
+use Rattle.solver.specs.declared.Answer.TheVariants.{Solved, Refused}
+use Rattle.solver.proofs.Tables.{counted, length_cells}
+use Rattle.solver.proofs.Reading.{layout_facts}
+use Rattle.solver.proofs.WellFormed.{ordered, inside}
+use Rattle.solver.proofs.Refusals.{enough, is_0, is_14, marks_written, marks_kept, work_written, work_kept}
+use Rattle.solver.proofs.Solving.{solved_sized}
 
 -- ---- refusals
 
@@ -44,7 +44,7 @@ module _ (e : List ℕ) (work marks limit : ℕ) where
 
   pub refusal_13 : WellFormed e → solve_too_short e work marks ≡ true → solve_refusal e work marks limit ≡ 13
   unfolding solve_refusal solve_conditions bad_layout bad_table
-  refusal_13 f h = sym (holds_later 11 _ _ (rw (f .layout)) (holds_later 12 _ _ (rw (f .tables)) (holds_here 13 _ _ h)))
+  refusal_13 f h = sym (holds_later 11 _ _ (rw f.layout) (holds_later 12 _ _ (rw f.tables) (holds_here 13 _ _ h)))
 
 -- ---- what each answer promises
 
@@ -64,7 +64,7 @@ module _ (e work marks : List ℕ) (limit : ℕ) where
   }
 
   -- 14 leaves the marks, and bits in the working bytes
-  pub answered_spent : {after : List ℕ} → solve_refusal e (length work) (length marks) limit ≡ 14 → Scratch (sizes_of e .cells) work after → Answered e work marks limit (solve_answer (Refused Spent)) after marks
+  pub answered_spent : {after : List ℕ} → solve_refusal e (length work) (length marks) limit ≡ 14 → Scratch (sizes_of e).cells work after → Answered e work marks limit (solve_answer (Refused Spent)) after marks
   unfolding solve_answer solve_number solve_outcome solve_refusal
   answered_spent h s = record {
     answers = sym (refuses conditions (report e) (λ z. omega arith) ∙ ap refused h);
@@ -75,8 +75,8 @@ module _ (e work marks : List ℕ) (limit : ℕ) where
 
   -- success
   pub answered_solved : {r : Report} {work_after marks_after : List ℕ} → solve_refusal e (length work) (length marks) limit ≡ 0 →
-      r .verdict ≡ has (run e .0 0) (sizes_of e .initial) → r .count ≡ size (run e .0 0) → r .rounds ≡ run e .1 →
-      marks_after ≡ words word_count (run e .0 0) ++ drop word_count marks → work_after ≡ map bit (evaluate (cells e) (run e .0)) ++ drop (sizes_of e .cells) work →
+      r.verdict ≡ has ((run e).0 0) (sizes_of e).initial → r.count ≡ size ((run e).0 0) → r.rounds ≡ (run e).1 →
+      marks_after ≡ words word_count ((run e).0 0) ++ drop word_count marks → work_after ≡ map bit (evaluate (cells e) (run e).0) ++ drop (sizes_of e).cells work →
       Answered e work marks limit (solve_answer (Solved r)) work_after marks_after
   unfolding solve_answer report solve_outcome solve_refusal
   answered_solved h v c k m w = record {
@@ -91,50 +91,50 @@ module _ {e : List ℕ} {sizes : Sizes} (o : OpenFile e sizes) (work marks : Lis
   -- lent memory that is too short, one way or the other
   short : solve_too_short e (length work) (length marks) ≡ true → Answered e work marks limit (solve_answer (Refused Memory)) work marks
   unfolding solve_number
-  short h = answered_refused e work marks limit Memory (refusal_13 e (length work) (length marks) limit (o .formed) h) (λ z. omega arith) (λ z. omega arith)
+  short h = answered_refused e work marks limit Memory (refusal_13 e (length work) (length marks) limit o.formed h) (λ z. omega arith) (λ z. omega arith)
 
-  pub few_bytes : length work < sizes .cells → Answered e work marks limit (solve_answer (Refused Memory)) work marks
+  pub few_bytes : length work < sizes.cells → Answered e work marks limit (solve_answer (Refused Memory)) work marks
   unfolding solve_too_short
-  few_bytes h = short (rw (lt-ltb (length work) (sizes_of e .cells) (omega (arith, counted (o .counts) .cells))) refl)
+  few_bytes h = short (rw (lt-ltb (length work) (sizes_of e).cells (omega (arith, (counted o.counts).cells))) refl)
 
   pub few_words : length marks < word_count → Answered e work marks limit (solve_answer (Refused Memory)) work marks
   unfolding solve_too_short
-  few_words h = short (rw (lt-ltb (length marks) word_count h) (or-true (ltb (length work) (sizes_of e .cells))))
+  few_words h = short (rw (lt-ltb (length marks) word_count h) (or-true (ltb (length work) (sizes_of e).cells)))
 
-  module _ (bytes : sizes .cells ≤ length work) (room : word_count ≤ length marks)
+  module _ (bytes : sizes.cells ≤ length work) (room : word_count ≤ length marks)
       {after row : List ℕ} {rounds status : ℕ} (r : AllSolved e limit after row rounds status) where
     lent : WellFormed e × SolveEnough e (length work) (length marks)
-    lent = (o .formed, enough e (length work) (length marks) .0 (omega (arith, counted (o .counts) .cells), room))
+    lent = (o.formed, (enough e (length work) (length marks)).0 (omega (arith, (counted o.counts).cells), room))
 
     -- the part that was lent, and the rest
     abbrev whole : List ℕ
-    whole = after ++ drop (sizes .cells) work
+    whole = after ++ drop sizes.cells work
 
-    rest : drop (sizes .cells) work ≡ drop (sizes_of e .cells) work
-    rest = ap (λ (k : ℕ). drop k work) (counted (o .counts) .cells)
+    rest : drop sizes.cells work ≡ drop (sizes_of e).cells work
+    rest = ap (λ (k : ℕ). drop k work) (counted o.counts).cells
 
     pub ended_spent : status ≡ spent → Answered e work marks limit (solve_answer (Refused Spent)) whole marks
     ended_spent z = answered_spent e work marks limit
-        (is_14 e (length work) (length marks) limit .1 (lent, r .over z))
-        (record { bytes = after; sized = r .room; bits = r .bits; are = ap (λ (l : List ℕ). after ++ l) rest })
+        ((is_14 e (length work) (length marks) limit).1 (lent, r.over z))
+        (record { bytes = after; sized = r.room; bits = r.bits; are = ap (λ (l : List ℕ). after ++ l) rest })
 
-    pub ended_solved : ¬ (status ≡ spent) → {verdict : Bool} → verdict ≡ marked row (sizes .initial) → {count : ℕ} → SizeIs row count →
+    pub ended_solved : ¬ (status ≡ spent) → {verdict : Bool} → verdict ≡ marked row sizes.initial → {count : ℕ} → SizeIs row count →
         {marks_after : List ℕ} → marks_after ≡ row ++ drop word_count marks →
         Answered e work marks limit (solve_answer (Solved (record { verdict = verdict; count = count; rounds = rounds }))) whole marks_after
     unfolding run
     ended_solved n v k m =
-        let s = layout_facts e (o .formed .layout) .counts in
-        let first : States = run e .0 0 in
-        let is = r .first n in
-        let long : length first ≡ sizes_of e .states =
-        solved_sized (sizes_of e .states) (cells e) (ordered e (o .formed)) (blocks e) (rw (length_cells e) (inside e (o .formed))) 0 (all_empty (sizes_of e .states)) (λ j. length-replicate (sizes_of e .states) false) 0 in
+        let s = (layout_facts e o.formed.layout).counts in
+        let first : States = (run e).0 0 in
+        let is = r.first n in
+        let long : length first ≡ (sizes_of e).states =
+        solved_sized (sizes_of e).states (cells e) (ordered e o.formed) (blocks e) (rw (length_cells e) (inside e o.formed)) 0 (all_empty (sizes_of e).states) (λ j. length-replicate (sizes_of e).states false) 0 in
         answered_solved e work marks limit
-        (is_0 e (length work) (length marks) limit .1 (lent, r .within n))
-        (v ∙ ap₂ (λ (w : List ℕ) (i : ℕ). marked w i) is (counted (o .counts) .initial) ∙ marked_words word_count first (sizes_of e .initial) (omega (arith, s .initial, s .few_states)))
-        (k first (omega (arith, long, s .few_states)) is)
-        (r .counted n)
+        ((is_0 e (length work) (length marks) limit).1 (lent, r.within n))
+        (v ∙ ap₂ (λ (w : List ℕ) (i : ℕ). marked w i) is (counted o.counts).initial ∙ marked_words word_count first (sizes_of e).initial (omega (arith, s.initial, s.few_states)))
+        (k first (omega (arith, long, s.few_states)) is)
+        (r.counted n)
         (m ∙ ap (λ (l : List ℕ). l ++ drop word_count marks) is)
-        (ap₂ (λ (x y : List ℕ). x ++ y) (r .values n) rest)
+        (ap₂ (λ (x y : List ℕ). x ++ y) (r.values n) rest)
 
 -- ---- opening a file: its counts, or the condition that holds
 pub opens_file : {e : List ℕ} {sizes : Sizes} → File sizes ≡ opened e → OpenFile e sizes
@@ -147,11 +147,11 @@ opens_file {e} {sizes} h = go (layout_ok e) (tables_ok e) refl refl
         record { formed = record { layout = p; tables = q }; counts = cc }
     go true false p q =
         let z : opened e ≡ Unfit Table = rw (p, q, opened) refl in
-        let n : _≡_ {A = ℕ} 0 1 = cc in
+        let n : ◌≡◌ {A = ℕ} 0 1 = cc in
         absurd (omega arith)
     go false b p q =
         let z : opened e ≡ Unfit Layout = rw (p, opened) refl in
-        let n : _≡_ {A = ℕ} 0 1 = cc in
+        let n : ◌≡◌ {A = ℕ} 0 1 = cc in
         absurd (omega arith)
 
 pub unfit : {e : List ℕ} {cause : Cause} → Unfit cause ≡ opened e → (work marks : List ℕ) (limit : ℕ) → Answered e work marks limit (solve_answer (Refused cause)) work marks
@@ -161,7 +161,7 @@ unfit {e} {cause} h work marks limit = go (layout_ok e) (tables_ok e) refl refl
     go : (a b : Bool) → layout_ok e ≡ a → tables_ok e ≡ b → Answered e work marks limit (solve_answer (Refused cause)) work marks
     go true true p q =
         let z : opened e ≡ File (sizes_of e) = rw (p, q, opened) refl in
-        let n : _≡_ {A = ℕ} 0 1 = cc in
+        let n : ◌≡◌ {A = ℕ} 0 1 = cc in
         absurd (omega arith)
     go true false p q =
         let z : opened e ≡ Unfit Table = rw (p, q, opened) refl in

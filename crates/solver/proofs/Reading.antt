@@ -1,47 +1,47 @@
 -- Condition 11: what its tests come to, and what opening a file answers.
-use mathlib.Core.Path.{_≡_, refl, sym}
+use mathlib.Core.Path.{◌≡◌, refl, sym}
 use mathlib.Core.Bool.{Bool, true, false}
 use mathlib.Core.List.{List}
-use Prim.Native.Nat.{ℕ, _+_, _*_, _≤_, _<_}
+use Prim.Native.Nat.{ℕ, ◌+◌, ◌*◌, ◌≤◌, ◌<◌}
 use native.Mathlib.Omega.{arith}
 use mir.Syntax.{w64}
 use mir.Val.{Fits}
 use borrow.Author.Tests.{le-leb, lt-leb, lt-ltb, eq-eqb}
-use lib.Dec.{T, leb·zero, ltb→lt, eqb→eq}
+use lib.Dec.{T, leb-zero, ltb→lt, eqb→eq}
 use lib.ListN.{length}
-use Rattle·sets.proofs.Refusals.{bounds}
-use Rattle·sets.specs.Lists.{every}
-use Rattle·sets.specs.Words.{state_limit}
-use Rattle·sets.specs.internal.Decides.{Decides}
-use Rattle·sets.proofs.Lists.{test}
-use Rattle·solver·specs.specs.declared.Cause.the-variants.{Layout, Table}
-use Rattle·solver·specs.specs.declared.Opened.the-variants.{File, Unfit}
-use Rattle·solver·specs.specs.declared.Sizes.{Sizes}
-use Rattle·solver·specs.specs.File.{sizes_of, blocks_at, cells_at, operands_at, block_limit, cell_limit, operand_limit}
-use Rattle·solver·specs.specs.Conditions.{layout_ok, tables_ok}
-use Rattle·solver·specs.specs.internal.Forms.{opened}
-use Rattle·solver·specs.specs.internal.Checks.{Read}
-use Rattle·solver·specs.specs.internal.Working.{OpenFile}
-use Rattle·solver·proofs.proofs.Tables.{counted}
+use Rattle.sets.proofs.Refusals.{bounds}
+use Rattle.sets.specs.Lists.{every}
+use Rattle.sets.specs.Words.{state_limit}
+use Rattle.sets.specs.internal.Decides.{Decides}
+use Rattle.sets.proofs.Lists.{test}
+use Rattle.solver.specs.declared.Cause.TheVariants.{Layout, Table}
+use Rattle.solver.specs.declared.Opened.TheVariants.{File, Unfit}
+use Rattle.solver.specs.declared.Sizes.{Sizes}
+use Rattle.solver.specs.File.{sizes_of, blocks_at, cells_at, operands_at, block_limit, cell_limit, operand_limit}
+use Rattle.solver.specs.Conditions.{layout_ok, tables_ok}
+use Rattle.solver.specs.internal.Forms.{opened}
+use Rattle.solver.specs.internal.Checks.{Read}
+use Rattle.solver.specs.internal.Working.{OpenFile}
+use Rattle.solver.proofs.Tables.{counted}
 
 -- if condition 11 does not hold, the file can be read
 pub layout_facts : (e : List ℕ) → layout_ok e ≡ true → Read e (sizes_of e)
 unfolding layout_ok
 layout_facts e h =
     let t : T (layout_ok e) = rw h tt in
-    let states = bounds 1 state_limit (sizes_of e .states) (test 2 _ t tt) in
-    let blocks = bounds 1 block_limit (sizes_of e .blocks) (test 3 _ t tt) in
-    let cells = bounds 1 cell_limit (sizes_of e .cells) (test 4 _ t tt) in
+    let states = bounds 1 state_limit (sizes_of e).states (test 2 _ t tt) in
+    let blocks = bounds 1 block_limit (sizes_of e).blocks (test 3 _ t tt) in
+    let cells = bounds 1 cell_limit (sizes_of e).cells (test 4 _ t tt) in
     record {
       sizes_are = refl;
       counts = record {
-        some_state = states .0;
-        few_states = states .1;
-        some_block = blocks .0;
-        few_blocks = blocks .1;
-        some_cell = cells .0;
-        few_cells = cells .1;
-        few_operands = bounds 0 operand_limit (sizes_of e .operands) (test 5 _ t tt) .1;
+        some_state = states.0;
+        few_states = states.1;
+        some_block = blocks.0;
+        few_blocks = blocks.1;
+        some_cell = cells.0;
+        few_cells = cells.1;
+        few_operands = (bounds 0 operand_limit (sizes_of e).operands (test 5 _ t tt)).1;
         initial = ltb→lt _ _ (test 6 _ t tt);
       };
       places = record {
@@ -59,20 +59,20 @@ unfolding layout_ok every
 layout_from e r =
     simp (
       le-leb 36 (length e) (omega arith),
-      eq-eqb _ _ (r .places .version),
-      le-leb _ _ (r .counts .some_state),
-      le-leb _ _ (r .counts .few_states),
-      le-leb _ _ (r .counts .some_block),
-      le-leb _ _ (r .counts .few_blocks),
-      le-leb _ _ (r .counts .some_cell),
-      le-leb _ _ (r .counts .few_cells),
-      leb·zero,
-      le-leb _ _ (r .counts .few_operands),
-      lt-ltb _ _ (r .counts .initial),
-      eq-eqb _ _ (r .places .blocks),
-      eq-eqb _ _ (r .places .cells),
-      eq-eqb _ _ (r .places .operands),
-      eq-eqb _ _ (r .places .ends),
+      eq-eqb _ _ r.places.version,
+      le-leb _ _ r.counts.some_state,
+      le-leb _ _ r.counts.few_states,
+      le-leb _ _ r.counts.some_block,
+      le-leb _ _ r.counts.few_blocks,
+      le-leb _ _ r.counts.some_cell,
+      le-leb _ _ r.counts.few_cells,
+      leb-zero,
+      le-leb _ _ r.counts.few_operands,
+      lt-ltb _ _ r.counts.initial,
+      eq-eqb _ _ r.places.blocks,
+      eq-eqb _ _ r.places.cells,
+      eq-eqb _ _ r.places.operands,
+      eq-eqb _ _ r.places.ends,
     )
 
 -- a file of which condition 11 does not hold, for counts that are those of the file
@@ -81,11 +81,11 @@ layout_read e s are h = rw are (layout_facts e h)
 
 -- an answer to whether the file can be read is the test of condition 11
 pub layout_decided : (e : List ℕ) (s : Sizes) → s ≡ sizes_of e → (answer : Bool) → Decides (Read e s) answer → answer ≡ layout_ok e
-layout_decided e s are true d = sym (layout_from e (rw are at (d .yes_if refl)))
+layout_decided e s are true d = sym (layout_from e (rw are at (d.yes_if refl)))
 layout_decided e s are false d = go (layout_ok e) refl
   where
     go : (b : Bool) → layout_ok e ≡ b → false ≡ b
-    go true h = absurd (d .no_if refl (layout_read e s are h))
+    go true h = absurd (d.no_if refl (layout_read e s are h))
     go false h = refl
 
 -- a file too short for the header
@@ -95,14 +95,14 @@ layout_short e h = rw (lt-leb 36 (length e) h) refl
 
 -- a file that is opened can be read
 pub opens_read : {e : List ℕ} {s : Sizes} → OpenFile e s → Read e s
-opens_read {e} {s} o = layout_read e s (o .counts) (o .formed .layout)
+opens_read {e} {s} o = layout_read e s o.counts o.formed.layout
 
 -- its block numbers are small, and those of the file
-pub few_blocks : {e : List ℕ} {s : Sizes} {k : ℕ} → OpenFile e s → k < s .blocks → k < block_limit
-few_blocks o h = omega (arith, opens_read o .counts .few_blocks)
+pub few_blocks : {e : List ℕ} {s : Sizes} {k : ℕ} → OpenFile e s → k < s.blocks → k < block_limit
+few_blocks o h = omega (arith, (opens_read o).counts.few_blocks)
 
-pub own_block : {e : List ℕ} {s : Sizes} {k : ℕ} → OpenFile e s → k < s .blocks → k < sizes_of e .blocks
-own_block o h = omega (arith, counted (o .counts) .blocks)
+pub own_block : {e : List ℕ} {s : Sizes} {k : ℕ} → OpenFile e s → k < s.blocks → k < (sizes_of e).blocks
+own_block o h = omega (arith, (counted o.counts).blocks)
 
 -- the offset of a block's row among the sets is a number of the code's
 pub row_fits : {k : ℕ} → k < block_limit → Fits w64 (k * 32)
@@ -110,14 +110,14 @@ row_fits h = record { fits = omega arith }
 
 -- each element of a table stands inside a file that can be read
 module _ {e : List ℕ} {s : Sizes} (r : Read e s) where
-  pub block_inside : {k : ℕ} → k < s .blocks → blocks_at + 8 * k + 8 ≤ length e
-  block_inside h = omega (arith, r .places .ends)
+  pub block_inside : {k : ℕ} → k < s.blocks → blocks_at + 8 * k + 8 ≤ length e
+  block_inside h = omega (arith, r.places.ends)
 
-  pub cell_inside : {i : ℕ} → i < s .cells → cells_at (sizes_of e) + 12 * i + 12 ≤ length e
-  cell_inside h = let n = counted (r .sizes_are) in omega (arith, r .places .ends)
+  pub cell_inside : {i : ℕ} → i < s.cells → cells_at (sizes_of e) + 12 * i + 12 ≤ length e
+  cell_inside h = let n = counted r.sizes_are in omega (arith, r.places.ends)
 
-  pub operand_inside : {j : ℕ} → j < s .operands → operands_at (sizes_of e) + 4 * j + 4 ≤ length e
-  operand_inside h = let n = counted (r .sizes_are) in omega (arith, r .places .ends)
+  pub operand_inside : {j : ℕ} → j < s.operands → operands_at (sizes_of e) + 4 * j + 4 ≤ length e
+  operand_inside h = let n = counted r.sizes_are in omega (arith, r.places.ends)
 
 -- what opening a file answers
 module _ (e : List ℕ) where

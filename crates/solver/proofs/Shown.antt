@@ -1,28 +1,28 @@
 -- Working bytes as truth values: what a cell's value is where the cells above it are shown.
-use mathlib.Core.Path.{_≡_, refl, ap, sym, _∙_}
-use mathlib.Core.Bool.{Bool, true, false, not, _&&_, _||_}
-use mathlib.Core.List.{List, [], _∷_}
-use Prim.Native.Nat.{ℕ, zero, suc, _+_, _-_, _<_, _≤_}
+use mathlib.Core.Path.{◌≡◌, refl, ap, sym, ◌∙◌}
+use mathlib.Core.Bool.{Bool, true, false, not, ◌&&◌, ◌||◌}
+use mathlib.Core.List.{List, [], ◌∷◌}
+use Prim.Native.Nat.{ℕ, zero, suc, ◌+◌, ◌-◌, ◌<◌, ◌≤◌}
 use native.Mathlib.Omega.{arith}
-use native.Mathlib.Decide.{decLt, ℕ_discrete}
+use native.Mathlib.Decide.{dec_lt, ℕ_discrete}
 use lib.Dec.{eqb}
-use lib.ListN.{length, getD, set, length-map, length-set, List·get_or_map, List·getD-eq-default}
-use lib.Seq.{getD-set-same, getD-set-other}
-use Rattle·sets.specs.Lists.{every, for_some}
-use Rattle·sets.specs.States.{has, Valuation}
-use Rattle·sets.specs.Words.{marked, bit, word_count, state_limit}
-use Rattle·sets.proofs.Lists.{kept_equal}
-use Rattle·sets.proofs.Words.{marked_words}
-use Rattle·solver·specs.specs.Cells.{Cell, value, Values}
-use Rattle·solver·specs.specs.internal.Forms.{Ordered}
-use Rattle·solver·specs.specs.File.{sizes_of, operands, Entry, entry_at, entry_cell, cells, list_of, block_limit}
-use Rattle·solver·specs.specs.internal.Checks.{SizesFit}
-use Rattle·solver·specs.specs.internal.Working.{Ready, ListAt, HoldsRows, Shows, Valued, CellsValued, truths}
-use Rattle·solver·specs.specs.declared.Sizes.{Sizes}
-use Rattle·solver·proofs.proofs.Tables.{counted, length_cells, cell_at_lem, operand_at_lem}
-use Rattle·solver·proofs.proofs.Reading.{layout_facts}
-use Rattle·solver·proofs.proofs.WellFormed.{Keeps, ordered, cell_kept}
-use Rattle·solver·proofs.proofs.Values.{value_kept}
+use lib.ListN.{length, get_or, set, length-map, length-set, get_or-map, get_or-eq_default}
+use lib.Seq.{get_or-set_same, get_or-set_other}
+use Rattle.sets.specs.Lists.{every, for_some}
+use Rattle.sets.specs.States.{has, Valuation}
+use Rattle.sets.specs.Words.{marked, bit, word_count, state_limit}
+use Rattle.sets.proofs.Lists.{kept_equal}
+use Rattle.sets.proofs.Words.{marked_words}
+use Rattle.solver.specs.Cells.{Cell, value, Values}
+use Rattle.solver.specs.internal.Forms.{Ordered}
+use Rattle.solver.specs.File.{sizes_of, operands, Entry, entry_at, entry_cell, cells, list_of, block_limit}
+use Rattle.solver.specs.internal.Checks.{SizesFit}
+use Rattle.solver.specs.internal.Working.{Ready, ListAt, HoldsRows, Shows, Valued, CellsValued, truths}
+use Rattle.solver.specs.declared.Sizes.{Sizes}
+use Rattle.solver.proofs.Tables.{counted, length_cells, cell_at_lem, operand_at_lem}
+use Rattle.solver.proofs.Reading.{layout_facts}
+use Rattle.solver.proofs.WellFormed.{Keeps, ordered, cell_kept}
+use Rattle.solver.proofs.Values.{value_kept}
 
 pub bit_low : (b : Bool) → bit b ≤ 1
 bit_low true = omega arith
@@ -33,37 +33,37 @@ pub bit_back : (b : Bool) → eqb (bit b) 1 ≡ b
 bit_back true = refl
 bit_back false = refl
 
-pub truth_at : (work : List ℕ) (o : ℕ) → getD (truths work) o false ≡ eqb (getD work o 0) 1
+pub truth_at : (work : List ℕ) (o : ℕ) → get_or (truths work) o false ≡ eqb (get_or work o 0) 1
 unfolding truths
-truth_at work o = List·get_or_map (λ x. eqb x 1) work o 0
+truth_at work o = get_or-map (λ x. eqb x 1) work o 0
 
 length_truths : (work : List ℕ) → length (truths work) ≡ length work
 unfolding truths
 length_truths work = length-map work (λ x. eqb x 1)
 
 -- ---- lists: what a search among the operands' bytes tells
-module _ (work : List ℕ) (bits : (i : ℕ) → getD work i 0 ≤ 1) (ops : List ℕ) (from count : ℕ) (ρ : Valuation) where
+module _ (work : List ℕ) (bits : (i : ℕ) → get_or work i 0 ≤ 1) (ops : List ℕ) (from count : ℕ) (ρ : Valuation) where
   abbrev wanted : ℕ → List ℕ → Bool
-  wanted x os = for_some (λ o. eqb (getD work o 0) x) os
+  wanted x os = for_some (λ o. eqb (get_or work o 0) x) os
 
-  one_or_zero : (o : ℕ) → eqb (getD work o 0) 1 ≡ not (eqb (getD work o 0) 0)
-  one_or_zero o = go (getD work o 0) (bits o)
+  one_or_zero : (o : ℕ) → eqb (get_or work o 0) 1 ≡ not (eqb (get_or work o 0) 0)
+  one_or_zero o = go (get_or work o 0) (bits o)
     where
       go : (x : ℕ) → x ≤ 1 → eqb x 1 ≡ not (eqb x 0)
       go zero h = refl
       go (suc zero) h = refl
       go (suc (suc x)) h = absurd (omega arith)
 
-  no_zero : (os : List ℕ) → every (λ o. getD (truths work) o false) os ≡ not (wanted 0 os)
+  no_zero : (os : List ℕ) → every (λ o. get_or (truths work) o false) os ≡ not (wanted 0 os)
   unfolding every for_some
   no_zero [] = refl
-  no_zero (o ∷ os) = rw (truth_at work o, one_or_zero o, no_zero os) (go (eqb (getD work o 0) 0))
+  no_zero (o ∷ os) = rw (truth_at work o, one_or_zero o, no_zero os) (go (eqb (get_or work o 0) 0))
     where
       go : (b : Bool) → (not b && not (wanted 0 os)) ≡ not (b || wanted 0 os)
       go true = refl
       go false = refl
 
-  some_one : (os : List ℕ) → for_some (λ o. getD (truths work) o false) os ≡ wanted 1 os
+  some_one : (os : List ℕ) → for_some (λ o. get_or (truths work) o false) os ≡ wanted 1 os
   unfolding for_some
   some_one [] = refl
   some_one (o ∷ os) = rw (truth_at work o, some_one os) refl
@@ -80,97 +80,97 @@ module _ (work : List ℕ) (bits : (i : ℕ) → getD work i 0 ≤ 1) (ops : Lis
 
 -- ---- a cell's value, by its kind
 abbrev pub cell_at : List ℕ → ℕ → Cell
-cell_at e i = entry_cell (operands e) (entry_at e i .kind) (entry_at e i .one) (entry_at e i .two)
+cell_at e i = entry_cell (operands e) (entry_at e i).kind (entry_at e i).one (entry_at e i).two
 
-module _ {e : List ℕ} {sizes : Sizes} {work : List ℕ} (r : Ready e sizes work) {i : ℕ} (h : i < sizes .cells) where
-  own : i < sizes_of e .cells
-  own = omega (arith, counted (r .opens .counts) .cells)
+module _ {e : List ℕ} {sizes : Sizes} {work : List ℕ} (r : Ready e sizes work) {i : ℕ} (h : i < sizes.cells) where
+  own : i < (sizes_of e).cells
+  own = omega (arith, (counted r.opens.counts).cells)
 
   -- the bytes above (cell_at e i) i are the values above (cell_at e i) i
-  above : (vs : List Bool) → length vs ≡ length (cells e) → Shows vs (i + 1) work → (o : ℕ) → i < o → getD (truths work) o false ≡ getD vs o false
-  above vs l s o g = go (decLt o (length vs))
+  above : (vs : List Bool) → length vs ≡ length (cells e) → Shows vs (i + 1) work → (o : ℕ) → i < o → get_or (truths work) o false ≡ get_or vs o false
+  above vs l s o g = go (dec_lt o (length vs))
     where
-      go : Dec (o < length vs) → getD (truths work) o false ≡ getD vs o false
-      go (yes q) = truth_at work o ∙ ap (λ (x : ℕ). eqb x 1) (s .byte o (omega arith) q) ∙ bit_back (getD vs o false)
+      go : Dec (o < length vs) → get_or (truths work) o false ≡ get_or vs o false
+      go (yes q) = truth_at work o ∙ ap (λ (x : ℕ). eqb x 1) (s.byte o (omega arith) q) ∙ bit_back (get_or vs o false)
       go (no q) =
-          List·getD-eq-default (truths work) false {n = o} (omega (arith, length_truths work, r .room, l, length_cells e))
-          ∙ sym (List·getD-eq-default vs false {n = o} (omega arith))
+          get_or-eq_default (truths work) false {n = o} (omega (arith, length_truths work, r.room, l, length_cells e))
+          ∙ sym (get_or-eq_default vs false {n = o} (omega arith))
 
   -- by the rule over all values
-  by_rule : (ρ : Valuation) (vs : List Bool) → Values (cells e) ρ vs → Shows vs (i + 1) work → value ρ (truths work) (cell_at e i) ≡ getD vs i false
+  by_rule : (ρ : Valuation) (vs : List Bool) → Values (cells e) ρ vs → Shows vs (i + 1) work → value ρ (truths work) (cell_at e i) ≡ get_or vs i false
   unfolding Ordered
   by_rule ρ vs v s =
       let g : i < length (cells e) = omega (arith, own, length_cells e) in
       let at = cell_at_lem e i own in
-      value_kept kept_equal ρ ρ (λ k x. refl) i (truths work) vs (above vs (v .sized) s) (cell_at e i) (rw at at (ordered e (r .opens .formed) i g))
-      ∙ sym (v .rule i g ∙ ap (value ρ vs) at)
+      value_kept kept_equal ρ ρ (λ k x. refl) i (truths work) vs (above vs v.sized s) (cell_at e i) (rw at at (ordered e r.opens.formed i g))
+      ∙ sym (v.rule i g ∙ ap (value ρ vs) at)
 
   -- x is what was read of cell i
   module _ {x : Entry} (is : x ≡ entry_at e i) where
-    abbrev facts : Keeps e i (entry_at e i .kind) (entry_at e i .one) (entry_at e i .two)
-    facts = cell_kept e (r .opens .formed) i own
+    abbrev facts : Keeps e i (entry_at e i).kind (entry_at e i).one (entry_at e i).two
+    facts = cell_kept e r.opens.formed i own
 
     abbrev few : SizesFit (sizes_of e)
-    few = layout_facts e (r .opens .formed .layout) .counts
+    few = (layout_facts e r.opens.formed.layout).counts
 
-    pub variable_fits : x .kind ≡ 2 → (x .one < block_limit) × (x .two < state_limit)
+    pub variable_fits : x.kind ≡ 2 → (x.one < block_limit) × (x.two < state_limit)
     variable_fits k =
-        let b = facts .variable (rw is at k) in
-        rw is (omega (arith, few .few_blocks, b .0), omega (arith, few .few_states, b .1))
+        let b = facts.variable (rw is at k) in
+        rw is (omega (arith, few.few_blocks, b.0), omega (arith, few.few_states, b.1))
 
-    pub list_fits : ¬ (x .kind ≡ 2) → ListAt e (x .one) (x .two) × (x .kind ≤ 1)
+    pub list_fits : ¬ (x.kind ≡ 2) → ListAt e x.one x.two × (x.kind ≤ 1)
     list_fits n =
-        let m : ¬ (entry_at e i .kind ≡ 2) = rw is at n in
-        let k : entry_at e i .kind ≤ 1 = omega (arith, facts .kinds) in
-        let l : ListAt e (entry_at e i .one) (entry_at e i .two) = record {
-          fits = facts .list k;
-          below = λ j g. let m = facts .list k in omega (arith, facts .operand k j g .1, operand_at_lem e (entry_at e i .one + j) (omega arith));
+        let m : ¬ ((entry_at e i).kind ≡ 2) = rw is at n in
+        let k : (entry_at e i).kind ≤ 1 = omega (arith, facts.kinds) in
+        let l : ListAt e (entry_at e i).one (entry_at e i).two = record {
+          fits = facts.list k;
+          below = λ j g. let m = facts.list k in omega (arith, (facts.operand k j g).1, operand_at_lem e ((entry_at e i).one + j) (omega arith));
         } in
         rw is (l, k)
 
     pub list_valued : {rows : List (List ℕ)} {answer : ℕ} →
-        ((ρ : Valuation) → answer ≡ bit (value ρ (truths work) (entry_cell (operands e) (x .kind) (x .one) (x .two)))) → Valued e rows i work answer
+        ((ρ : Valuation) → answer ≡ bit (value ρ (truths work) (entry_cell (operands e) x.kind x.one x.two))) → Valued e rows i work answer
     list_valued {answer = answer} f = record {
-      low = rw (f (λ k. [])) (bit_low (value (λ k. []) (truths work) (entry_cell (operands e) (x .kind) (x .one) (x .two))));
+      low = rw (f (λ k. [])) (bit_low (value (λ k. []) (truths work) (entry_cell (operands e) x.kind x.one x.two)));
       right = λ ρ vs holds v s. f ρ ∙ rw is (ap bit (by_rule ρ vs v s));
     }
 
-    pub variable_valued : {rows : List (List ℕ)} {answer : ℕ} → x .kind ≡ 2 → answer ≡ bit (marked (getD rows (x .one) []) (x .two)) → Valued e rows i work answer
+    pub variable_valued : {rows : List (List ℕ)} {answer : ℕ} → x.kind ≡ 2 → answer ≡ bit (marked (get_or rows x.one []) x.two) → Valued e rows i work answer
     unfolding value entry_cell
     variable_valued {rows} k f =
         let b = variable_fits k in
-        let k′ : entry_at e i .kind ≡ 2 = rw is at k in
+        let k' : (entry_at e i).kind ≡ 2 = rw is at k in
         record {
-          low = rw f (bit_low (marked (getD rows (x .one) []) (x .two)));
+          low = rw f (bit_low (marked (get_or rows x.one []) x.two));
           right = λ ρ vs holds v t.
-              let z : has (ρ (x .one)) (x .two) ≡ getD vs i false = rw is (rw k′ at (by_rule ρ vs v t)) in
+              let z : has (ρ x.one) x.two ≡ get_or vs i false = rw is (rw k' at (by_rule ρ vs v t)) in
               f
-              ∙ ap (λ (w : List ℕ). bit (marked w (x .two))) (holds .row (x .one) (b .0))
-              ∙ ap bit (marked_words word_count (ρ (x .one)) (x .two) (omega (arith, b .1)) ∙ z);
+              ∙ ap (λ (w : List ℕ). bit (marked w x.two)) (holds.row x.one b.0)
+              ∙ ap bit (marked_words word_count (ρ x.one) x.two (omega (arith, b.1)) ∙ z);
         }
 
 -- ---- all cells, from the last down
-pub evaluated_none : {e : List ℕ} {sizes : Sizes} {work : List ℕ} {rows : List (List ℕ)} → Ready e sizes work → CellsValued e rows (sizes .cells) work
+pub evaluated_none : {e : List ℕ} {sizes : Sizes} {work : List ℕ} {rows : List (List ℕ)} → Ready e sizes work → CellsValued e rows sizes.cells work
 evaluated_none {e} r = record {
-  room = r .room;
-  bits = r .bits;
-  right = λ ρ vs holds v. record { byte = λ j a b. absurd (omega (arith, v .sized, length_cells e, counted (r .opens .counts) .cells)) };
+  room = r.room;
+  bits = r.bits;
+  right = λ ρ vs holds v. record { byte = λ j a b. absurd (omega (arith, v.sized, length_cells e, (counted r.opens.counts).cells)) };
 }
 
-pub evaluated_more : {e : List ℕ} {work : List ℕ} {rows : List (List ℕ)} {i x : ℕ} → CellsValued e rows (i + 1) work → i < sizes_of e .cells → Valued e rows i work x → CellsValued e rows i (set work i x)
+pub evaluated_more : {e : List ℕ} {work : List ℕ} {rows : List (List ℕ)} {i x : ℕ} → CellsValued e rows (i + 1) work → i < (sizes_of e).cells → Valued e rows i work x → CellsValued e rows i (set work i x)
 evaluated_more {e} {work} {rows} {i} {x} d h w = record {
-  room = length-set work i x ∙ d .room;
+  room = length-set work i x ∙ d.room;
   bits = λ j. low j (ℕ_discrete j i);
   right = λ ρ vs holds v. record { byte = λ j a b. at ρ vs holds v j a b (ℕ_discrete j i) };
 }
   where
-    here : getD (set work i x) i 0 ≡ x
-    here = getD-set-same work i x 0 (omega (arith, d .room))
+    here : get_or (set work i x) i 0 ≡ x
+    here = get_or-set_same work i x 0 (omega (arith, d.room))
 
-    low : (j : ℕ) → Dec (j ≡ i) → getD (set work i x) j 0 ≤ 1
-    low j (yes q) = rw (q, here) (w .low)
-    low j (no q) = rw (getD-set-other work i j x 0 q) (d .bits j)
+    low : (j : ℕ) → Dec (j ≡ i) → get_or (set work i x) j 0 ≤ 1
+    low j (yes q) = rw (q, here) w.low
+    low j (no q) = rw (get_or-set_other work i j x 0 q) (d.bits j)
 
-    at : (ρ : Valuation) (vs : List Bool) → HoldsRows (sizes_of e .states) rows ρ → Values (cells e) ρ vs → (j : ℕ) → i ≤ j → j < length vs → Dec (j ≡ i) → getD (set work i x) j 0 ≡ bit (getD vs j false)
-    at ρ vs holds v j a b (yes q) = rw (q, here) (w .right ρ vs holds v (d .right ρ vs holds v))
-    at ρ vs holds v j a b (no q) = rw (getD-set-other work i j x 0 q) (d .right ρ vs holds v .byte j (omega arith) b)
+    at : (ρ : Valuation) (vs : List Bool) → HoldsRows (sizes_of e).states rows ρ → Values (cells e) ρ vs → (j : ℕ) → i ≤ j → j < length vs → Dec (j ≡ i) → get_or (set work i x) j 0 ≡ bit (get_or vs j false)
+    at ρ vs holds v j a b (yes q) = rw (q, here) (w.right ρ vs holds v (d.right ρ vs holds v))
+    at ρ vs holds v j a b (no q) = rw (get_or-set_other work i j x 0 q) ((d.right ρ vs holds v).byte j (omega arith) b)

@@ -1,46 +1,46 @@
 -- A block's right-hand sides, put in place of its set state by state, from the last down.
-use mathlib.Core.Path.{_≡_, refl, ap, sym, _∙_}
+use mathlib.Core.Path.{◌≡◌, refl, ap, sym, ◌∙◌}
 use mathlib.Core.Bool.{Bool, false}
-use mathlib.Core.List.{List, [], _∷_, _++_, append-assoc, append-nil}
-use Prim.Native.Nat.{ℕ, suc, _+_, _<_, _≤_}
+use mathlib.Core.List.{List, [], ◌∷◌, ◌++◌, append_assoc, append-nil}
+use Prim.Native.Nat.{ℕ, suc, ◌+◌, ◌<◌, ◌≤◌}
 use native.Mathlib.Omega.{arith}
 use native.Mathlib.Numerals.{add-one}
 use native.Mathlib.Decide.{ℕ_discrete}
 use lib.Dec.{eqb}
-use lib.ListN.{length, getD, set, take, drop, length-append, length-drop, drop-of-length-le, length-set}
-use lib.Seq.{take-suc, take-all, drop-cons, length-take-le, set-at, getD-take, getD-drop, getD-set-same, getD-set-other}
-use Rattle·sets.specs.States.{States, Valuation, update}
-use Rattle·sets.specs.Words.{words, word_count}
-use Rattle·solver·specs.specs.File.{sizes_of, block_at, block_limit}
-use Rattle·solver·specs.specs.Conditions.{WellFormed}
-use Rattle·solver·specs.specs.internal.Working.{OpenFile, Ready, HoldsRows, Valued, CellsValued, RightSidesOf, Applied}
-use Rattle·solver·specs.specs.declared.Sizes.{Sizes}
-use Rattle·solver·proofs.proofs.Tables.{counted, length_cells}
-use Rattle·solver·proofs.proofs.Reading.{few_blocks, own_block}
-use Rattle·solver·proofs.proofs.WellFormed.{block_kept}
-use Rattle·solver·proofs.proofs.Values.{length_part}
-use Rattle·solver·proofs.proofs.Shown.{bit_back, evaluated_more}
-use Rattle·sets.proofs.Valuation.{update_same, update_other}
+use lib.ListN.{length, get_or, set, take, drop, length-append, length-drop, drop_of_length-le, length-set}
+use lib.Seq.{take-suc, take_all, drop-cons, length-take-le, set_at, get_or-take, get_or-drop, get_or-set_same, get_or-set_other}
+use Rattle.sets.specs.States.{States, Valuation, update}
+use Rattle.sets.specs.Words.{words, word_count}
+use Rattle.solver.specs.File.{sizes_of, block_at, block_limit}
+use Rattle.solver.specs.Conditions.{WellFormed}
+use Rattle.solver.specs.internal.Working.{OpenFile, Ready, HoldsRows, Valued, CellsValued, RightSidesOf, Applied}
+use Rattle.solver.specs.declared.Sizes.{Sizes}
+use Rattle.solver.proofs.Tables.{counted, length_cells}
+use Rattle.solver.proofs.Reading.{few_blocks, own_block}
+use Rattle.solver.proofs.WellFormed.{block_kept}
+use Rattle.solver.proofs.Values.{length_part}
+use Rattle.solver.proofs.Shown.{bit_back, evaluated_more}
+use Rattle.sets.proofs.Valuation.{update_same, update_other}
 
 -- ---- the sets of all blocks
 
 -- the right-hand sides of a block are a set of the file's states
-pub sides_sized : (e : List ℕ) (k : ℕ) {σ : Valuation} {w : States} → WellFormed e → k < sizes_of e .blocks → RightSidesOf e k σ w → length w ≡ sizes_of e .states
+pub sides_sized : (e : List ℕ) (k : ℕ) {σ : Valuation} {w : States} → WellFormed e → k < (sizes_of e).blocks → RightSidesOf e k σ w → length w ≡ (sizes_of e).states
 sides_sized e k f h s =
-    ap length (s .are) ∙ length_part (sizes_of e .states) (block_at e k .first) (s .values) (omega (arith, block_kept e f k h, s .each .sized, length_cells e))
+    ap length s.are ∙ length_part (sizes_of e).states (block_at e k).first s.values (omega (arith, block_kept e f k h, s.each.sized, length_cells e))
 
 -- rows that hold v for block k, and for the others what was held
-pub holds_update : {n : ℕ} {rows after : List (List ℕ)} {ρ : Valuation} → HoldsRows n rows ρ → (k : ℕ) (v : States) → length v ≡ n → getD after k [] ≡ words word_count v →
-    ((j : ℕ) → ¬ (j ≡ k) → getD after j [] ≡ getD rows j []) → HoldsRows n after (update ρ k v)
+pub holds_update : {n : ℕ} {rows after : List (List ℕ)} {ρ : Valuation} → HoldsRows n rows ρ → (k : ℕ) (v : States) → length v ≡ n → get_or after k [] ≡ words word_count v →
+    ((j : ℕ) → ¬ (j ≡ k) → get_or after j [] ≡ get_or rows j []) → HoldsRows n after (update ρ k v)
 holds_update {n} {rows} {after} {ρ} h k v s e f = record { sized = λ j. long j (ℕ_discrete j k); row = λ j b. at j b (ℕ_discrete j k) }
   where
     long : (j : ℕ) → Dec (j ≡ k) → length (update ρ k v j) ≡ n
     long j (yes q) = rw (q, update_same ρ k v) s
-    long j (no q) = rw (update_other ρ k v j q) (h .sized j)
+    long j (no q) = rw (update_other ρ k v j q) (h.sized j)
 
-    at : (j : ℕ) → j < block_limit → Dec (j ≡ k) → getD after j [] ≡ words word_count (update ρ k v j)
+    at : (j : ℕ) → j < block_limit → Dec (j ≡ k) → get_or after j [] ≡ words word_count (update ρ k v j)
     at j b (yes q) = rw (q, update_same ρ k v) e
-    at j b (no q) = rw (update_other ρ k v j q, f j q) (h .row j b)
+    at j b (no q) = rw (update_other ρ k v j q, f j q) (h.row j b)
 
 -- ---- the states that are replaced
 
@@ -52,46 +52,46 @@ mixed_long : (s : ℕ) (v w : States) → s ≤ length v → length w ≡ length
 mixed_long s v w h l = length-append (take s v) (drop s w) ∙ rw (length-take-le s v h, length-drop s w) (omega arith)
 
 -- the state of w is put at s
-mixed_more : (s : ℕ) (v w : States) → s < length v → length w ≡ length v → set (mixed (s + 1) v w) s (getD w s false) ≡ mixed s v w
+mixed_more : (s : ℕ) (v w : States) → s < length v → length w ≡ length v → set (mixed (s + 1) v w) s (get_or w s false) ≡ mixed s v w
 mixed_more s v w h l =
-    let x : Bool = getD w s false in
+    let x : Bool = get_or w s false in
     ap (λ (i : ℕ). set (mixed i v w) s x) (add-one s)
     ∙ ap (λ (u : States). set (u ++ drop (suc s) w) s x) (take-suc v s false h)
-    ∙ ap (λ (u : States). set u s x) (append-assoc (take s v) (getD v s false ∷ []) (drop (suc s) w))
-    ∙ set-at (take s v) (getD v s false) (drop (suc s) w) x s (length-take-le s v (omega arith))
+    ∙ ap (λ (u : States). set u s x) (append_assoc (take s v) (get_or v s false ∷ []) (drop (suc s) w))
+    ∙ set_at (take s v) (get_or v s false) (drop (suc s) w) x s (length-take-le s v (omega arith))
     ∙ ap (λ (u : States). take s v ++ u) (sym (drop-cons w s false (omega arith)))
 
 -- a block of an opened file, and its first cell
 pub record BlockOf (e : List ℕ) (sizes : Sizes) (k first : ℕ) : Type 0 where
   pub opens : OpenFile e sizes
-  pub has : k < sizes .blocks
-  pub is : first ≡ block_at e k .first
+  pub has : k < sizes.blocks
+  pub is : first ≡ (block_at e k).first
 
 -- it has a cell for each state, and its right-hand sides are a set of the file's states
 module _ {e : List ℕ} {sizes : Sizes} {k first : ℕ} (b : BlockOf e sizes k first) where
-  pub block_fits : first + sizes .states ≤ sizes .cells
+  pub block_fits : first + sizes.states ≤ sizes.cells
   block_fits =
-      let n = counted (b .opens .counts) in
-      omega (arith, block_kept e (b .opens .formed) k (own_block (b .opens) (b .has)))
+      let n = counted b.opens.counts in
+      omega (arith, block_kept e b.opens.formed k (own_block b.opens b.has))
 
-  block_sides : {σ : Valuation} {w : States} → RightSidesOf e k σ w → length w ≡ sizes_of e .states
-  block_sides s = sides_sized e k (b .opens .formed) (own_block (b .opens) (b .has)) s
+  block_sides : {σ : Valuation} {w : States} → RightSidesOf e k σ w → length w ≡ (sizes_of e).states
+  block_sides s = sides_sized e k b.opens.formed (own_block b.opens b.has) s
 
 -- With s states left: the cells from that of state s on are worked out under `rows`, and in `next` the states from s on are replaced.
 pub record Replacing (e : List ℕ) (sizes : Sizes) (rows : List (List ℕ)) (k first s : ℕ) (work : List ℕ) (next : List (List ℕ)) : Type 0 where
   pub block : BlockOf e sizes k first
-  pub left : s ≤ sizes .states
+  pub left : s ≤ sizes.states
   pub long : length next ≡ block_limit
   pub worked : CellsValued e rows (first + s) work
-  pub others : (j : ℕ) → ¬ (j ≡ k) → getD next j [] ≡ getD rows j []
-  pub own : (σ : Valuation) (w : States) → HoldsRows (sizes_of e .states) rows σ → RightSidesOf e k σ w → getD next k [] ≡ words word_count (mixed s (σ k) w)
+  pub others : (j : ℕ) → ¬ (j ≡ k) → get_or next j [] ≡ get_or rows j []
+  pub own : (σ : Valuation) (w : States) → HoldsRows (sizes_of e).states rows σ → RightSidesOf e k σ w → get_or next k [] ≡ words word_count (mixed s (σ k) w)
 
 module _ {e : List ℕ} {sizes : Sizes} {rows : List (List ℕ)} {k first : ℕ} where
   -- no state is replaced yet
-  pub replacing_none : {work : List ℕ} → BlockOf e sizes k first → length rows ≡ block_limit → CellsValued e rows (first + sizes .states) work →
-      Replacing e sizes rows k first (sizes .states) work rows
+  pub replacing_none : {work : List ℕ} → BlockOf e sizes k first → length rows ≡ block_limit → CellsValued e rows (first + sizes.states) work →
+      Replacing e sizes rows k first sizes.states work rows
   replacing_none b l d =
-      let n : sizes .states ≡ sizes_of e .states = counted (b .opens .counts) .states in
+      let n : sizes.states ≡ (sizes_of e).states = (counted b.opens.counts).states in
       record {
         block = b;
         left = omega arith;
@@ -99,49 +99,49 @@ module _ {e : List ℕ} {sizes : Sizes} {rows : List (List ℕ)} {k first : ℕ}
         worked = d;
         others = λ j q. refl;
         own = λ σ w h r.
-            h .row k (few_blocks (b .opens) (b .has))
+            h.row k (few_blocks b.opens b.has)
             ∙ ap (words word_count)
-            (sym (ap (λ (u : States). u ++ drop (sizes .states) w) (take-all (sizes .states) (σ k) (omega (arith, h .sized k)))
-            ∙ ap (λ (u : States). σ k ++ u) (drop-of-length-le w {i = sizes .states} (omega (arith, block_sides b r)))
+            (sym (ap (λ (u : States). u ++ drop sizes.states w) (take_all sizes.states (σ k) (omega (arith, h.sized k)))
+            ∙ ap (λ (u : States). σ k ++ u) (drop_of_length-le w {i = sizes.states} (omega (arith, block_sides b r)))
             ∙ append-nil (σ k)));
       }
 
   -- cells can be worked out further
   pub replacing_ready : {s : ℕ} {work : List ℕ} {next : List (List ℕ)} → Replacing e sizes rows k first s work next → Ready e sizes work
-  replacing_ready r = record { opens = r .block .opens; room = r .worked .room; bits = r .worked .bits }
+  replacing_ready r = record { opens = r.block.opens; room = r.worked.room; bits = r.worked.bits }
 
   -- The right-hand side of state s is put in place: it is the value of cell first + s under `rows`.
   module _ {s v : ℕ} {work row : List ℕ} {next : List (List ℕ)} (r : Replacing e sizes rows k first (s + 1) work next) (x : Valued e rows (first + s) work v)
-      (put : (u : States) → s < length u → getD next k [] ≡ words word_count u → row ≡ words word_count (set u s (eqb v 1))) where
+      (put : (u : States) → s < length u → get_or next k [] ≡ words word_count u → row ≡ words word_count (set u s (eqb v 1))) where
     up : CellsValued e rows (first + s + 1) work
     up =
         let a : first + (s + 1) ≡ first + s + 1 = omega arith in
-        rw a at (r .worked)
+        rw a at r.worked
 
-    inside : s < sizes_of e .states
-    inside = omega (arith, counted (r .block .opens .counts) .states)
+    inside : s < (sizes_of e).states
+    inside = omega (arith, (counted r.block.opens.counts).states)
 
-    side : (σ : Valuation) (w : States) → HoldsRows (sizes_of e .states) rows σ → RightSidesOf e k σ w → eqb v 1 ≡ getD w s false
+    side : (σ : Valuation) (w : States) → HoldsRows (sizes_of e).states rows σ → RightSidesOf e k σ w → eqb v 1 ≡ get_or w s false
     side σ w holds t =
-        ap (λ (y : ℕ). eqb y 1) (x .right σ (t .values) holds (t .each) (up .right σ (t .values) holds (t .each)))
-        ∙ bit_back (getD (t .values) (first + s) false)
-        ∙ sym (ap (λ (u : States). getD u s false) (t .are)
-        ∙ getD-take (sizes_of e .states) (drop (block_at e k .first) (t .values)) s false inside
-        ∙ getD-drop (block_at e k .first) (t .values) s false
-        ∙ ap (λ (i : ℕ). getD (t .values) (i + s) false) (sym (r .block .is)))
+        ap (λ (y : ℕ). eqb y 1) (x.right σ t.values holds t.each (up.right σ t.values holds t.each))
+        ∙ bit_back (get_or t.values (first + s) false)
+        ∙ sym (ap (λ (u : States). get_or u s false) t.are
+        ∙ get_or-take (sizes_of e).states (drop (block_at e k).first t.values) s false inside
+        ∙ get_or-drop (block_at e k).first t.values s false
+        ∙ ap (λ (i : ℕ). get_or t.values (i + s) false) (sym r.block.is))
 
     pub replacing_more : Replacing e sizes rows k first s (set work (first + s) v) (set next k row)
     replacing_more = record {
-      block = r .block;
+      block = r.block;
       left = omega arith;
-      long = length-set next k row ∙ r .long;
-      worked = evaluated_more up (omega (arith, block_fits (r .block), counted (r .block .opens .counts) .cells)) x;
-      others = λ j q. getD-set-other next k j row [] q ∙ r .others j q;
+      long = length-set next k row ∙ r.long;
+      worked = evaluated_more up (omega (arith, block_fits r.block, (counted r.block.opens.counts).cells)) x;
+      others = λ j q. get_or-set_other next k j row [] q ∙ r.others j q;
       own = λ σ w holds t.
-          let a : length (σ k) ≡ sizes_of e .states = holds .sized k in
-          let z : length w ≡ length (σ k) = block_sides (r .block) t ∙ sym a in
-          getD-set-same next k row [] (omega (arith, few_blocks (r .block .opens) (r .block .has)))
-          ∙ put (mixed (s + 1) (σ k) w) (omega (arith, inside, mixed_long (s + 1) (σ k) w (omega (arith, inside)) z)) (r .own σ w holds t)
+          let a : length (σ k) ≡ (sizes_of e).states = holds.sized k in
+          let z : length w ≡ length (σ k) = block_sides r.block t ∙ sym a in
+          get_or-set_same next k row [] (omega (arith, few_blocks r.block.opens r.block.has))
+          ∙ put (mixed (s + 1) (σ k) w) (omega (arith, inside, mixed_long (s + 1) (σ k) w (omega (arith, inside)) z)) (r.own σ w holds t)
           ∙ ap (λ (y : Bool). words word_count (set (mixed (s + 1) (σ k) w) s y)) (side σ w holds t)
           ∙ ap (words word_count) (mixed_more s (σ k) w (omega (arith, inside)) z);
     }
@@ -149,7 +149,7 @@ module _ {e : List ℕ} {sizes : Sizes} {rows : List (List ℕ)} {k first : ℕ}
   -- all states are replaced
   pub replacing_all : {s : ℕ} {work : List ℕ} {next : List (List ℕ)} → Replacing e sizes rows k first s work next → s ≡ 0 → Applied e rows k work next
   replacing_all {s} {work} {next} r z = record {
-    room = r .worked .room;
-    bits = r .worked .bits;
-    right = λ σ w holds t. holds_update holds k w (block_sides (r .block) t) (r .own σ w holds t ∙ ap (λ (i : ℕ). words word_count (mixed i (σ k) w)) z) (r .others);
+    room = r.worked.room;
+    bits = r.worked.bits;
+    right = λ σ w holds t. holds_update holds k w (block_sides r.block t) (r.own σ w holds t ∙ ap (λ (i : ℕ). words word_count (mixed i (σ k) w)) z) r.others;
   }

@@ -1,27 +1,20 @@
 // The values of cells.
-use crate::BLOCKS;
-use crate::Sizes;
-use crate::file::HEADER;
-use crate::file::entry_at;
-use crate::file::number_at;
-use crate::file::operand_at;
+ghost use Rattle.std.specs.Prelude.{◌≡◌, [], ◌<◌, ◌≤◌, eqb, get_or};
+ghost use Rattle.sets.specs.Lists.{for_some};
+ghost use Rattle.sets.specs.Words.{marked, bit, state_limit};
+ghost use Rattle.sets.specs.States.{Valuation};
+ghost use Rattle.solver.specs.Cells.{value};
+ghost use Rattle.solver.specs.File.{operands, list_of, entry_cell, block_limit};
+ghost use Rattle.solver.specs.internal.Working.{Ready, ListAt, Valued, CellsValued, Applied, truths};
+
+use crate::file::{HEADER, entry_at, number_at, operand_at};
+use crate::{BLOCKS, Sizes};
 use sets::WORDS;
-ghost use mathlib.Core.Path.{_≡_};
-ghost use mathlib.Core.List.{[]};
-ghost use Prim.Native.Nat.{_<_, _≤_};
-ghost use lib.Dec.{eqb};
-ghost use lib.ListN.{getD};
-ghost use Rattle·sets.specs.Lists.{for_some};
-ghost use Rattle·sets.specs.Words.{marked, bit, state_limit};
-ghost use Rattle·sets.specs.States.{Valuation};
-ghost use Rattle·solver·specs.specs.Cells.{value};
-ghost use Rattle·solver·specs.specs.File.{operands, list_of, entry_cell, block_limit};
-ghost use Rattle·solver·specs.specs.internal.Working.{Ready, ListAt, Valued, CellsValued, Applied, truths};
 
 // Whether one of the operands from a place of the operand table on has the value wanted.
 fn finds(file: &[u8], sizes: Sizes, from: usize, count: usize, wanted: u8, work: &[u8]) -> bool
-    requires { ⌜ Ready (now file) sizes (now work) × ListAt (now file) from count ⌝ }
-    ensures { λ r. ⌜ r ≡ for_some (λ o. eqb (getD (now (work .entry)) o 0) wanted) (list_of (operands (now (file .entry))) from count) ⌝ }
+    requires { Ready file.now sizes work.now × ListAt file.now from count }
+    ensures { result ≡ for_some (λ o. eqb (get_or work.now o 0) wanted) (list_of (operands file.now) from count) }
 {
     let mut j = 0;
     while j < count {
@@ -36,8 +29,8 @@ fn finds(file: &[u8], sizes: Sizes, from: usize, count: usize, wanted: u8, work:
 
 // The value of an and (kind 0), which is false if an operand is, or of an or (kind 1), which is true if one is.
 fn list_value(file: &[u8], sizes: Sizes, kind: usize, from: usize, count: usize, work: &[u8]) -> u8
-    requires { ⌜ Ready (now file) sizes (now work) × ListAt (now file) from count × (kind ≤ 1) ⌝ }
-    ensures { λ r. ⌜ ((ρ : Valuation) → r ≡ bit (value ρ (truths (now (work .entry))) (entry_cell (operands (now (file .entry))) kind from count))) ⌝ }
+    requires { Ready file.now sizes work.now × ListAt file.now from count × (kind ≤ 1) }
+    ensures { (ρ : Valuation) → result ≡ bit (value ρ (truths work.now) (entry_cell (operands file.now) kind from count)) }
 {
     if kind == 0 {
         if finds(file, sizes, from, count, 0, work) {
@@ -53,8 +46,8 @@ fn list_value(file: &[u8], sizes: Sizes, kind: usize, from: usize, count: usize,
 
 // The value of the variable of a block in a state.
 fn variable_value(sets: &[[u64; WORDS]; BLOCKS], block: usize, state: usize) -> u8
-    requires { ⌜ (block < block_limit) × (state < state_limit) ⌝ }
-    ensures { λ r. ⌜ r ≡ bit (marked (getD (now (sets .entry)) block []) state) ⌝ }
+    requires { (block < block_limit) × (state < state_limit) }
+    ensures { result ≡ bit (marked (get_or sets.now block []) state) }
 {
     if sets::test(&sets[block], state) {
         return 1;
@@ -64,8 +57,8 @@ fn variable_value(sets: &[[u64; WORDS]; BLOCKS], block: usize, state: usize) -> 
 
 // The value of cell i, from those of the cells above it.
 fn value_of(file: &[u8], sizes: Sizes, sets: &[[u64; WORDS]; BLOCKS], i: usize, work: &[u8]) -> u8
-    requires { ⌜ Ready (now file) sizes (now work) × (i < sizes .cells) ⌝ }
-    ensures { λ r. ⌜ Valued (now (file .entry)) (now (sets .entry)) i (now (work .entry)) r ⌝ }
+    requires { Ready file.now sizes work.now × (i < sizes.cells) }
+    ensures { Valued file.now sets.now i work.now result }
 {
     let x = entry_at(file, sizes, i);
     if x.kind == 2 {
@@ -82,8 +75,8 @@ pub fn evaluate(
     from: usize,
     work: &mut [u8],
 )
-    requires { ⌜ Ready (now file) sizes (now work) × (from ≤ sizes .cells) ⌝ }
-    ensures { λ _. ⌜ CellsValued (now (file .entry)) sets from (now (work .exit)) ⌝ }
+    requires { Ready file.now sizes work.old × (from ≤ sizes.cells) }
+    ensures { CellsValued file.now sets from work.new }
 {
     let mut i = sizes.cells;
     while from < i {
@@ -101,8 +94,8 @@ pub fn right_sides(
     k: usize,
     work: &mut [u8],
 ) -> [[u64; WORDS]; BLOCKS]
-    requires { ⌜ Ready (now file) sizes (now work) × (k < sizes .blocks) ⌝ }
-    ensures { λ r. ⌜ Applied (now (file .entry)) sets k (now (work .exit)) r ⌝ }
+    requires { Ready file.now sizes work.old × (k < sizes.blocks) }
+    ensures { Applied file.now sets k work.new result }
 {
     let first = number_at(file, HEADER + 8 * k + 4);
     evaluate(file, sizes, sets, first + sizes.states, work);

@@ -1,28 +1,18 @@
 // Conditions 11 and 12.
-use crate::Cause;
-use crate::Opened;
-use crate::Sizes;
-use crate::Span;
-use crate::file::HEADER;
-use crate::file::entry_at;
-use crate::file::number_at;
-use crate::file::operand_at;
-use crate::file::sizes_of;
-ghost use mathlib.Core.Path.{_≡_};
-ghost use mathlib.Core.Bool.{_&&_};
-ghost use Prim.Native.Nat.{_+_, _<_, _≤_};
-ghost use lib.Dec.{ltb};
-ghost use lib.ListN.{length};
-ghost use Rattle·sets.specs.Lists.{numbers_from, every};
-ghost use Rattle·sets.specs.internal.Decides.{Decides};
-ghost use Rattle·solver·specs.specs.File.{sizes_of, cells_at, operands_at, blocks_at};
-ghost use Rattle·solver·specs.specs.Conditions.{layout_ok, block_ok, operands_before, operands_ok, tables_ok};
-ghost use Rattle·solver·specs.specs.internal.Forms.{opened};
-ghost use Rattle·solver·specs.specs.internal.Checks.{SizesFit, Places, Read, rest_ok, Spans};
+ghost use Rattle.std.specs.Prelude.{◌≡◌, ◌&&◌, ◌+◌, ◌<◌, ◌≤◌, ltb, length};
+ghost use Rattle.sets.specs.Lists.{numbers_from, every};
+ghost use Rattle.sets.specs.internal.Decides.{Decides};
+ghost use Rattle.solver.specs.File.{sizes_of, cells_at, operands_at, blocks_at};
+ghost use Rattle.solver.specs.Conditions.{layout_ok, block_ok, operands_before, operands_ok, tables_ok};
+ghost use Rattle.solver.specs.internal.Forms.{opened};
+ghost use Rattle.solver.specs.internal.Checks.{SizesFit, Places, Read, rest_ok, Spans};
+
+use crate::file::{HEADER, entry_at, number_at, operand_at, sizes_of};
+use crate::{Cause, Opened, Sizes, Span};
 
 // Whether each count is in its range, and the initial state is a state.
 fn counts_hold(sizes: Sizes) -> bool
-    ensures { λ r. ⌜ Decides (SizesFit sizes) r ⌝ }
+    ensures { Decides (SizesFit sizes) result }
 {
     if sizes.states < 1 || sets::STATES < sizes.states {
         return false;
@@ -41,24 +31,25 @@ fn counts_hold(sizes: Sizes) -> bool
 
 // Where the cells start.
 fn cells_from(sizes: Sizes) -> usize
-    requires { ⌜ SizesFit sizes ⌝ }
-    ensures { λ r. ⌜ r ≡ cells_at sizes ⌝ }
+    requires { SizesFit sizes }
+    ensures { result ≡ cells_at sizes }
 {
     HEADER + 8 * sizes.blocks
 }
 
 // Where the operands start.
 fn operands_from(sizes: Sizes) -> usize
-    requires { ⌜ SizesFit sizes ⌝ }
-    ensures { λ r. ⌜ r ≡ operands_at sizes ⌝ }
+    requires { SizesFit sizes }
+    ensures { result ≡ operands_at sizes }
 {
     cells_from(sizes) + 12 * sizes.cells
 }
 
 // Whether the version, the offsets and the length are right.
 fn places_hold(file: &[u8], sizes: Sizes) -> bool
-    requires { ⌜ blocks_at ≤ length (now file) ⌝ ∗ ⌜ SizesFit sizes ⌝ }
-    ensures { λ r. ⌜ Decides (Places (now (file .entry)) sizes) r ⌝ }
+    requires fact_1 { blocks_at ≤ length file.now }
+    requires fact_2 { SizesFit sizes }
+    ensures { Decides (Places file.now sizes) result }
 {
     if number_at(file, 0) != 1 {
         return false;
@@ -78,8 +69,9 @@ fn places_hold(file: &[u8], sizes: Sizes) -> bool
 
 // Whether condition 11 does not hold.
 fn layout_holds(file: &[u8], sizes: Sizes) -> bool
-    requires { ⌜ blocks_at ≤ length (now file) ⌝ ∗ ⌜ sizes ≡ sizes_of (now file) ⌝ }
-    ensures { λ r. ⌜ r ≡ layout_ok (now (file .entry)) ⌝ }
+    requires fact_1 { blocks_at ≤ length file.now }
+    requires fact_2 { sizes ≡ sizes_of file.now }
+    ensures { result ≡ layout_ok file.now }
 {
     if counts_hold(sizes) {
         return places_hold(file, sizes);
@@ -89,8 +81,9 @@ fn layout_holds(file: &[u8], sizes: Sizes) -> bool
 
 // Whether block k keeps its rule.
 fn block_holds(file: &[u8], sizes: Sizes, k: usize) -> bool
-    requires { ⌜ Read (now file) sizes ⌝ ∗ ⌜ k < sizes .blocks ⌝ }
-    ensures { λ r. ⌜ r ≡ block_ok (now (file .entry)) k ⌝ }
+    requires fact_1 { Read file.now sizes }
+    requires fact_2 { k < sizes.blocks }
+    ensures { result ≡ block_ok file.now k }
 {
     let at = HEADER + 8 * k;
     if 1 < number_at(file, at) {
@@ -101,8 +94,8 @@ fn block_holds(file: &[u8], sizes: Sizes, k: usize) -> bool
 
 // Whether every block keeps its rule.
 fn blocks_hold(file: &[u8], sizes: Sizes) -> bool
-    requires { ⌜ Read (now file) sizes ⌝ }
-    ensures { λ r. ⌜ r ≡ every (block_ok (now (file .entry))) (numbers_from 0 (sizes_of (now (file .entry)) .blocks)) ⌝ }
+    requires { Read file.now sizes }
+    ensures { result ≡ every (block_ok file.now) (numbers_from 0 (sizes_of file.now).blocks) }
 {
     let mut k = 0;
     while k < sizes.blocks {
@@ -116,8 +109,9 @@ fn blocks_hold(file: &[u8], sizes: Sizes) -> bool
 
 // Whether every operand of a list of cell i is a cell number above i.
 fn operands_hold(file: &[u8], sizes: Sizes, i: usize, from: usize, count: usize) -> bool
-    requires { ⌜ Read (now file) sizes ⌝ ∗ ⌜ from + count ≤ sizes .operands ⌝ }
-    ensures { λ r. ⌜ r ≡ operands_ok (now (file .entry)) i from count ⌝ }
+    requires fact_1 { Read file.now sizes }
+    requires fact_2 { from + count ≤ sizes.operands }
+    ensures { result ≡ operands_ok file.now i from count }
 {
     let cells = sizes.cells;
     let mut j = 0;
@@ -136,15 +130,18 @@ fn operands_hold(file: &[u8], sizes: Sizes, i: usize, from: usize, count: usize)
 
 // Whether a variable has a block and a state.
 fn variable_holds(sizes: Sizes, block: usize, state: usize) -> bool
-    ensures { λ r. ⌜ r ≡ (ltb block (sizes .blocks) && ltb state (sizes .states)) ⌝ }
+    ensures { result ≡ (ltb block sizes.blocks && ltb state sizes.states) }
 {
     block < sizes.blocks && state < sizes.states
 }
 
 // Whether cell i keeps its rule, where the lists before it have `used` operands, and how many operands it has.
 fn entry_span(file: &[u8], sizes: Sizes, i: usize, used: usize) -> Span
-    requires { ⌜ Read (now file) sizes ⌝ ∗ ⌜ i < sizes .cells ⌝ ∗ ⌜ used ≡ operands_before (now file) i ⌝ ∗ ⌜ used ≤ sizes .operands ⌝ }
-    ensures { λ r. ⌜ Spans (now (file .entry)) i used r ⌝ }
+    requires fact_1 { Read file.now sizes }
+    requires fact_2 { i < sizes.cells }
+    requires fact_3 { used ≡ operands_before file.now i }
+    requires fact_4 { used ≤ sizes.operands }
+    ensures { Spans file.now i used result }
 {
     let x = entry_at(file, sizes, i);
     let broken = Span {
@@ -174,8 +171,8 @@ fn entry_span(file: &[u8], sizes: Sizes, i: usize, used: usize) -> Span
 
 // Whether every cell keeps its rule, and the lists fill the operand table.
 fn cells_hold(file: &[u8], sizes: Sizes) -> bool
-    requires { ⌜ Read (now file) sizes ⌝ }
-    ensures { λ r. ⌜ r ≡ rest_ok (now (file .entry)) 0 ⌝ }
+    requires { Read file.now sizes }
+    ensures { result ≡ rest_ok file.now 0 }
 {
     let mut used = 0;
     let mut i = 0;
@@ -192,15 +189,15 @@ fn cells_hold(file: &[u8], sizes: Sizes) -> bool
 
 // Whether condition 12 does not hold.
 fn tables_hold(file: &[u8], sizes: Sizes) -> bool
-    requires { ⌜ Read (now file) sizes ⌝ }
-    ensures { λ r. ⌜ r ≡ tables_ok (now (file .entry)) ⌝ }
+    requires { Read file.now sizes }
+    ensures { result ≡ tables_ok file.now }
 {
     blocks_hold(file, sizes) && cells_hold(file, sizes)
 }
 
 // The counts of a file, or the first of conditions 11 and 12 that holds.
 pub fn open_file(file: &[u8]) -> Opened
-    ensures { λ r. ⌜ r ≡ opened (now (file .entry)) ⌝ }
+    ensures { result ≡ opened file.now }
 {
     if file.len() < HEADER {
         return Opened::Unfit(Cause::Layout);

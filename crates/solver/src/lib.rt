@@ -4,14 +4,14 @@ mod conditions;
 mod file;
 mod rounds;
 
+ghost use Rattle.std.specs.Prelude.{◌≡◌, length, replicate};
+ghost use Rattle.solver.specs.File.{sizes_of};
+ghost use Rattle.solver.specs.Outcome.{solve_answer, Answered};
+ghost use Rattle.solver.specs.internal.Working.{OpenFile, AllSolved};
+
 use conditions::open_file;
 pub use file::HEADER;
 use sets::WORDS;
-ghost use mathlib.Core.Path.{_≡_};
-ghost use lib.ListN.{length, replicate};
-ghost use Rattle·solver·specs.specs.File.{sizes_of};
-ghost use Rattle·solver·specs.specs.Outcome.{solve_answer, Answered};
-ghost use Rattle·solver·specs.specs.internal.Working.{OpenFile, AllSolved};
 
 pub const BLOCKS: usize = 6;
 
@@ -23,6 +23,7 @@ pub const OPERANDS: usize = 133_120;
 pub const LARGEST: usize = HEADER + 8 * BLOCKS + 12 * CELLS + 4 * OPERANDS;
 
 // The counts of an equation file, and its initial state.
+#[derive(Drop)]
 pub struct Sizes {
     pub states: usize,
     pub blocks: usize,
@@ -32,6 +33,7 @@ pub struct Sizes {
 }
 
 // The three numbers of a cell: its kind, and first operand and operand count, or block and state.
+#[derive(Drop)]
 pub struct Entry {
     pub kind: usize,
     pub one: usize,
@@ -39,6 +41,7 @@ pub struct Entry {
 }
 
 // Why a file is not solved.
+#[derive(Drop)]
 pub enum Cause {
     Layout,
     Table,
@@ -47,24 +50,28 @@ pub enum Cause {
 }
 
 // What opening a file finds.
+#[derive(Drop)]
 pub enum Opened {
     File(Sizes),
     Unfit(Cause),
 }
 
 // What is reported of a solved file.
+#[derive(Drop)]
 pub struct Report {
     pub verdict: bool,
     pub count: usize,
     pub rounds: u64,
 }
 
+#[derive(Drop)]
 pub enum Answer {
     Solved(Report),
     Refused(Cause),
 }
 
 // Whether a cell keeps its rule, and how many operands it has.
+#[derive(Drop)]
 pub struct Span {
     pub ok: bool,
     pub count: usize,
@@ -72,7 +79,7 @@ pub struct Span {
 
 // Puts 0 everywhere.
 fn clear(work: &mut [u8])
-    ensures { λ _. ⌜ now (work .exit) ≡ replicate (length (now (work .entry))) 0 ⌝ }
+    ensures { work.new ≡ replicate (length work.old) 0 }
 {
     let mut i = 0;
     while i < work.len() {
@@ -90,8 +97,8 @@ fn run(
     rounds: &mut u64,
     status: &mut u8,
 ) -> [u64; WORDS]
-    requires { ⌜ OpenFile (now file) sizes × (length (now work) ≡ sizes_of (now file) .cells) × (now rounds ≡ 0) ⌝ }
-    ensures { λ r. ⌜ AllSolved (now (file .entry)) limit (now (work .exit)) r (now (rounds .exit)) (now (status .exit)) ⌝ }
+    requires { OpenFile file.now sizes × (length work.old ≡ (sizes_of file.now).cells) × (rounds.old ≡ 0) }
+    ensures { AllSolved file.now limit work.new result rounds.new status.new }
 {
     clear(work);
     let starts = rounds::starts(file, sizes);
@@ -114,8 +121,8 @@ fn run(
 
 // Solves a file whose conditions 11 and 12 do not hold.
 fn solve_opened(file: &[u8], sizes: Sizes, work: &mut [u8], marks: &mut [u64], limit: u64) -> Answer
-    requires { ⌜ OpenFile (now file) sizes ⌝ }
-    ensures { λ r. ⌜ Answered (now (file .entry)) (now (work .entry)) (now (marks .entry)) limit (solve_answer r) (now (work .exit)) (now (marks .exit)) ⌝ }
+    requires { OpenFile file.now sizes }
+    ensures { Answered file.now work.old marks.old limit (solve_answer result) work.new marks.new }
 {
     let c = sizes.cells;
     if work.len() < c {
@@ -142,7 +149,7 @@ fn solve_opened(file: &[u8], sizes: Sizes, work: &mut [u8], marks: &mut [u64], l
 
 // Solves an equation file. Is lent c working bytes, and the words of a set for the marks.
 pub fn solve(file: &[u8], work: &mut [u8], marks: &mut [u64], limit: u64) -> Answer
-    ensures { λ r. ⌜ Answered (now (file .entry)) (now (work .entry)) (now (marks .entry)) limit (solve_answer r) (now (work .exit)) (now (marks .exit)) ⌝ }
+    ensures { Answered file.now work.old marks.old limit (solve_answer result) work.new marks.new }
 {
     match open_file(file) {
         Opened::File(sizes) => solve_opened(file, sizes, work, marks, limit),

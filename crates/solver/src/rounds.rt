@@ -1,16 +1,14 @@
 // Solving blocks by rounds. A block's solution needs that of the blocks after it.
-use crate::BLOCKS;
-use crate::Sizes;
+ghost use Rattle.std.specs.Prelude.{◌≡◌, ◌+◌, ◌-◌, ◌<◌, ◌≤◌};
+ghost use Rattle.sets.specs.States.{start};
+ghost use Rattle.sets.specs.Words.{words, word_count};
+ghost use Rattle.solver.specs.File.{sizes_of, block_at};
+ghost use Rattle.solver.specs.internal.Working.{OpenFile, Ready, HoldsRows, Started, Solving, Turned, starting};
+
 use crate::cells::right_sides;
-use crate::file::HEADER;
-use crate::file::number_at;
+use crate::file::{HEADER, number_at};
+use crate::{BLOCKS, Sizes};
 use sets::WORDS;
-ghost use mathlib.Core.Path.{_≡_};
-ghost use Prim.Native.Nat.{_+_, _-_, _<_, _≤_};
-ghost use Rattle·sets.specs.States.{start};
-ghost use Rattle·sets.specs.Words.{words, word_count};
-ghost use Rattle·solver·specs.specs.File.{sizes_of, block_at};
-ghost use Rattle·solver·specs.specs.internal.Working.{OpenFile, Ready, HoldsRows, Started, Solving, Turned, starting};
 
 // How a round, or the solving of a block, ends.
 pub const REPLACED: u8 = 0;
@@ -21,16 +19,16 @@ pub const SPENT: u8 = 2;
 
 // Where block k starts: no state for mu, every state for nu.
 fn start_of(file: &[u8], sizes: Sizes, k: usize) -> [u64; WORDS]
-    requires { ⌜ OpenFile (now file) sizes × (k < sizes .blocks) ⌝ }
-    ensures { λ r. ⌜ r ≡ words word_count (start (sizes_of (now (file .entry)) .states) (block_at (now (file .entry)) k .sign)) ⌝ }
+    requires { OpenFile file.now sizes × (k < sizes.blocks) }
+    ensures { result ≡ words word_count (start (sizes_of file.now).states (block_at file.now k).sign) }
 {
     sets::initial(sizes.states, number_at(file, HEADER + 8 * k) == 1)
 }
 
 // Where all blocks start.
 pub fn starts(file: &[u8], sizes: Sizes) -> [[u64; WORDS]; BLOCKS]
-    requires { ⌜ OpenFile (now file) sizes ⌝ }
-    ensures { λ r. ⌜ HoldsRows (sizes_of (now (file .entry)) .states) r (starting (now (file .entry)) (sizes_of (now (file .entry)) .blocks)) ⌝ }
+    requires { OpenFile file.now sizes }
+    ensures { HoldsRows (sizes_of file.now).states result (starting file.now (sizes_of file.now).blocks) }
 {
     let mut sets = [[0u64; WORDS]; BLOCKS];
     for k in 0..sizes.blocks {
@@ -41,6 +39,7 @@ pub fn starts(file: &[u8], sizes: Sizes) -> [[u64; WORDS]; BLOCKS]
 }
 
 // Solves the last `left` blocks, which are held where they start, with the sets of those before them held.
+#[cycle(round_solve_last)]
 pub fn solve_last(
     file: &[u8],
     sizes: Sizes,
@@ -51,8 +50,8 @@ pub fn solve_last(
     rounds: &mut u64,
     status: &mut u8,
 ) -> [[u64; WORDS]; BLOCKS]
-    requires { ⌜ Ready (now file) sizes (now work) × (left ≤ sizes .blocks) × (now rounds ≤ limit) × Started (now file) (sizes .blocks - left) sets ⌝ }
-    ensures { λ r. ⌜ Solving (now (file .entry)) sets (sizes .blocks - left) (now (rounds .entry)) limit (now (work .exit)) r (now (rounds .exit)) (now (status .exit)) ⌝ }
+    requires { Ready file.now sizes work.old × (left ≤ sizes.blocks) × (rounds.old ≤ limit) × Started file.now (sizes.blocks - left) sets }
+    ensures { Solving file.now sets (sizes.blocks - left) rounds.old limit work.new result rounds.new status.new }
 {
     if left == 0 {
         *status = STABLE;
@@ -74,6 +73,7 @@ pub fn solve_last(
 
 // One round of the outermost of the last `left` blocks: the later blocks are solved anew, a round is counted, the right-hand sides are
 // worked out and compared.
+#[cycle(round_solve_last)]
 fn round(
     file: &[u8],
     sizes: Sizes,
@@ -84,8 +84,8 @@ fn round(
     rounds: &mut u64,
     status: &mut u8,
 ) -> [[u64; WORDS]; BLOCKS]
-    requires { ⌜ Ready (now file) sizes (now work) × (0 < left) × (left ≤ sizes .blocks) × (now rounds ≤ limit) × Started (now file) (sizes .blocks - left + 1) sets ⌝ }
-    ensures { λ r. ⌜ Turned (now (file .entry)) sets (sizes .blocks - left) (now (rounds .entry)) limit (now (work .exit)) r (now (rounds .exit)) (now (status .exit)) ⌝ }
+    requires { Ready file.now sizes work.old × (0 < left) × (left ≤ sizes.blocks) × (rounds.old ≤ limit) × Started file.now (sizes.blocks - left + 1) sets }
+    ensures { Turned file.now sets (sizes.blocks - left) rounds.old limit work.new result rounds.new status.new }
 {
     let s = solve_last(file, sizes, sets, left - 1, limit, work, rounds, status);
     if *status == SPENT {

@@ -1,14 +1,14 @@
 -- More laws of all and any: lists that are appended, mapped, kept.
 use mathlib.Core.Bool.{Bool, true, false, cond}
-use mathlib.Core.List.{List, [], _∷_, _++_, map}
-use Prim.Native.Nat.{ℕ, zero, suc, _+_, _≤_, _<_}
+use mathlib.Core.List.{List, [], ◌∷◌, ◌++◌, map}
+use Prim.Native.Nat.{ℕ, zero, suc, ◌+◌, ◌≤◌, ◌<◌}
 use native.Mathlib.Omega.{arith}
-use lib.Dec.{T, eqb, ltb, lt→ltb, ltb→lt, eqb-refl}
-use lib.ListN.{length, getD}
-use Rattle·sets.specs.Lists.{numbers_from, every, for_some, keep}
-use Rattle·sets.proofs.Lists.{and_left, and_right, and_both, or_left, or_right, all_at, all_from}
-use Rattle·cases.specs.declared.Transition.{Transition}
-use Rattle·cases.specs.Case.{distinct, transition_at, copies_before}
+use lib.Dec.{T, eqb, ltb, lt→ltb, ltb→lt, eqb_refl}
+use lib.ListN.{length, get_or}
+use Rattle.sets.specs.Lists.{numbers_from, every, for_some, keep}
+use Rattle.sets.proofs.Lists.{and_left, and_right, and_both, or_left, or_right, all_at, all_from}
+use Rattle.cases.specs.declared.Transition.{Transition}
+use Rattle.cases.specs.Case.{distinct, transition_at, copies_before}
 
 -- a property of the elements of two lists
 module _ {A : Type 0} (p : A → Bool) where
@@ -55,11 +55,11 @@ all_distinct p ts t =
     (numbers_from 0 (length ts)) (range_below 0 (length ts) (length ts) (omega arith))
 
 -- each number of a list is among them
-pub among_at : (js : List ℕ) (k : ℕ) → k < length js → T (for_some (eqb (getD js k 0)) js)
+pub among_at : (js : List ℕ) (k : ℕ) → k < length js → T (for_some (eqb (get_or js k 0)) js)
 unfolding for_some
 among_at [] k h = absurd (omega arith)
-among_at (j ∷ js) zero h = or_left (eqb j j) (for_some (eqb j) js) (eqb-refl j)
-among_at (j ∷ js) (suc k) h = or_right (eqb (getD js k 0) j) (for_some (eqb (getD js k 0)) js) (among_at js k (omega arith))
+among_at (j ∷ js) zero h = or_left (eqb j j) (for_some (eqb j) js) (eqb_refl j)
+among_at (j ∷ js) (suc k) h = or_right (eqb (get_or js k 0) j) (for_some (eqb (get_or js k 0)) js) (among_at js k (omega arith))
 
 pub among_all : (js : List ℕ) → T (every (λ j. for_some (eqb j) js) js)
 among_all js = all_from (λ j. for_some (eqb j) js) js 0 (among_at js)

@@ -1,29 +1,29 @@
 -- What a formula lists of its nodes is what its table lists; so the binders of a table in prefix order, and their blocks.
-use mathlib.Core.Path.{_≡_, refl, sym, ap, ap₂, _∙_}
-use mathlib.Core.Bool.{Bool, true, false, cond, _||_}
-use mathlib.Core.List.{List, [], _∷_, _++_, map, append-assoc}
-use Prim.Native.Nat.{ℕ, zero, suc, _+_, _≤_, _<_}
+use mathlib.Core.Path.{◌≡◌, refl, sym, ap, ap₂, ◌∙◌}
+use mathlib.Core.Bool.{Bool, true, false, cond, ◌||◌}
+use mathlib.Core.List.{List, [], ◌∷◌, ◌++◌, map, append_assoc}
+use Prim.Native.Nat.{ℕ, zero, suc, ◌+◌, ◌≤◌, ◌<◌}
 use native.Mathlib.Nat.{zero-add, add-zero}
 use native.Mathlib.Numerals.{add-one}
 use native.Mathlib.Omega.{arith}
-use borrow.Author.Tests.{eq-eqb, ne-eqb}
+use borrow.Author.Tests.{eq-eqb, ne_eqb}
 use lib.Dec.{T, eqb, ltb, lt→ltb}
-use lib.ListN.{length, getD, take, drop, length-map}
+use lib.ListN.{length, get_or, take, drop, length-map}
 use lib.Seq.{drop-cons, drop-drop}
-use Rattle·sets.specs.Lists.{numbers_from, every, keep}
-use Rattle·sets.proofs.Lists.{and_both}
-use Rattle·cases.specs.Action.{Action}
-use Rattle·cases.specs.Formula.{Formula, nodes}
-use Rattle·cases.specs.declared.Node.{Node}
-use Rattle·cases.specs.Prefix.{arity_in, formula_arities, span, end_of, formula_at}
-use Rattle·cases.specs.Conditions.{node_at, is_binder, binder_count}
-use Rattle·cases.specs.internal.Tables.{made, formula_operator, FormulaTable}
-use Rattle·cases.proofs.Spans.{span_none, span_add, end_next, first_node, exactly_whole, exactly_span, by_operands}
-use Rattle·cases.proofs.Trees.{arity_at}
-use Rattle·cases.proofs.TableTrees.{each_kind, formula_at_lem, root}
-use Rattle·cases.proofs.Counting.{arity_small, nodes_span}
-use Rattle·translate·specs.specs.Whole.{binder_nodes, index_in, block_in}
-use Rattle·translate·proofs.proofs.Equations.{increasing}
+use Rattle.sets.specs.Lists.{numbers_from, every, keep}
+use Rattle.sets.proofs.Lists.{and_both}
+use Rattle.cases.specs.Action.{Action}
+use Rattle.cases.specs.Formula.{Formula, nodes}
+use Rattle.cases.specs.declared.Node.{Node}
+use Rattle.cases.specs.Prefix.{arity_in, formula_arities, span, end_of, formula_at}
+use Rattle.cases.specs.Conditions.{node_at, is_binder, binder_count}
+use Rattle.cases.specs.internal.Tables.{made, formula_operator, FormulaTable}
+use Rattle.cases.proofs.Spans.{span_none, span_add, end_next, first_node, exactly_whole, exactly_span, by_operands}
+use Rattle.cases.proofs.Trees.{arity_at}
+use Rattle.cases.proofs.TableTrees.{each_kind, formula_at_lem, root}
+use Rattle.cases.proofs.Counting.{arity_small, nodes_span}
+use Rattle.translate.specs.Whole.{binder_nodes, index_in, block_in}
+use Rattle.translate.proofs.Equations.{increasing}
 
 -- ---- lists from the k numbers from i on
 module _ {A : Type 0} (item : ℕ → List A) where
@@ -41,7 +41,7 @@ module _ {A : Type 0} (item : ℕ → List A) where
       ap (collect i) first
       ∙ ap (λ (l : List A). item i ++ l) (collect_add m n (suc i))
       ∙ ap (λ (j : ℕ). item i ++ (collect (suc i) m ++ collect j n)) next
-      ∙ sym (append-assoc (item i) (collect (suc i) m) (collect (i + suc m) n))
+      ∙ sym (append_assoc (item i) (collect (suc i) m) (collect (i + suc m) n))
 
 -- the lists of the operands, of which there are at most two
 abbrev pub operand_lists : {A : Type 0} → ℕ → List A → List A → List A
@@ -61,19 +61,19 @@ module _ (action : ℕ → Action) (t : List Node) (table : FormulaTable t) wher
   in_arities i h = rw (length-map t (arity_in formula_arities)) h
 
   -- a node has at most two operands
-  two_operands : (i : ℕ) → i < length t → getD ks i 0 ≤ 2
-  two_operands i h = rw (arity_at formula_arities t i h) (arity_small (node_at t i .kind) (table .kinds i h))
+  two_operands : (i : ℕ) → i < length t → get_or ks i 0 ≤ 2
+  two_operands i h = rw (arity_at formula_arities t i h) (arity_small (node_at t i).kind (table.kinds i h))
 
   -- the second operand stands after the nodes of the first
-  pub second_at : (i : ℕ) → i < length t → getD ks i 0 ≡ 2 → i + 1 + nodes (form (i + 1)) ≡ end_of ks (i + 1)
+  pub second_at : (i : ℕ) → i < length t → get_or ks i 0 ≡ 2 → i + 1 + nodes (form (i + 1)) ≡ end_of ks (i + 1)
   second_at i h e =
-      let next : i + 1 < length ks = first_node 1 ks (exactly_whole 1 ks (table .whole)) i (in_arities i h) (omega arith) in
+      let next : i + 1 < length ks = first_node 1 ks (exactly_whole 1 ks table.whole) i (in_arities i h) (omega arith) in
       ap (λ (m : ℕ). i + 1 + m) (nodes_span action t table (i + 1) (rw (length-map t (arity_in formula_arities)) at next))
 
   -- `lists a i` is a list made of a formula a at node i: `item i`, and then the lists of the operands
   module _ {A : Type 0} (lists : Formula → ℕ → List A) (item : ℕ → List A)
       (own : (i : ℕ) → i < length t
-      → lists (form i) i ≡ item i ++ operand_lists (getD ks i 0) (lists (form (i + 1)) (i + 1)) (lists (form (end_of ks (i + 1))) (i + 1 + nodes (form (i + 1))))) where
+      → lists (form i) i ≡ item i ++ operand_lists (get_or ks i 0) (lists (form (i + 1)) (i + 1)) (lists (form (end_of ks (i + 1))) (i + 1 + nodes (form (i + 1))))) where
     -- what the table lists from node i on, for the next m formulas
     abbrev inside : ℕ → ℕ → List A
     inside m i = collect item i (span m (drop i ks))
@@ -83,11 +83,11 @@ module _ (action : ℕ → Action) (t : List Node) (table : FormulaTable t) wher
         let both : span 2 (drop i ks) ≡ span 1 (drop i ks) + span 1 (drop (end_of ks i) ks) = rw drop-drop at (span_add 1 1 (drop i ks)) in
         ap (collect item i) both ∙ collect_add item (span 1 (drop i ks)) (span 1 (drop (end_of ks i) ks)) i
 
-    inside_node : (i : ℕ) → i < length t → inside 1 i ≡ item i ++ inside (getD ks i 0) (i + 1)
+    inside_node : (i : ℕ) → i < length t → inside 1 i ≡ item i ++ inside (get_or ks i 0) (i + 1)
     unfolding collect
     inside_node i h =
-        let here : span 1 (drop i ks) ≡ suc (span (getD ks i 0) (drop (i + 1) ks)) = omega (arith, end_next ks i (in_arities i h)) in
-        ap (collect item i) here ∙ ap (λ (j : ℕ). item i ++ collect item j (span (getD ks i 0) (drop (i + 1) ks))) (sym (add-one i))
+        let here : span 1 (drop i ks) ≡ suc (span (get_or ks i 0) (drop (i + 1) ks)) = omega (arith, end_next ks i (in_arities i h)) in
+        ap (collect item i) here ∙ ap (λ (j : ℕ). item i ++ collect item j (span (get_or ks i 0) (drop (i + 1) ks))) (sym (add-one i))
 
     -- the operands
     operands_inside : (m i : ℕ) → m ≤ 2 → (m ≡ 2 → i + nodes (form i) ≡ end_of ks i) → (1 ≤ m → lists (form i) i ≡ inside 1 i)
@@ -97,25 +97,25 @@ module _ (action : ℕ → Action) (t : List Node) (table : FormulaTable t) wher
     operands_inside zero i h e p q = rw span_none
     operands_inside (suc zero) i h e p q = p (omega arith)
     operands_inside (suc (suc zero)) i h e p q =
-        ap₂ _++_ (p (omega arith)) (ap (lists (form (end_of ks i))) (e refl) ∙ q refl) ∙ sym (inside_two i)
+        ap₂ ◌++◌ (p (omega arith)) (ap (lists (form (end_of ks i))) (e refl) ∙ q refl) ∙ sym (inside_two i)
     operands_inside (suc (suc (suc m))) i h e p q = absurd (omega arith)
 
     -- What a formula lists is what its table lists.
     listed_inside : (i : ℕ) → i < length t → lists (form i) i ≡ collect item i (span 1 (drop i ks))
-    listed_inside i h = by_operands 1 ks (exactly_whole 1 ks (table .whole)) (λ j. lists (form j) j ≡ inside 1 j) each i (in_arities i h)
+    listed_inside i h = by_operands 1 ks (exactly_whole 1 ks table.whole) (λ j. lists (form j) j ≡ inside 1 j) each i (in_arities i h)
       where
-        each : (j : ℕ) → j < length ks → (1 ≤ getD ks j 0 → lists (form (j + 1)) (j + 1) ≡ inside 1 (j + 1))
-            → (getD ks j 0 ≡ 2 → lists (form (end_of ks (j + 1))) (end_of ks (j + 1)) ≡ inside 1 (end_of ks (j + 1))) → lists (form j) j ≡ inside 1 j
+        each : (j : ℕ) → j < length ks → (1 ≤ get_or ks j 0 → lists (form (j + 1)) (j + 1) ≡ inside 1 (j + 1))
+            → (get_or ks j 0 ≡ 2 → lists (form (end_of ks (j + 1))) (end_of ks (j + 1)) ≡ inside 1 (end_of ks (j + 1))) → lists (form j) j ≡ inside 1 j
         each j l p q =
             let node : j < length t = rw (length-map t (arity_in formula_arities)) at l in
             own j node
-            ∙ ap (λ (us : List A). item j ++ us) (operands_inside (getD ks j 0) (j + 1) (two_operands j node) (second_at j node) p q)
+            ∙ ap (λ (us : List A). item j ++ us) (operands_inside (get_or ks j 0) (j + 1) (two_operands j node) (second_at j node) p q)
             ∙ sym (inside_node j node)
 
     -- the whole formula lists all nodes
     pub listed_all : lists (form 0) 0 ≡ collect item 0 (length t)
     listed_all =
-        let all_nodes : span 1 ks ≡ length t = exactly_span 1 ks (table .whole) ∙ length-map t (arity_in formula_arities) in
+        let all_nodes : span 1 ks ≡ length t = exactly_span 1 ks table.whole ∙ length-map t (arity_in formula_arities) in
         listed_inside 0 (root t table) ∙ ap (collect item 0) all_nodes
 
 -- ---- binders
@@ -132,11 +132,11 @@ keep_collect p (suc k) i = ap (λ (l : List ℕ). cond (p i) (i ∷ []) [] ++ l)
 module _ (action : ℕ → Action) (t : List Node) (table : FormulaTable t) where
   -- the binders of a node
   binders_own : (i arg k : ℕ) → k ≤ 8 → (f g : Formula) → binder_nodes (made (formula_operator action i arg k) f g)
-      ≡ cond (eqb k 7 || eqb k 8) (i ∷ []) [] ++ operand_lists (getD formula_arities k 0) (binder_nodes f) (binder_nodes g)
+      ≡ cond (eqb k 7 || eqb k 8) (i ∷ []) [] ++ operand_lists (get_or formula_arities k 0) (binder_nodes f) (binder_nodes g)
   unfolding binder_nodes
   binders_own i arg k h f g =
       each_kind (λ k. binder_nodes (made (formula_operator action i arg k) f g)
-      ≡ cond (eqb k 7 || eqb k 8) (i ∷ []) [] ++ operand_lists (getD formula_arities k 0) (binder_nodes f) (binder_nodes g))
+      ≡ cond (eqb k 7 || eqb k 8) (i ∷ []) [] ++ operand_lists (get_or formula_arities k 0) (binder_nodes f) (binder_nodes g))
       refl refl refl refl refl refl refl refl refl k h
 
   -- The binders of the whole formula are those of the table, in order.
@@ -145,11 +145,11 @@ module _ (action : ℕ → Action) (t : List Node) (table : FormulaTable t) wher
     where
       own : (i : ℕ) → i < length t → binder_nodes (formula_at action t i)
           ≡ cond (is_binder (node_at t i)) (i ∷ []) []
-          ++ operand_lists (getD (map (arity_in formula_arities) t) i 0) (binder_nodes (formula_at action t (i + 1)))
+          ++ operand_lists (get_or (map (arity_in formula_arities) t) i 0) (binder_nodes (formula_at action t (i + 1)))
           (binder_nodes (formula_at action t (end_of (map (arity_in formula_arities) t) (i + 1))))
       own i h =
-          ap binder_nodes (formula_at_lem action t table i (node_at t i .kind) h refl)
-          ∙ rw (arity_at formula_arities t i h) (binders_own i (node_at t i .arg) (node_at t i .kind) (table .kinds i h) _ _)
+          ap binder_nodes (formula_at_lem action t table i (node_at t i).kind h refl)
+          ∙ rw (arity_at formula_arities t i h) (binders_own i (node_at t i).arg (node_at t i).kind (table.kinds i h) _ _)
 
 -- what is kept of later numbers is greater
 keep_above : (p : ℕ → Bool) (x k i : ℕ) → x < i → T (every (ltb x) (keep p (numbers_from i k)))
@@ -190,7 +190,7 @@ binder_place t (suc m) (suc k) i h l e =
 
     go : (r : Bool) → index_in (suc i + m) later ≡ binder_count (take m (drop (suc i) t))
         → index_in (suc i + m) (cond r (i ∷ later) later) ≡ cond r 1 0 + binder_count (take m (drop (suc i) t))
-    go true p = rw (ne-eqb (suc i + m) i (λ q. omega arith), p) (omega arith)
+    go true p = rw (ne_eqb (suc i + m) i (λ q. omega arith), p) (omega arith)
     go false p = p ∙ sym (zero-add _)
 
 module _ (action : ℕ → Action) (t : List Node) (table : FormulaTable t) where

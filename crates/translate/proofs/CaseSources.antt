@@ -1,47 +1,47 @@
 -- The tables, shapes and flags of an accepted case are those that the writers ask, and the equations of the shapes are the case's.
-use mathlib.Core.Path.{_≡_, refl, sym, ap, _∙_}
-use mathlib.Core.Bool.{Bool, true, false, cond, _&&_, _||_}
-use mathlib.Core.List.{List, _∷_, map}
-use Prim.Native.Nat.{ℕ, zero, suc, _+_, _*_, _≤_, _<_}
+use mathlib.Core.Path.{◌≡◌, refl, sym, ap, ◌∙◌}
+use mathlib.Core.Bool.{Bool, true, false, cond, ◌&&◌, ◌||◌}
+use mathlib.Core.List.{List, ◌∷◌, map}
+use Prim.Native.Nat.{ℕ, zero, suc, ◌+◌, ◌*◌, ◌≤◌, ◌<◌}
 use native.Mathlib.Omega.{arith}
 use borrow.Author.Tests.{not-false}
 use lib.Dec.{T, eqb, ltb, ltb→lt, lt→ltb}
-use lib.ListN.{length, getD, take, length-map}
-use lib.Seq.{getD-take}
-use Rattle·sets.specs.Lists.{numbers_from, every}
-use Rattle·sets.proofs.Lists.{false_true, and_left, and_right, all_at, all_mono, length_table, table_at}
-use Rattle·cases.specs.Action.{Action}
-use Rattle·cases.specs.Formula.{Formula}
-use Rattle·cases.specs.declared.Node.{Node}
-use Rattle·cases.specs.declared.Transition.{Transition}
-use Rattle·cases.specs.Prefix.{arity_in, formula_arities, exactly, end_of, formula_at}
-use Rattle·cases.specs.File.{header_of, label_limit, transition_limit, action_limit, node_limit, transition_table, action_table, formula_table}
-use Rattle·cases.specs.Case.{case_action, case_of, distinct}
-use Rattle·cases.specs.Conditions.{transition_ok, node_at, node_ok, is_binder, bad_formula, Accepted}
-use Rattle·cases.specs.internal.Checks.{transitions_in, nodes_in, label_part, transition_part, action_part, formula_part, LabelPart, NodesFit}
-use Rattle·cases.specs.internal.Masks.{WholeActions}
-use Rattle·cases.specs.internal.Links.{FirstFlags}
-use Rattle·cases.specs.internal.Tables.{FormulaTable}
-use Rattle·cases.proofs.Spans.{exactly_whole, second_node}
-use Rattle·cases.proofs.Trees.{arity_at}
-use Rattle·cases.proofs.TableTrees.{held, each_kind, formula_table_lem}
-use Rattle·cases.proofs.Masks.{whole_actions}
-use Rattle·cases.proofs.ModelRules.{labels_inside, transitions_inside, actions_inside, nodes_inside}
-use Rattle·translate·specs.specs.declared.Shape.{Shape}
-use Rattle·translate·specs.specs.Whole.{whole, block_in}
-use Rattle·translate·specs.specs.Bytes.{System, system_of, all_operands}
-use Rattle·translate·specs.specs.internal.Shapes.{shapes_from, shape_in, table_shapes}
-use Rattle·translate·specs.specs.internal.Parts.{distinct_in}
-use Rattle·translate·specs.specs.internal.Sources.{shape_system, shape_at, Sources}
-use Rattle·translate·specs.specs.internal.Tabled.{Tables, HoldsShapes}
-use Rattle·translate·proofs.proofs.AllLaws.{all_distinct}
-use Rattle·cases.proofs.FirstAppearances.{flagged_distinct}
-use Rattle·translate·proofs.proofs.TableShapes.{shape_blocks_lem, shape_cells_lem, table_shapes_lem}
-use Rattle·translate·proofs.proofs.ShapeLaws.{shape_cell_lem}
-use Rattle·translate·proofs.proofs.CaseFile.{operands_high}
-use Rattle·cases.proofs.Accepting.{Passed, passed}
-use Rattle·cases.proofs.Tallies.{model_holds}
-use Rattle·translate·proofs.proofs.AcceptedCases.{length_formula, variables_known, fit}
+use lib.ListN.{length, get_or, take, length-map}
+use lib.Seq.{get_or-take}
+use Rattle.sets.specs.Lists.{numbers_from, every}
+use Rattle.sets.proofs.Lists.{false_true, and_left, and_right, all_at, all_mono, length_table, table_at}
+use Rattle.cases.specs.Action.{Action}
+use Rattle.cases.specs.Formula.{Formula}
+use Rattle.cases.specs.declared.Node.{Node}
+use Rattle.cases.specs.declared.Transition.{Transition}
+use Rattle.cases.specs.Prefix.{arity_in, formula_arities, exactly, end_of, formula_at}
+use Rattle.cases.specs.File.{header_of, label_limit, transition_limit, action_limit, node_limit, transition_table, action_table, formula_table}
+use Rattle.cases.specs.Case.{case_action, case_of, distinct}
+use Rattle.cases.specs.Conditions.{transition_ok, node_at, node_ok, is_binder, bad_formula, Accepted}
+use Rattle.cases.specs.internal.Checks.{transitions_in, nodes_in, label_part, transition_part, action_part, formula_part, LabelPart, NodesFit}
+use Rattle.cases.specs.internal.Masks.{WholeActions}
+use Rattle.cases.specs.internal.Links.{FirstFlags}
+use Rattle.cases.specs.internal.Tables.{FormulaTable}
+use Rattle.cases.proofs.Spans.{exactly_whole, second_node}
+use Rattle.cases.proofs.Trees.{arity_at}
+use Rattle.cases.proofs.TableTrees.{held, each_kind, formula_table_lem}
+use Rattle.cases.proofs.Masks.{whole_actions}
+use Rattle.cases.proofs.ModelRules.{labels_inside, transitions_inside, actions_inside, nodes_inside}
+use Rattle.translate.specs.declared.Shape.{Shape}
+use Rattle.translate.specs.Whole.{whole, block_in}
+use Rattle.translate.specs.Bytes.{System, system_of, all_operands}
+use Rattle.translate.specs.internal.Shapes.{shapes_from, shape_in, table_shapes}
+use Rattle.translate.specs.internal.Parts.{distinct_in}
+use Rattle.translate.specs.internal.Sources.{shape_system, shape_at, Sources}
+use Rattle.translate.specs.internal.Tabled.{Tables, HoldsShapes}
+use Rattle.translate.proofs.AllLaws.{all_distinct}
+use Rattle.cases.proofs.FirstAppearances.{flagged_distinct}
+use Rattle.translate.proofs.TableShapes.{shape_blocks_lem, shape_cells_lem, table_shapes_lem}
+use Rattle.translate.proofs.ShapeLaws.{shape_cell_lem}
+use Rattle.translate.proofs.CaseFile.{operands_high}
+use Rattle.cases.proofs.Accepting.{Passed, passed}
+use Rattle.cases.proofs.Tallies.{model_holds}
+use Rattle.translate.proofs.AcceptedCases.{length_formula, variables_known, fit}
 
 -- ---- the tables
 
@@ -74,13 +74,13 @@ length_table_shapes action t = go (is_binder (node_at t 0))
 
 -- a shape of a known kind, whose second operand, a node number, is within the limit
 record Fine (x : Shape) : Type 0 where
-  known : x .kind ≤ 8
-  second : x .second ≤ node_limit
+  known : x.kind ≤ 8
+  second : x.second ≤ node_limit
 
 -- a second operand is within the limit: only the kinds with two operands, and and or, have one
-second_small : (next k : ℕ) → k ≤ 8 → (getD formula_arities k 0 ≡ 2 → next ≤ node_limit) → cond (eqb k 2 || eqb k 3) next 0 ≤ node_limit
+second_small : (next k : ℕ) → k ≤ 8 → (get_or formula_arities k 0 ≡ 2 → next ≤ node_limit) → cond (eqb k 2 || eqb k 3) next 0 ≤ node_limit
 second_small next =
-    each_kind (λ k. (getD formula_arities k 0 ≡ 2 → next ≤ node_limit) → cond (eqb k 2 || eqb k 3) next 0 ≤ node_limit)
+    each_kind (λ k. (get_or formula_arities k 0 ≡ 2 → next ≤ node_limit) → cond (eqb k 2 || eqb k 3) next 0 ≤ node_limit)
     (λ h. omega arith) (λ h. omega arith) (λ h. h refl) (λ h. h refl) (λ h. omega arith) (λ h. omega arith) (λ h. omega arith)
     (λ h. omega arith) (λ h. omega arith)
 
@@ -93,9 +93,9 @@ module _ (action : ℕ → Action) (t : List Node) (table : FormulaTable t) (few
       let long : length ks ≡ length t = length-map t (arity_in formula_arities) in
       let inside : i < length ks = omega arith in
       record {
-        known = table .kinds i h;
-        second = second_small (end_of ks (i + 1) + added) (node_at t i .kind) (table .kinds i h)
-            (λ two. omega (arith, second_node 1 ks (exactly_whole 1 ks (table .whole)) i inside (arity_at formula_arities t i h ∙ two)));
+        known = table.kinds i h;
+        second = second_small (end_of ks (i + 1) + added) (node_at t i).kind (table.kinds i h)
+            (λ two. omega (arith, second_node 1 ks (exactly_whole 1 ks table.whole) i inside (arity_at formula_arities t i h ∙ two)));
       }
 
   -- and of every node, with the nu that is put before the root
@@ -127,44 +127,44 @@ module _ (b : List ℕ) (accepted : Accepted b) where
   table = formula_table b
 
   formed : FormulaTable table
-  formed = formula_table_lem (header_of b .actions) table (good .formula)
+  formed = formula_table_lem (header_of b).actions table good.formula
 
   -- an accepted case has tables that can be read
-  pub tables : (masks : List ℕ) → length masks ≡ action_limit → Tables masks (header_of b .actions) (formula_part b) (header_of b .nodes)
+  pub tables : (masks : List ℕ) → length masks ≡ action_limit → Tables masks (header_of b).actions (formula_part b) (header_of b).nodes
   unfolding formula_table nodes_in
   tables masks long = record {
-    room = omega (arith, good .lies .counts .few_actions);
+    room = omega (arith, good.lies.counts.few_actions);
     blocks = record {
-      node_part = nodes_inside (good .lies);
+      node_part = nodes_inside good.lies;
       variable = λ i h k.
           let inside : i < length table = omega (arith, length_formula b) in
-          omega (arith, variables_known b accepted i inside k .before);
+          omega (arith, (variables_known b accepted i inside k).before);
     };
     modal = λ i h m.
         let inside : i < length table = omega (arith, length_formula b) in
-        modal_inside (header_of b .actions) (node_at table i .arg) (node_at table i .kind) (formed .kinds i inside) m
-        (nodes_pass (header_of b .actions) table (good .formula) i inside);
+        modal_inside (header_of b).actions (node_at table i).arg (node_at table i).kind (formed.kinds i inside) m
+        (nodes_pass (header_of b).actions table good.formula i inside);
   }
 
   -- what is asked for the masks of its action formulas
-  pub masks_asked : LabelPart (label_part b) (header_of b) × NodesFit action_limit (action_part b) (header_of b .actions)
-      × WholeActions (header_of b .labels) (nodes_in (action_part b) (header_of b .actions))
+  pub masks_asked : LabelPart (label_part b) (header_of b) × NodesFit action_limit (action_part b) (header_of b).actions
+      × WholeActions (header_of b).labels (nodes_in (action_part b) (header_of b).actions)
   unfolding action_table nodes_in
-  masks_asked = (labels_inside (good .lies), actions_inside (good .lies), whole_actions b (good .actions))
+  masks_asked = (labels_inside good.lies, actions_inside good.lies, whole_actions b good.actions)
 
   -- its parts and counts are within their limits
-  pub parts : (6 * header_of b .transitions ≤ length (transition_part b)) × (header_of b .transitions ≤ transition_limit) × (1 ≤ header_of b .nodes)
-      × (header_of b .«transitions_at» ≤ length b) × (header_of b .«actions_at» ≤ length b) × (header_of b .«formula_at_lem» ≤ length b) × (header_of b .«labels_at» ≤ length b)
+  pub parts : (6 * (header_of b).transitions ≤ length (transition_part b)) × ((header_of b).transitions ≤ transition_limit) × (1 ≤ (header_of b).nodes)
+      × ((header_of b).transitions_at ≤ length b) × ((header_of b).actions_at ≤ length b) × ((header_of b).formula_at ≤ length b) × ((header_of b).labels_at ≤ length b)
   parts =
-      let l = good .lies in
-      let c = l .counts in (
+      let l = good.lies in
+      let c = l.counts in (
         transitions_inside l,
-        c .few_transitions,
-        c .some_node,
-        omega (arith, l .ends, l .transitions),
-        omega (arith, l .ends, l .actions),
-        omega (arith, l .ends, l .formula),
-        omega (arith, l .ends, l .labels),
+        c.few_transitions,
+        c.some_node,
+        omega (arith, l.ends, l.transitions),
+        omega (arith, l.ends, l.actions),
+        omega (arith, l.ends, l.formula),
+        omega (arith, l.ends, l.labels),
       )
 
   -- ---- the equations
@@ -180,17 +180,17 @@ module _ (b : List ℕ) (accepted : Accepted b) where
   transitions = distinct (transition_table b)
 
   -- each label of a distinct transition has a bit in a mask
-  labels_low : T (every (λ t. ltb (t .label) label_limit) transitions)
+  labels_low : T (every (λ t. ltb t.label label_limit) transitions)
   labels_low =
-      let n : ℕ = header_of b .states in
-      let l : ℕ = header_of b .labels in
-      all_distinct (λ t. ltb (t .label) label_limit) (transition_table b)
-      (all_mono (transition_ok n l) (λ t. ltb (t .label) label_limit)
+      let n : ℕ = (header_of b).states in
+      let l : ℕ = (header_of b).labels in
+      all_distinct (λ t. ltb t.label label_limit) (transition_table b)
+      (all_mono (transition_ok n l) (λ t. ltb t.label label_limit)
       (λ t h.
-      let two : T (ltb (t .source) n && ltb (t .label) l) = and_left (ltb (t .source) n && ltb (t .label) l) (ltb (t .target) n) h in
-      let low : t .label < l = ltb→lt (t .label) l (and_right (ltb (t .source) n) (ltb (t .label) l) two) in
-      lt→ltb (t .label) label_limit (omega (arith, good .lies .counts .few_labels)))
-      (transition_table b) (held (every (transition_ok n l) (transition_table b)) (model_holds b (good .model) .1)))
+      let two : T (ltb t.source n && ltb t.label l) = and_left (ltb t.source n && ltb t.label l) (ltb t.target n) h in
+      let low : t.label < l = ltb→lt t.label l (and_right (ltb t.source n) (ltb t.label l) two) in
+      lt→ltb t.label label_limit (omega (arith, good.lies.counts.few_labels)))
+      (transition_table b) (held (every (transition_ok n l) (transition_table b)) (model_holds b good.model).1))
 
   -- the shapes of the table are those of the formula that is translated
   shapes_of_table : shapes_from (block_in formula) formula 0 ≡ table_shapes action table
@@ -198,26 +198,26 @@ module _ (b : List ℕ) (accepted : Accepted b) where
       table_shapes_lem action table formed
       (λ i h k.
       let known = variables_known b accepted i h k in
-      (omega (arith, known .before), known .binder))
+      (omega (arith, known.before), known.binder))
 
   -- the equations of the formula's shapes are the case's
-  system_of_shapes : shape_system (header_of b .states) (header_of b .initial) transitions (shapes_from (block_in formula) formula 0) ≡ system_of (case_of b)
+  system_of_shapes : shape_system (header_of b).states (header_of b).initial transitions (shapes_from (block_in formula) formula 0) ≡ system_of (case_of b)
   unfolding shape_system system_of case_of
   system_of_shapes =
-      let n : ℕ = header_of b .states in
+      let n : ℕ = (header_of b).states in
       rw (
         shape_blocks_lem n (block_in formula) formula 0,
         shape_cells_lem n transitions (block_in formula) (shape_cell_lem n transitions labels_low (block_in formula)) formula 0,
       )
 
   -- flags and shapes that were read from the tables
-  module _ (first : List ℕ) (shapes : List Shape) (k : ℕ) (flags : FirstFlags (transition_part b) (header_of b .transitions) first)
-      (holds_shapes : HoldsShapes action (formula_part b) (header_of b .nodes) shapes)
-      (count : k ≡ cond (is_binder (node_at (nodes_in (formula_part b) (header_of b .nodes)) 0)) 0 1 + header_of b .nodes) where
+  module _ (first : List ℕ) (shapes : List Shape) (k : ℕ) (flags : FirstFlags (transition_part b) (header_of b).transitions first)
+      (holds_shapes : HoldsShapes action (formula_part b) (header_of b).nodes shapes)
+      (count : k ≡ cond (is_binder (node_at (nodes_in (formula_part b) (header_of b).nodes) 0)) 0 1 + (header_of b).nodes) where
     -- the flagged transitions are the distinct ones
-    transitions_same : distinct_in (transition_part b) first (header_of b .transitions) ≡ transitions
+    transitions_same : distinct_in (transition_part b) first (header_of b).transitions ≡ transitions
     unfolding distinct_in transition_table transitions_in
-    transitions_same = flagged_distinct (transition_part b) (header_of b .transitions) first flags
+    transitions_same = flagged_distinct (transition_part b) (header_of b).transitions first flags
 
     -- there are k shapes
     shape_count : k ≡ length (table_shapes action table)
@@ -227,35 +227,35 @@ module _ (b : List ℕ) (accepted : Accepted b) where
     -- and the array starts with them
     shapes_taken : take k shapes ≡ table_shapes action table
     unfolding formula_table nodes_in
-    shapes_taken = rw shape_count (holds_shapes .starts)
+    shapes_taken = rw shape_count holds_shapes.starts
 
     -- The equations of the shapes are the case's.
-    pub system_of_lem : shape_system (header_of b .states) (header_of b .initial) (distinct_in (transition_part b) first (header_of b .transitions)) (take k shapes) ≡ system_of (case_of b)
+    pub system_of_lem : shape_system (header_of b).states (header_of b).initial (distinct_in (transition_part b) first (header_of b).transitions) (take k shapes) ≡ system_of (case_of b)
     system_of_lem = rw (transitions_same, shapes_taken, ← shapes_of_table) system_of_shapes
 
     -- a shape of the array is one of the table
     shape_known : (i : ℕ) → i < k → Fine (shape_at shapes i)
     shape_known i h =
         let inside : i < length (table_shapes action table) = omega (arith, shape_count) in
-        let few : length table ≤ node_limit = omega (arith, length_formula b, good .lies .counts .few_nodes) in
-        let same : shape_at shapes i ≡ shape_at (table_shapes action table) i = sym (getD-take k shapes i _ h) ∙ ap (λ (xs : List Shape). shape_at xs i) shapes_taken in
+        let few : length table ≤ node_limit = omega (arith, length_formula b, good.lies.counts.few_nodes) in
+        let same : shape_at shapes i ≡ shape_at (table_shapes action table) i = sym (get_or-take k shapes i _ h) ∙ ap (λ (xs : List Shape). shape_at xs i) shapes_taken in
         rw same (shapes_fine action table formed few i inside)
 
     -- The writers are handed what they ask.
-    pub sources : Sources (transition_part b) first (header_of b .transitions) shapes k (header_of b .states)
+    pub sources : Sources (transition_part b) first (header_of b).transitions shapes k (header_of b).states
     unfolding shape_system
     sources =
-        let l = good .lies in
-        let few : k ≤ node_limit + 1 = omega (arith, count, l .counts .few_nodes, added_small (is_binder (node_at (nodes_in (formula_part b) (header_of b .nodes)) 0))) in
-        let operands = ap (λ (y : System). length (all_operands (y .cells))) system_of_lem in
+        let l = good.lies in
+        let few : k ≤ node_limit + 1 = omega (arith, count, l.counts.few_nodes, added_small (is_binder (node_at (nodes_in (formula_part b) (header_of b).nodes) 0))) in
+        let operands = ap (λ (y : System). length (all_operands y.cells)) system_of_lem in
         record {
-          recorded = record { records = parts .0; flags = flags .long };
-          few_transitions = parts .1;
-          held = omega (arith, holds_shapes .long);
+          recorded = record { records = parts.0; flags = flags.long };
+          few_transitions = parts.1;
+          held = omega (arith, holds_shapes.long);
           few_nodes = few;
-          few_states = l .counts .few_states;
-          known = λ i h. shape_known i h .known;
-          second = λ i h. shape_known i h .second;
+          few_states = l.counts.few_states;
+          known = λ i h. (shape_known i h).known;
+          second = λ i h. (shape_known i h).second;
           few_operands = omega (arith, operands, operands_high (case_of b) (fit b accepted));
         }
       where

@@ -1,18 +1,18 @@
 -- A formula whose variables lie in the scopes of their binders, translated, has each variable's number among its binders.
-use mathlib.Core.Path.{_≡_, refl, sym, ap₂, subst, _∙_}
-use mathlib.Core.Bool.{Bool, true, false, cond, _&&_, _||_}
-use mathlib.Core.List.{List, [], _∷_, map}
-use Prim.Native.Nat.{ℕ, _+_}
+use mathlib.Core.Path.{◌≡◌, refl, sym, ap₂, subst, ◌∙◌}
+use mathlib.Core.Bool.{Bool, true, false, cond, ◌&&◌, ◌||◌}
+use mathlib.Core.List.{List, [], ◌∷◌, map}
+use Prim.Native.Nat.{ℕ, ◌+◌}
 use native.Mathlib.Numerals.{add-one}
-use lib.Dec.{T, eqb, eqb→eq, eqb·suc-suc}
-use Rattle·sets.specs.Lists.{every, for_some}
-use Rattle·sets.proofs.Lists.{and_left, and_right, and_both}
-use Rattle·cases.specs.Formula.{Formula, False, True, And, Or, Box, Diamond, Variable, Fix}
-use Rattle·cases.proofs.Scopes.{scoped}
-use Rattle·cases.proofs.TableTrees.{holds}
-use Rattle·translate·specs.specs.Whole.{raise, binds_first, whole, binder_nodes}
-use Rattle·translate·proofs.proofs.AllLaws.{all_first, all_second, among_all}
-use Rattle·translate·proofs.proofs.Rules.{closed}
+use lib.Dec.{T, eqb, eqb→eq, eqb-suc-suc}
+use Rattle.sets.specs.Lists.{every, for_some}
+use Rattle.sets.proofs.Lists.{and_left, and_right, and_both}
+use Rattle.cases.specs.Formula.{Formula, False, True, And, Or, Box, Diamond, Variable, Fix}
+use Rattle.cases.proofs.Scopes.{scoped}
+use Rattle.cases.proofs.TableTrees.{holds}
+use Rattle.translate.specs.Whole.{raise, binds_first, whole, binder_nodes}
+use Rattle.translate.proofs.AllLaws.{all_first, all_second, among_all}
+use Rattle.translate.proofs.Rules.{closed}
 
 -- whether a number is in a list
 abbrev among : List ℕ → ℕ → Bool
@@ -56,16 +56,16 @@ among_raise : (i : ℕ) (around : List ℕ) → among (map (λ j. j + 1) around)
 unfolding for_some
 among_raise i [] = refl
 among_raise i (j ∷ around) =
-    let one : eqb (i + 1) (j + 1) ≡ eqb i j = rw (add-one i, add-one j) (eqb·suc-suc i j) in
-    ap₂ _||_ one (among_raise i around)
+    let one : eqb (i + 1) (j + 1) ≡ eqb i j = rw (add-one i, add-one j) (eqb-suc-suc i j) in
+    ap₂ ◌||◌ one (among_raise i around)
 
 -- and scopes
 scoped_raise : (a : Formula) (around : List ℕ) → scoped (map (λ j. j + 1) around) (raise a) ≡ scoped around a
 unfolding scoped raise
 scoped_raise False around = refl
 scoped_raise True around = refl
-scoped_raise (And a b) around = ap₂ _&&_ (scoped_raise a around) (scoped_raise b around)
-scoped_raise (Or a b) around = ap₂ _&&_ (scoped_raise a around) (scoped_raise b around)
+scoped_raise (And a b) around = ap₂ ◌&&◌ (scoped_raise a around) (scoped_raise b around)
+scoped_raise (Or a b) around = ap₂ ◌&&◌ (scoped_raise a around) (scoped_raise b around)
 scoped_raise (Box α a) around = scoped_raise a around
 scoped_raise (Diamond α a) around = scoped_raise a around
 scoped_raise (Variable i) around = among_raise i around

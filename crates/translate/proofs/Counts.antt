@@ -1,22 +1,22 @@
 -- How many blocks, cells and operands the equations of a case have.
-use mathlib.Core.Path.{_≡_, refl, ap}
-use mathlib.Core.Bool.{Bool, true, false, cond, _&&_}
-use mathlib.Core.List.{List, [], _∷_, _++_, map, append-assoc}
-use Prim.Native.Nat.{ℕ, zero, suc, _+_, _*_, _≤_, _<_}
+use mathlib.Core.Path.{◌≡◌, refl, ap}
+use mathlib.Core.Bool.{Bool, true, false, cond, ◌&&◌}
+use mathlib.Core.List.{List, [], ◌∷◌, ◌++◌, map, append_assoc}
+use Prim.Native.Nat.{ℕ, zero, suc, ◌+◌, ◌*◌, ◌≤◌, ◌<◌}
 use native.Mathlib.Omega.{arith}
 use lib.Dec.{eqb}
 use lib.ListN.{length, length-append, length-map}
-use borrow.Author.Tests.{eqb-true, ne-eqb}
-use Rattle·sets.specs.Lists.{numbers_from, keep}
-use Rattle·solver.specs.Cells.{Cell, operands_of}
-use Rattle·cases.specs.File.{transition_limit}
-use Rattle·cases.specs.Action.{Action, accepts}
-use Rattle·cases.specs.Formula.{Formula, False, True, And, Or, Box, Diamond, Variable, Fix, nodes}
-use Rattle·cases.specs.declared.Transition.{Transition}
-use Rattle·cases.specs.Meaning.{from}
-use Rattle·translate·specs.specs.Whole.{raise, binds_first, whole, binder_nodes}
-use Rattle·translate·specs.specs.Cells.{targets, cell_of, cells_from, blocks_from}
-use Rattle·translate·specs.specs.Bytes.{all_operands}
+use borrow.Author.Tests.{eqb-true, ne_eqb}
+use Rattle.sets.specs.Lists.{numbers_from, keep}
+use Rattle.solver.specs.Cells.{Cell, operands_of}
+use Rattle.cases.specs.File.{transition_limit}
+use Rattle.cases.specs.Action.{Action, accepts}
+use Rattle.cases.specs.Formula.{Formula, False, True, And, Or, Box, Diamond, Variable, Fix, nodes}
+use Rattle.cases.specs.declared.Transition.{Transition}
+use Rattle.cases.specs.Meaning.{from}
+use Rattle.translate.specs.Whole.{raise, binds_first, whole, binder_nodes}
+use Rattle.translate.specs.Cells.{targets, cell_of, cells_from, blocks_from}
+use Rattle.translate.specs.Bytes.{all_operands}
 
 -- raising node numbers changes no node count
 pub nodes_raise : (a : Formula) → nodes (raise a) ≡ nodes a
@@ -79,7 +79,7 @@ length_blocks n (Fix sign j a) i = ap suc (length_blocks n a (i + 1))
 pub operands_append : (xs ys : List Cell) → all_operands (xs ++ ys) ≡ all_operands xs ++ all_operands ys
 unfolding all_operands
 operands_append [] ys = refl
-operands_append (x ∷ xs) ys = rw (operands_append xs ys, append-assoc)
+operands_append (x ∷ xs) ys = rw (operands_append xs ys, append_assoc)
 
 -- the sum of f over the k numbers from i on
 unfoldable total : (ℕ → ℕ) → ℕ → ℕ → ℕ
@@ -131,7 +131,7 @@ hit_one x b s = go (eqb x s && b)
 hits_none : (x : ℕ) (b : Bool) (i k : ℕ) → x < i → total (hit x b) i k ≡ 0
 unfolding total
 hits_none x b i zero h = refl
-hits_none x b i (suc k) h = rw (ne-eqb x i (λ e. omega arith)) (omega (arith, hits_none x b (suc i) k (omega arith)))
+hits_none x b i (suc k) h = rw (ne_eqb x i (λ e. omega arith)) (omega (arith, hits_none x b (suc i) k (omega arith)))
 
 -- at most one hit
 hits_one : (x : ℕ) (b : Bool) (i k : ℕ) → total (hit x b) i k ≤ 1
@@ -148,7 +148,7 @@ module _ (α : Action) where
   abbrev leaving : List Transition → ℕ → ℕ
   leaving ts s = length (keep (from s α) ts)
 
-  leaving_cons : (t : Transition) (ts : List Transition) (s : ℕ) → leaving (t ∷ ts) s ≡ hit (t .source) (accepts α (t .label)) s + leaving ts s
+  leaving_cons : (t : Transition) (ts : List Transition) (s : ℕ) → leaving (t ∷ ts) s ≡ hit t.source (accepts α t.label) s + leaving ts s
   unfolding keep
   leaving_cons t ts s = go (from s α t)
     where
@@ -161,8 +161,8 @@ module _ (α : Action) where
   unfolding keep
   leaving_all [] i k = omega (arith, total_zero i k)
   leaving_all (t ∷ ts) i k =
-      let each = total_add (leaving (t ∷ ts)) (hit (t .source) (accepts α (t .label))) (leaving ts) (leaving_cons t ts) i k in
-      omega (arith, each, hits_one (t .source) (accepts α (t .label)) i k, leaving_all ts i k)
+      let each = total_add (leaving (t ∷ ts)) (hit t.source (accepts α t.label)) (leaving ts) (leaving_cons t ts) i k in
+      omega (arith, each, hits_one t.source (accepts α t.label) i k, leaving_all ts i k)
 
 module _ (n : ℕ) (ts : List Transition) (block : ℕ → ℕ) where
   -- the cells of one node

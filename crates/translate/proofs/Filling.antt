@@ -1,26 +1,26 @@
 -- The parts of an equation file, written one behind another.
-use mathlib.Core.Path.{_≡_, refl, sym, ap, _∙_, subst}
+use mathlib.Core.Path.{◌≡◌, refl, sym, ap, ◌∙◌, subst}
 use mathlib.Core.Bool.{true, false}
-use mathlib.Core.List.{List, [], _∷_, _++_, append-assoc}
-use Prim.Native.Nat.{ℕ, _+_, _-_, _*_, _≤_, _<_}
+use mathlib.Core.List.{List, [], ◌∷◌, ◌++◌, append_assoc}
+use Prim.Native.Nat.{ℕ, ◌+◌, ◌-◌, ◌*◌, ◌≤◌, ◌<◌}
 use native.Mathlib.Omega.{arith}
 use native.Mathlib.Nat.{mul-le-mul}
 use lib.Dec.{ltb}
 use lib.ListN.{length, take, drop, length-append}
 use borrow.Author.Tests.{lt-ltb, le-ltb}
-use Rattle·cases.specs.declared.Transition.{Transition}
-use Rattle·translate·specs.specs.declared.Shape.{Shape}
-use Rattle·translate·specs.specs.declared.Cause.the-variants.{Memory}
-use Rattle·translate·specs.specs.declared.Written.the-variants.{File, Refused}
-use Rattle·translate·specs.specs.Bytes.{System, all_operands, block_numbers, cell_numbers, numbers, bytes}
-use Rattle·translate·specs.specs.internal.Shapes.{shape_blocks, shape_cells}
-use Rattle·translate·specs.specs.internal.Parts.{Wrote, WroteAt, WroteAll, WroteCells, distinct_in}
-use Rattle·solver.specs.File.{cell_limit, blocks_at}
-use Rattle·translate·specs.specs.internal.Sources.{Sources, RoomFor, shape_system, Emitted}
-use Rattle·translate·proofs.proofs.NumberBytes.{length_bytes, length_block_numbers, length_cell_numbers}
-use Rattle·translate·proofs.proofs.Putting.{wrote_lent, wrote_more}
-use Rattle·translate·proofs.proofs.ReadBack.{length_file}
-use Rattle·translate·proofs.proofs.NodeParts.{length_cells_to}
+use Rattle.cases.specs.declared.Transition.{Transition}
+use Rattle.translate.specs.declared.Shape.{Shape}
+use Rattle.translate.specs.declared.Cause.TheVariants.{Memory}
+use Rattle.translate.specs.declared.Written.TheVariants.{File, Refused}
+use Rattle.translate.specs.Bytes.{System, all_operands, block_numbers, cell_numbers, numbers, bytes}
+use Rattle.translate.specs.internal.Shapes.{shape_blocks, shape_cells}
+use Rattle.translate.specs.internal.Parts.{Wrote, WroteAt, WroteAll, WroteCells, distinct_in}
+use Rattle.solver.specs.File.{cell_limit, blocks_at}
+use Rattle.translate.specs.internal.Sources.{Sources, RoomFor, shape_system, Emitted}
+use Rattle.translate.proofs.NumberBytes.{length_bytes, length_block_numbers, length_cell_numbers}
+use Rattle.translate.proofs.Putting.{wrote_lent, wrote_more}
+use Rattle.translate.proofs.ReadBack.{length_file}
+use Rattle.translate.proofs.NodeParts.{length_cells_to}
 
 -- the header of a file of some equations
 abbrev header : ℕ → ℕ → ℕ → ℕ → ℕ → List ℕ
@@ -28,25 +28,25 @@ header n d c p initial = 1 ∷ n ∷ d ∷ c ∷ p ∷ initial ∷ blocks_at ∷
 
 -- header, blocks, cells and operands, each written into the part that starts where the one before ends
 module _ (y : System) {c d p room : ℕ} (sized : RoomFor y c d p room) where
-  pub filled : {s t u v w : List ℕ} → Wrote (header (y .states) d c p (y .initial)) s t → WroteAt blocks_at (block_numbers (y .blocks)) t u
-      → WroteAt (blocks_at + 8 * d) (cell_numbers 0 (y .cells)) u v → WroteAt (blocks_at + 8 * d + 12 * c) (all_operands (y .cells)) v w → Wrote (numbers y) s w
+  pub filled : {s t u v w : List ℕ} → Wrote (header y.states d c p y.initial) s t → WroteAt blocks_at (block_numbers y.blocks) t u
+      → WroteAt (blocks_at + 8 * d) (cell_numbers 0 y.cells) u v → WroteAt (blocks_at + 8 * d + 12 * c) (all_operands y.cells) v w → Wrote (numbers y) s w
   unfolding numbers
   filled {s} {t} {u} {v} {w} a b e f =
-      let h : List ℕ = header (y .states) d c p (y .initial) in
-      let x : List ℕ = block_numbers (y .blocks) in
-      let z : List ℕ = cell_numbers 0 (y .cells) in
-      let lx : length x ≡ 2 * d = length_block_numbers (y .blocks) ∙ ap (λ (k : ℕ). 2 * k) (sym (sized .blocks)) in
-      let lz : length z ≡ 3 * c = length_cell_numbers 0 (y .cells) ∙ ap (λ (k : ℕ). 3 * k) (sym (sized .cells)) in
+      let h : List ℕ = header y.states d c p y.initial in
+      let x : List ℕ = block_numbers y.blocks in
+      let z : List ℕ = cell_numbers 0 y.cells in
+      let lx : length x ≡ 2 * d = length_block_numbers y.blocks ∙ ap (λ (k : ℕ). 2 * k) (sym sized.blocks) in
+      let lz : length z ≡ 3 * c = length_cell_numbers 0 y.cells ∙ ap (λ (k : ℕ). 3 * k) (sym sized.cells) in
       let two : Wrote (h ++ x) s u = wrote_more refl a b in
       let three : Wrote ((h ++ x) ++ z) s v = wrote_more (omega (arith, length-append h x, lx)) two e in
-      let four : Wrote (((h ++ x) ++ z) ++ all_operands (y .cells)) s w = wrote_more (omega (arith, length-append (h ++ x) z, length-append h x, lx, lz)) three f in
-      let o : List ℕ = all_operands (y .cells) in
-      rw (sym (sized .blocks), sym (sized .cells), sym (sized .operands))
-      (subst (λ (l : List ℕ). Wrote l s w) (append-assoc (h ++ x) z o ∙ append-assoc h x (z ++ o)) four)
+      let four : Wrote (((h ++ x) ++ z) ++ all_operands y.cells) s w = wrote_more (omega (arith, length-append (h ++ x) z, length-append h x, lx, lz)) three f in
+      let o : List ℕ = all_operands y.cells in
+      rw (sym sized.blocks, sym sized.cells, sym sized.operands)
+      (subst (λ (l : List ℕ). Wrote l s w) (append_assoc (h ++ x) z o ∙ append_assoc h x (z ++ o)) four)
 
   -- the file's length
   pub file_length : length (bytes (numbers y)) ≡ blocks_at + 8 * d + 12 * c + 4 * p
-  file_length = rw (sized .blocks, sized .cells, sized .operands) (length_file y)
+  file_length = rw (sized.blocks, sized.cells, sized.operands) (length_file y)
 
   -- there is no room for the file, or it is written
   pub short : {s t : List ℕ} → length s < blocks_at + 8 * d + 12 * c + 4 * p → t ≡ s → Emitted y s (Refused Memory) t
@@ -57,7 +57,7 @@ module _ (y : System) {c d p room : ℕ} (sized : RoomFor y c d p room) where
   pub done : {s t : List ℕ} → blocks_at + 8 * d + 12 * c + 4 * p ≤ length s → Wrote (numbers y) s t → Emitted y s (File (blocks_at + 8 * d + 12 * c + 4 * p)) t
   done {s} {t} h w =
       let yes : ltb (length s) (length (bytes (numbers y))) ≡ false = le-ltb (length s) (length (bytes (numbers y))) (rw file_length h) in
-      record { answer = rw (yes, file_length); written = w .exact ∙ rw (yes, length_bytes (numbers y)) }
+      record { answer = rw (yes, file_length); written = w.exact ∙ rw (yes, length_bytes (numbers y)) }
 
 -- the sizes of what nodes with shapes give
 module _ {part first : List ℕ} {m : ℕ} {shapes : List Shape} {k n : ℕ} (src : Sources part first m shapes k n) where
@@ -66,7 +66,7 @@ module _ {part first : List ℕ} {m : ℕ} {shapes : List Shape} {k n : ℕ} (sr
 
   -- so many cells fit
   pub cells_few : k * n ≤ cell_limit
-  cells_few = mul-le-mul (src .few_nodes) (src .few_states)
+  cells_few = mul-le-mul src.few_nodes src.few_states
 
   -- counted sizes are those of the equations
   pub sizes : (initial : ℕ) {d p room : ℕ} → d ≡ length (shape_blocks n 0 (take k shapes)) → d ≤ k → p ≡ length (all_operands (shape_cells n ts 0 (take k shapes)))
@@ -74,9 +74,9 @@ module _ {part first : List ℕ} {m : ℕ} {shapes : List Shape} {k n : ℕ} (sr
   unfolding shape_system
   sizes initial b l o r = record {
     blocks = b;
-    cells = sym (length_cells_to n ts shapes k (src .held));
+    cells = sym (length_cells_to n ts shapes k src.held);
     operands = o;
-    few_blocks = omega (arith, l, src .few_nodes);
+    few_blocks = omega (arith, l, src.few_nodes);
     roomy = r;
   }
 
@@ -88,11 +88,11 @@ module _ {part first : List ℕ} {m : ℕ} {shapes : List Shape} {k n : ℕ} (sr
   module _ (initial : ℕ) {d p room : ℕ} (sized : RoomFor (shape_system n initial ts (take k shapes)) (k * n) d p room) where
     pub blocks_are : d ≡ length (shape_blocks n 0 (take k shapes))
     unfolding shape_system
-    blocks_are = sized .blocks
+    blocks_are = sized.blocks
 
     pub operands_are : p ≡ length (all_operands (shape_cells n ts 0 (take k shapes)))
     unfolding shape_system
-    operands_are = sized .operands
+    operands_are = sized.operands
 
     -- the parts of the file, written into the parts of a buffer
     pub filled_parts : {s t a b e : List ℕ} → Wrote (header n d (k * n) p initial) s t
@@ -105,5 +105,5 @@ module _ {part first : List ℕ} {m : ℕ} {shapes : List Shape} {k n : ℕ} (sr
         (take (blocks_at + 8 * d + 12 * (k * n)) v ++ (e ++ drop (length v - (blocks_at + 8 * d + 12 * (k * n))) (drop (blocks_at + 8 * d + 12 * (k * n)) v)))
     unfolding shape_system
     filled_parts {t = t} h w {u} x y {v} z o =
-        filled (shape_system n initial ts (take k shapes)) sized h (subst (WroteAt blocks_at _ t) (sym x) (wrote_lent blocks_at (w .wrote)))
-        (subst (WroteAt (blocks_at + 8 * d) _ u) (sym z) (wrote_lent (blocks_at + 8 * d) (y .wrote))) (wrote_lent (blocks_at + 8 * d + 12 * (k * n)) (o .wrote))
+        filled (shape_system n initial ts (take k shapes)) sized h (subst (WroteAt blocks_at _ t) (sym x) (wrote_lent blocks_at w.wrote))
+        (subst (WroteAt (blocks_at + 8 * d) _ u) (sym z) (wrote_lent (blocks_at + 8 * d) y.wrote)) (wrote_lent (blocks_at + 8 * d + 12 * (k * n)) o.wrote)

@@ -1,21 +1,21 @@
 -- The cells of one node more.
-use mathlib.Core.Path.{_≡_, refl, ap, _∙_}
-use mathlib.Core.List.{List, [], _∷_, _++_, map, append-assoc, append-nil}
-use Prim.Native.Nat.{ℕ, _+_, _-_, _*_, _≤_, _<_}
+use mathlib.Core.Path.{◌≡◌, refl, ap, ◌∙◌}
+use mathlib.Core.List.{List, [], ◌∷◌, ◌++◌, map, append_assoc, append-nil}
+use Prim.Native.Nat.{ℕ, ◌+◌, ◌-◌, ◌*◌, ◌≤◌, ◌<◌}
 use native.Mathlib.Numerals.{add-one}
 use native.Mathlib.Omega.{arith}
 use lib.ListN.{length, take, drop, length-append}
 use lib.Seq.{take-suc, take-add, length-take-le}
-use Rattle·sets.specs.Lists.{numbers_from}
-use Rattle·sets.proofs.Lists.{length_table}
-use Rattle·solver.specs.Cells.{Cell}
-use Rattle·cases.specs.declared.Transition.{Transition}
-use Rattle·translate·specs.specs.declared.Shape.{Shape}
-use Rattle·translate·specs.specs.Bytes.{all_operands}
-use Rattle·translate·specs.specs.internal.Writing.{shape_cell}
-use Rattle·translate·specs.specs.internal.Shapes.{shape_cells}
-use Rattle·translate·specs.specs.internal.Sources.{shape_at}
-use Rattle·translate·proofs.proofs.Counts.{operands_append}
+use Rattle.sets.specs.Lists.{numbers_from}
+use Rattle.sets.proofs.Lists.{length_table}
+use Rattle.solver.specs.Cells.{Cell}
+use Rattle.cases.specs.declared.Transition.{Transition}
+use Rattle.translate.specs.declared.Shape.{Shape}
+use Rattle.translate.specs.Bytes.{all_operands}
+use Rattle.translate.specs.internal.Writing.{shape_cell}
+use Rattle.translate.specs.internal.Shapes.{shape_cells}
+use Rattle.translate.specs.internal.Sources.{shape_at}
+use Rattle.translate.proofs.Counts.{operands_append}
 
 module _ (n : ℕ) (ts : List Transition) where
   -- the cells of two lists of shapes follow one another
@@ -24,7 +24,7 @@ module _ (n : ℕ) (ts : List Transition) where
   cells_append i [] ys = let e : i ≡ i + 0 = omega arith in ap (λ (j : ℕ). shape_cells n ts j ys) e
   cells_append i (x ∷ xs) ys =
       let e : i + 1 + length xs ≡ i + length (x ∷ xs) = omega arith in
-      rw (cells_append (i + 1) xs ys, e, append-assoc)
+      rw (cells_append (i + 1) xs ys, e, append_assoc)
 
   length_all : (xs : List Shape) (i : ℕ) → length (shape_cells n ts i xs) ≡ length xs * n
   unfolding shape_cells

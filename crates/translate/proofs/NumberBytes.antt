@@ -1,13 +1,13 @@
 -- How many numbers and bytes there are; numbers below 2 ^ 32 are read back from their bytes.
-use mathlib.Core.Path.{_≡_, refl, _∙_}
-use mathlib.Core.List.{List, [], _∷_, _++_}
-use Prim.Native.Nat.{ℕ, zero, suc, _+_, _*_, _/_, _%_, _<_}
+use mathlib.Core.Path.{◌≡◌, refl, ◌∙◌}
+use mathlib.Core.List.{List, [], ◌∷◌, ◌++◌}
+use Prim.Native.Nat.{ℕ, zero, suc, ◌+◌, ◌*◌, ◌/◌, ◌%◌, ◌<◌}
 use native.Mathlib.Omega.{arith}
-use native.Mathlib.Nat.{div-div-eq-div-mul, div-add-mod, mod-eq-of-lt}
-use lib.ListN.{length, getD}
-use Rattle·solver.specs.Cells.{Cell, And, Or, Variable}
-use Rattle·solver.specs.File.{Block, u32}
-use Rattle·translate·specs.specs.Bytes.{block_numbers, cell_numbers, bytes}
+use native.Mathlib.Nat.{div-div-eq-div-mul, div-add-mod, mod-eq_of_lt}
+use lib.ListN.{length, get_or}
+use Rattle.solver.specs.Cells.{Cell, And, Or, Variable}
+use Rattle.solver.specs.File.{Block, u32}
+use Rattle.translate.specs.Bytes.{block_numbers, cell_numbers, bytes}
 
 -- each number of a list is below 2 ^ 32
 pub data Fits : List ℕ → Type 0 where
@@ -44,7 +44,7 @@ digits x h =
     let low : x / 256 / 256 ≡ x / 65536 = div-div-eq-div-mul x 256 256 in
     let high : x / 65536 / 256 ≡ x / 16777216 = div-div-eq-div-mul x 65536 256 in
     let small : x / 16777216 < 256 = omega arith in
-    let last : x / 16777216 % 256 ≡ x / 16777216 = mod-eq-of-lt small in
+    let last : x / 16777216 % 256 ≡ x / 16777216 = mod-eq_of_lt small in
     rw last (omega (arith, div-add-mod x 256, div-add-mod (x / 256) 256, div-add-mod (x / 65536) 256))
 
 -- the number at a place after the first is that of the rest
@@ -63,7 +63,7 @@ unfolding u32 bytes
 u32_first x xs h = digits x h
 
 -- number i, at byte 4 * i
-pub number_at : {xs : List ℕ} → Fits xs → (i : ℕ) → i < length xs → u32 (bytes xs) (4 * i) ≡ getD xs i 0
+pub number_at : {xs : List ℕ} → Fits xs → (i : ℕ) → i < length xs → u32 (bytes xs) (4 * i) ≡ get_or xs i 0
 number_at none i h = absurd (omega arith)
 number_at (more x {xs = xs} l f) zero h = u32_first x xs l
 number_at (more x {xs = xs} l f) (suc i) h =

@@ -1,30 +1,30 @@
 -- Laws of the cells of all nodes, row by row.
-use mathlib.Core.Path.{_≡_, refl}
-use mathlib.Core.List.{List, [], _++_}
-use Prim.Native.Nat.{ℕ, _+_, _-_, _*_, _≤_, _<_}
-use native.Mathlib.Nat.{add-mul, mul-le-mul-right}
+use mathlib.Core.Path.{◌≡◌, refl}
+use mathlib.Core.List.{List, [], ◌++◌}
+use Prim.Native.Nat.{ℕ, ◌+◌, ◌-◌, ◌*◌, ◌≤◌, ◌<◌}
+use native.Mathlib.Nat.{add-mul, mul-le-mul_right}
 use native.Mathlib.Omega.{arith}
 use lib.ListN.{length, take, drop}
-use Rattle·solver.specs.Cells.{Cell}
-use Rattle·cases.specs.declared.Transition.{Transition}
-use Rattle·translate·specs.specs.declared.Shape.{Shape}
-use Rattle·translate·specs.specs.Bytes.{all_operands, cell_numbers}
-use Rattle·translate·specs.specs.internal.Parts.{WroteAll, WroteCells, WroteCellsAt}
-use Rattle·translate·specs.specs.internal.Sources.{shape_at}
-use Rattle·translate·proofs.proofs.Putting.{wrote_none, wrote_no_numbers, wrote_lent}
-use Rattle·translate·proofs.proofs.ShapeLaws.{wrote_cells_on}
-use Rattle·translate·proofs.proofs.NodeParts.{row, cells_to, cells_none, cells_more, length_cells_to}
+use Rattle.solver.specs.Cells.{Cell}
+use Rattle.cases.specs.declared.Transition.{Transition}
+use Rattle.translate.specs.declared.Shape.{Shape}
+use Rattle.translate.specs.Bytes.{all_operands, cell_numbers}
+use Rattle.translate.specs.internal.Parts.{WroteAll, WroteCells, WroteCellsAt}
+use Rattle.translate.specs.internal.Sources.{shape_at}
+use Rattle.translate.proofs.Putting.{wrote_none, wrote_no_numbers, wrote_lent}
+use Rattle.translate.proofs.ShapeLaws.{wrote_cells_on}
+use Rattle.translate.proofs.NodeParts.{row, cells_to, cells_none, cells_more, length_cells_to}
 
 -- the row of node i ends within the rows of k nodes
 pub rows_fit : (i k n : ℕ) → i < k → i * n + n ≤ k * n
 rows_fit i k n h =
     let l : i + 1 ≤ k = omega arith in
-    omega (arith, mul-le-mul-right n l, add-mul i 1 n)
+    omega (arith, mul-le-mul_right n l, add-mul i 1 n)
 
 -- Cells that are written into the lent part from `at` on are written from `at` on.
 pub wrote_cells_lent : (at : ℕ) {used r : ℕ} {cs : List Cell} {s ys : List ℕ} → WroteCells used cs (take (length s - at) (drop at s)) ys r
     → WroteCellsAt at used cs s (take at s ++ (ys ++ drop (length s - at) (drop at s))) r
-wrote_cells_lent at w = record { wrote = wrote_lent at (w .wrote); count = w .count }
+wrote_cells_lent at w = record { wrote = wrote_lent at w.wrote; count = w.count }
 
 -- no cell is written
 wrote_empty : (s : List ℕ) → WroteCells 0 [] s s 0

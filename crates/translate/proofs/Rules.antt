@@ -1,26 +1,26 @@
 -- The equations of a formula keep the rules of an equation file: operands are cells further on, variables have a block and a state.
-use mathlib.Core.Path.{_≡_, subst}
-use mathlib.Core.Bool.{Bool, true, false, cond, _&&_, _||_}
-use mathlib.Core.List.{List, [], _∷_, _++_, map}
-use Prim.Native.Nat.{ℕ, zero, suc, _+_, _*_, _≤_, _<_}
+use mathlib.Core.Path.{◌≡◌, subst}
+use mathlib.Core.Bool.{Bool, true, false, cond, ◌&&◌, ◌||◌}
+use mathlib.Core.List.{List, [], ◌∷◌, ◌++◌, map}
+use Prim.Native.Nat.{ℕ, zero, suc, ◌+◌, ◌*◌, ◌≤◌, ◌<◌}
 use native.Mathlib.Omega.{arith}
-use native.Mathlib.Nat.{add-mul, mul-le-mul-right}
-use lib.Arith.{digits-lt}
+use native.Mathlib.Nat.{add-mul, mul-le-mul_right}
+use lib.Arith.{digits_lt}
 use lib.Dec.{T, eqb, ltb, leb, lt→ltb, ltb→lt, le→leb}
 use lib.ListN.{length}
-use Rattle·sets.specs.Lists.{numbers_from, every, for_some}
-use Rattle·sets.proofs.Lists.{and_left, and_right, and_both, length_map_range}
-use Rattle·solver.specs.Cells.{Cell}
-use Rattle·solver.specs.File.{Block}
-use Rattle·cases.specs.Action.{Action}
-use Rattle·cases.specs.Formula.{Formula, False, True, And, Or, Box, Diamond, Variable, Fix, nodes}
-use Rattle·cases.specs.declared.Transition.{Transition}
-use Rattle·cases.specs.Meaning.{from}
-use Rattle·translate·specs.specs.Whole.{binder_nodes, index_in}
-use Rattle·translate·specs.specs.Cells.{targets, cell_of, cells_from, blocks_from}
-use Rattle·translate·proofs.proofs.AllLaws.{all_append, all_first, all_second, all_kept_map}
-use Rattle·translate·proofs.proofs.Counts.{row, nodes_low}
-use Rattle·translate·proofs.proofs.Unfold.{cells_long}
+use Rattle.sets.specs.Lists.{numbers_from, every, for_some}
+use Rattle.sets.proofs.Lists.{and_left, and_right, and_both, length_map_range}
+use Rattle.solver.specs.Cells.{Cell}
+use Rattle.solver.specs.File.{Block}
+use Rattle.cases.specs.Action.{Action}
+use Rattle.cases.specs.Formula.{Formula, False, True, And, Or, Box, Diamond, Variable, Fix, nodes}
+use Rattle.cases.specs.declared.Transition.{Transition}
+use Rattle.cases.specs.Meaning.{from}
+use Rattle.translate.specs.Whole.{binder_nodes, index_in}
+use Rattle.translate.specs.Cells.{targets, cell_of, cells_from, blocks_from}
+use Rattle.translate.proofs.AllLaws.{all_append, all_first, all_second, all_kept_map}
+use Rattle.translate.proofs.Counts.{row, nodes_low}
+use Rattle.translate.proofs.Unfold.{cells_long}
 
 -- whether each variable of a formula has its number among those of a list
 unfoldable pub closed : List ℕ → Formula → Bool
@@ -92,12 +92,12 @@ row_after i k n = omega (arith, add-mul (i + 1) k n, row_next i n)
 
 -- n states, m nodes, d blocks, the transitions ts; the binders' numbers are js
 module _ (n m d : ℕ) (ts : List Transition) (block : ℕ → ℕ) (js : List ℕ)
-    (ends : T (every (λ t. ltb (t .target) n) ts)) (bound : (j : ℕ) → T (for_some (eqb j) js) → block j < d) where
+    (ends : T (every (λ t. ltb t.target n) ts)) (bound : (j : ℕ) → T (for_some (eqb j) js) → block j < d) where
   -- a cell of a later node
   later : (i j s t : ℕ) → i < j → j < m → s < n → t < n → T (ltb (i * n + s) (j * n + t) && ltb (j * n + t) (m * n))
   later i j s t h g a b =
-      let up : i * n + s < j * n + t = omega (arith, digits-lt {q = i} {m = j} {r = s} {c = n} h a) in
-      and_both (ltb (i * n + s) (j * n + t)) (ltb (j * n + t) (m * n)) (lt→ltb (i * n + s) (j * n + t) up) (lt→ltb (j * n + t) (m * n) (digits-lt g b))
+      let up : i * n + s < j * n + t = omega (arith, digits_lt {q = i} {m = j} {r = s} {c = n} h a) in
+      and_both (ltb (i * n + s) (j * n + t)) (ltb (j * n + t) (m * n)) (lt→ltb (i * n + s) (j * n + t) up) (lt→ltb (j * n + t) (m * n) (digits_lt g b))
 
   -- the cells of two later nodes
   two_later : (i j k s : ℕ) → i < j → j < m → i < k → k < m → s < n
@@ -111,8 +111,8 @@ module _ (n m d : ℕ) (ts : List Transition) (block : ℕ → ℕ) (js : List �
   targets_later : (i j s : ℕ) (α : Action) → i < j → j < m → s < n → T (every (λ o. ltb (i * n + s) o && ltb o (m * n)) (targets n ts block j α s))
   unfolding targets
   targets_later i j s α h g l =
-      all_kept_map (λ t. ltb (t .target) n) (from s α) (λ t. j * n + t .target) (λ o. ltb (i * n + s) o && ltb o (m * n))
-      (λ t b. later i j s (t .target) h g l (ltb→lt (t .target) n b)) ts ends
+      all_kept_map (λ t. ltb t.target n) (from s α) (λ t. j * n + t.target) (λ o. ltb (i * n + s) o && ltb o (m * n))
+      (λ t b. later i j s t.target h g l (ltb→lt t.target n b)) ts ends
 
   -- a block and a state
   variable_rule : (j s : ℕ) → T (for_some (eqb j) js) → s < n → T (ltb (block j) d && ltb s n)
@@ -178,7 +178,7 @@ module _ (n m d : ℕ) (ts : List Transition) (block : ℕ → ℕ) (js : List �
 
 -- whether a block has a cell for each state
 abbrev pub roomy : ℕ → ℕ → Block → Bool
-roomy n c b = leb (b .first + n) c
+roomy n c b = leb (b.first + n) c
 
 -- each block does
 pub blocks_roomy : (n m : ℕ) (a : Formula) (i : ℕ) → i + nodes a ≤ m → T (every (roomy n (m * n)) (blocks_from n a i))
@@ -196,5 +196,5 @@ blocks_roomy n m (Diamond α a) i h = blocks_roomy n m a (i + 1) (omega arith)
 blocks_roomy n m (Variable j) i h = tt
 blocks_roomy n m (Fix sign j a) i h =
     let more : i + 1 + 1 ≤ m = omega (arith, nodes_low a) in
-    let up : (i + 1) * n + n ≤ m * n = omega (arith, row_next (i + 1) n, mul-le-mul-right n more) in
+    let up : (i + 1) * n + n ≤ m * n = omega (arith, row_next (i + 1) n, mul-le-mul_right n more) in
     and_both (leb ((i + 1) * n + n) (m * n)) _ (le→leb _ _ up) (blocks_roomy n m a (i + 1) (omega arith))

@@ -1,30 +1,30 @@
 -- The fields of a shape as they are read from the tables, and the shapes of all nodes one after another.
-use mathlib.Core.Path.{_≡_, refl, sym, ap, _∙_}
-use mathlib.Core.Bool.{Bool, true, false, cond, _||_}
-use mathlib.Core.List.{List, [], _∷_, _++_, map, append-assoc}
-use Prim.Native.Nat.{ℕ, zero, suc, _+_, _<_, _≤_}
+use mathlib.Core.Path.{◌≡◌, refl, sym, ap, ◌∙◌}
+use mathlib.Core.Bool.{Bool, true, false, cond, ◌||◌}
+use mathlib.Core.List.{List, [], ◌∷◌, ◌++◌, map, append_assoc}
+use Prim.Native.Nat.{ℕ, zero, suc, ◌+◌, ◌<◌, ◌≤◌}
 use native.Mathlib.Omega.{arith}
-use borrow.Author.Tests.{eq-eqb, ne-eqb}
+use borrow.Author.Tests.{eq-eqb, ne_eqb}
 use lib.Dec.{eqb}
 use lib.ListN.{length, take, drop, set, replicate, length-append, length-replicate, length-set, length-map, length-drop}
 use lib.Seq.{take-suc-set}
-use Rattle·sets.specs.Lists.{numbers_from}
-use Rattle·sets.proofs.Lists.{length_table}
-use Rattle·cases.specs.Action.{Action}
-use Rattle·cases.specs.declared.Node.{Node}
-use Rattle·cases.specs.Prefix.{arity_in, formula_arities, end_of}
-use Rattle·cases.specs.File.{node_in, node_limit}
-use Rattle·cases.specs.internal.Masks.{mask_of}
-use Rattle·cases.specs.Conditions.{node_at, is_binder, binder_count}
-use Rattle·cases.specs.internal.Checks.{nodes_in}
-use Rattle·cases.proofs.FormulaRules.{length_nodes}
-use Rattle·cases.proofs.Copies.{take_map_range}
-use Rattle·cases.proofs.Spans.{span_length}
-use Rattle·cases.proofs.PrefixRules.{node_in_lem}
-use Rattle·translate·specs.specs.declared.Shape.{Shape}
-use Rattle·translate·specs.specs.internal.Shapes.{shape_in, table_shapes}
-use Rattle·translate·specs.specs.internal.Tabled.{CountableBlocks, Tables}
-use Rattle·translate·proofs.proofs.ShapeLaws.{map_range_more}
+use Rattle.sets.specs.Lists.{numbers_from}
+use Rattle.sets.proofs.Lists.{length_table}
+use Rattle.cases.specs.Action.{Action}
+use Rattle.cases.specs.declared.Node.{Node}
+use Rattle.cases.specs.Prefix.{arity_in, formula_arities, end_of}
+use Rattle.cases.specs.File.{node_in, node_limit}
+use Rattle.cases.specs.internal.Masks.{mask_of}
+use Rattle.cases.specs.Conditions.{node_at, is_binder, binder_count}
+use Rattle.cases.specs.internal.Checks.{nodes_in}
+use Rattle.cases.proofs.FormulaRules.{length_nodes}
+use Rattle.cases.proofs.Copies.{take_map_range}
+use Rattle.cases.proofs.Spans.{span_length}
+use Rattle.cases.proofs.PrefixRules.{node_in_lem}
+use Rattle.translate.specs.declared.Shape.{Shape}
+use Rattle.translate.specs.internal.Shapes.{shape_in, table_shapes}
+use Rattle.translate.specs.internal.Tabled.{CountableBlocks, Tables}
+use Rattle.translate.proofs.ShapeLaws.{map_range_more}
 
 -- the first j nodes of a part's f nodes
 take_nodes : (part : List ℕ) (j f : ℕ) → j ≤ f → take j (nodes_in part f) ≡ nodes_in part j
@@ -43,69 +43,69 @@ module _ (part : List ℕ) (f i : ℕ) (h : i < f) (x : Node) (e : x ≡ node_in
   node_read = node_in_lem part f i (record { kind = 0; arg = 0 }) h ∙ sym e
 
   -- a variable's argument, and that of a box or diamond
-  pub variable_arg : CountableBlocks part f → x .kind ≡ 6 → x .arg ≤ f
-  variable_arg t = rw node_read at (t .variable i h)
+  pub variable_arg : CountableBlocks part f → x.kind ≡ 6 → x.arg ≤ f
+  variable_arg t = rw node_read at (t.variable i h)
 
-  pub modal_arg : (masks : List ℕ) (a : ℕ) → Tables masks a part f → (b : Bool) → b ≡ (eqb (x .kind) 4 || eqb (x .kind) 5) → b ≡ true → x .arg < a
-  modal_arg masks a t b p q = (rw node_read at (t .modal i h)) (sym p ∙ q)
+  pub modal_arg : (masks : List ℕ) (a : ℕ) → Tables masks a part f → (b : Bool) → b ≡ (eqb x.kind 4 || eqb x.kind 5) → b ≡ true → x.arg < a
+  modal_arg masks a t b p q = (rw node_read at (t.modal i h)) (sym p ∙ q)
 
   module _ (action : ℕ → Action) (added : ℕ) where
     abbrev here : Shape
     here = shape_in action (nodes_in part f) added i
 
-    pub kind_read : x .kind ≡ here .kind
+    pub kind_read : x.kind ≡ here.kind
     unfolding shape_in
     kind_read = rw node_read
 
     -- and, or; any other kind
-    pub second_there : (b : Bool) → b ≡ (eqb (x .kind) 2 || eqb (x .kind) 3) → b ≡ true
-        → (r : ℕ) → r ≡ end_of (map (arity_in formula_arities) (nodes_in part f)) (i + 1) → r + added ≡ here .second
+    pub second_there : (b : Bool) → b ≡ (eqb x.kind 2 || eqb x.kind 3) → b ≡ true
+        → (r : ℕ) → r ≡ end_of (map (arity_in formula_arities) (nodes_in part f)) (i + 1) → r + added ≡ here.second
     unfolding shape_in
     second_there b p q r s =
-        let t : (eqb (x .kind) 2 || eqb (x .kind) 3) ≡ true = sym p ∙ q in
+        let t : (eqb x.kind 2 || eqb x.kind 3) ≡ true = sym p ∙ q in
         rw (node_read, t, s)
 
-    pub second_none : (b : Bool) → b ≡ (eqb (x .kind) 2 || eqb (x .kind) 3) → b ≡ false → 0 ≡ here .second
+    pub second_none : (b : Bool) → b ≡ (eqb x.kind 2 || eqb x.kind 3) → b ≡ false → 0 ≡ here.second
     unfolding shape_in
     second_none b p q =
-        let t : (eqb (x .kind) 2 || eqb (x .kind) 3) ≡ false = sym p ∙ q in
+        let t : (eqb x.kind 2 || eqb x.kind 3) ≡ false = sym p ∙ q in
         rw (node_read, t)
 
     -- a variable has the block of its binder
-    pub block_variable : x .kind ≡ 6 → x .arg ≤ f → (r : ℕ) → r ≡ binder_count (nodes_in part (x .arg)) → r + added ≡ here .block
+    pub block_variable : x.kind ≡ 6 → x.arg ≤ f → (r : ℕ) → r ≡ binder_count (nodes_in part x.arg) → r + added ≡ here.block
     unfolding shape_in
-    block_variable k l r s = rw (node_read, eq-eqb (x .kind) 6 k, take_nodes part (x .arg) f l, s)
+    block_variable k l r s = rw (node_read, eq-eqb x.kind 6 k, take_nodes part x.arg f l, s)
 
     -- a binder has its own; any other kind none
-    pub block_binder : (x .kind ≡ 6 → ⊥) → (b : Bool) → b ≡ is_binder x → b ≡ true → (r : ℕ) → r ≡ binder_count (nodes_in part i) → r + added ≡ here .block
+    pub block_binder : (x.kind ≡ 6 → ⊥) → (b : Bool) → b ≡ is_binder x → b ≡ true → (r : ℕ) → r ≡ binder_count (nodes_in part i) → r + added ≡ here.block
     unfolding shape_in
     block_binder k b p q r s =
         let t : is_binder x ≡ true = sym p ∙ q in
         let l : i ≤ f = omega arith in
-        rw (node_read, ne-eqb (x .kind) 6 k, t, take_nodes part i f l, s)
+        rw (node_read, ne_eqb x.kind 6 k, t, take_nodes part i f l, s)
 
-    pub block_none : (x .kind ≡ 6 → ⊥) → (b : Bool) → b ≡ is_binder x → b ≡ false → 0 ≡ here .block
+    pub block_none : (x.kind ≡ 6 → ⊥) → (b : Bool) → b ≡ is_binder x → b ≡ false → 0 ≡ here.block
     unfolding shape_in
     block_none k b p q =
         let t : is_binder x ≡ false = sym p ∙ q in
-        rw (node_read, ne-eqb (x .kind) 6 k, t)
+        rw (node_read, ne_eqb x.kind 6 k, t)
 
     -- box, diamond; any other kind
-    pub labels_there : (b : Bool) → b ≡ (eqb (x .kind) 4 || eqb (x .kind) 5) → b ≡ true
-        → (r : ℕ) → r ≡ mask_of (action (x .arg)) → r ≡ here .labels
+    pub labels_there : (b : Bool) → b ≡ (eqb x.kind 4 || eqb x.kind 5) → b ≡ true
+        → (r : ℕ) → r ≡ mask_of (action x.arg) → r ≡ here.labels
     unfolding shape_in
     labels_there b p q r s =
-        let t : (eqb (x .kind) 4 || eqb (x .kind) 5) ≡ true = sym p ∙ q in
+        let t : (eqb x.kind 4 || eqb x.kind 5) ≡ true = sym p ∙ q in
         rw (node_read, t) s
 
-    pub labels_none : (b : Bool) → b ≡ (eqb (x .kind) 4 || eqb (x .kind) 5) → b ≡ false → 0 ≡ here .labels
+    pub labels_none : (b : Bool) → b ≡ (eqb x.kind 4 || eqb x.kind 5) → b ≡ false → 0 ≡ here.labels
     unfolding shape_in
     labels_none b p q =
-        let t : (eqb (x .kind) 4 || eqb (x .kind) 5) ≡ false = sym p ∙ q in
+        let t : (eqb x.kind 4 || eqb x.kind 5) ≡ false = sym p ∙ q in
         rw (node_read, t)
 
 -- a shape by its fields
-pub by_fields : (k s b l : ℕ) (y : Shape) → k ≡ y .kind → s ≡ y .second → b ≡ y .block → l ≡ y .labels
+pub by_fields : (k s b l : ℕ) (y : Shape) → k ≡ y.kind → s ≡ y.second → b ≡ y.block → l ≡ y.labels
     → record { kind = k; second = s; block = b; labels = l } ≡ y
 by_fields k s b l y p q t u = rw (p, q, t, u)
 
@@ -113,7 +113,7 @@ by_fields k s b l y p q t u = rw (p, q, t, u)
 
 -- a nu is put before a root that is no binder
 pub root_added : (part : List ℕ) (f : ℕ) → 0 < f → (x : Node) → x ≡ node_in part 0 → (b : Bool) → b ≡ is_binder x
-    → _≡_ {A = ℕ} (cond b 0 1) (cond (is_binder (node_at (nodes_in part f) 0)) 0 1)
+    → ◌≡◌ {A = ℕ} (cond b 0 1) (cond (is_binder (node_at (nodes_in part f) 0)) 0 1)
 root_added part f h x e b p = rw (node_read part f 0 h x e) (ap (λ (t : Bool). cond {A = ℕ} t 0 1) p)
 
 -- the nu that is put before a root
@@ -159,16 +159,16 @@ module _ (action : ℕ → Action) (table : List Node) (added : ℕ) where
       → x ≡ shape_in action table added i → ShapesBefore (i + 1) (set shapes (added + i) x)
   unfolding shapes_to
   shapes_next i shapes x s h l e =
-      let inside : added + i < length shapes = omega (arith, s .long) in
+      let inside : added + i < length shapes = omega (arith, s.long) in
       let next : added + (i + 1) ≡ suc (added + i) = omega arith in
       record {
         within = omega arith;
-        long = length-set shapes (added + i) x ∙ s .long;
+        long = length-set shapes (added + i) x ∙ s.long;
         starts =
             ap (λ (k : ℕ). take k (set shapes (added + i) x)) next
             ∙ take-suc-set shapes (added + i) x inside
-            ∙ ap (λ (l : List Shape). l ++ (x ∷ [])) (s .starts)
-            ∙ append-assoc (replicate added nu) (map (shape_in action table added) (numbers_from 0 i)) (x ∷ [])
+            ∙ ap (λ (l : List Shape). l ++ (x ∷ [])) s.starts
+            ∙ append_assoc (replicate added nu) (map (shape_in action table added) (numbers_from 0 i)) (x ∷ [])
             ∙ ap (λ (y : Shape). replicate added nu ++ (map (shape_in action table added) (numbers_from 0 i) ++ (y ∷ []))) e
             ∙ ap (λ (l : List Shape). replicate added nu ++ l) (sym (map_range_more (shape_in action table added) i));
       }
@@ -177,4 +177,4 @@ module _ (action : ℕ → Action) (table : List Node) (added : ℕ) where
       → take (length (table_shapes action table)) shapes ≡ table_shapes action table
   shapes_done shapes i e a s =
       let made : shapes_to i ≡ table_shapes action table = rw e (all_shapes a) in
-      rw (← made, length_shapes i) (s .starts)
+      rw (← made, length_shapes i) s.starts

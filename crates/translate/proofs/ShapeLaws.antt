@@ -1,42 +1,42 @@
 -- The cell of a formula's shape is the formula's cell, where all labels have a bit in the mask.
-use mathlib.Core.Path.{_≡_, refl, sym, ap, _∙_}
-use mathlib.Core.Bool.{Bool, true, false, cond, _&&_, _||_}
-use mathlib.Core.List.{List, [], _∷_, _++_, map, map-append, append-assoc, append-nil}
-use Prim.Native.Nat.{ℕ, zero, suc, _+_, _-_, _*_, _/_, _%_, _^_, _<_, _≤_}
+use mathlib.Core.Path.{◌≡◌, refl, sym, ap, ◌∙◌}
+use mathlib.Core.Bool.{Bool, true, false, cond, ◌&&◌, ◌||◌}
+use mathlib.Core.List.{List, [], ◌∷◌, ◌++◌, map, map-append, append_assoc, append-nil}
+use Prim.Native.Nat.{ℕ, zero, suc, ◌+◌, ◌-◌, ◌*◌, ◌/◌, ◌%◌, ◌^◌, ◌<◌, ◌≤◌}
 use native.Mathlib.Nat.{add-zero, zero-add, zero-div}
 use native.Mathlib.Numerals.{add-one}
 use native.Mathlib.Omega.{arith}
-use borrow.Author.Tests.{eq-eqb, ne-eqb}
+use borrow.Author.Tests.{eq-eqb, ne_eqb}
 use lib.Dec.{T, eqb, ltb, ltb→lt}
-use lib.ListN.{length, take, getD, length-append, length-map, List·getD-eq-default}
-use lib.Seq.{take-all}
-use Rattle·sets.specs.Lists.{numbers_from, every, keep}
-use Rattle·sets.specs.States.{States}
-use Rattle·sets.specs.Words.{from_bits, words, marked, bit}
-use Rattle·sets.proofs.Lists.{and_left, and_right, length_table, table_at}
-use Rattle·sets.proofs.Words.{marked_words}
-use Rattle·solver.specs.Cells.{Cell, operands_of}
-use Rattle·cases.specs.Action.{Action, accepts}
-use Rattle·cases.specs.Formula.{Formula, False, True, And, Or, Box, Diamond, Variable, Fix}
-use Rattle·cases.specs.declared.Transition.{Transition}
-use Rattle·cases.specs.internal.Masks.{mask_of}
-use Rattle·cases.specs.Meaning.{from}
-use Rattle·cases.specs.File.{transition_in, label_limit}
-use Rattle·translate·specs.specs.Bytes.{all_operands, cell_numbers}
-use Rattle·translate·specs.specs.Cells.{targets, cell_of}
-use Rattle·translate·specs.specs.declared.Shape.{Shape}
-use Rattle·translate·specs.specs.internal.Writing.{shape_of, leaves, shape_operands, shape_kind, shape_cell}
-use Rattle·translate·proofs.proofs.NumberBytes.{length_cell_numbers}
-use Rattle·translate·proofs.proofs.Counts.{operands_append}
-use Rattle·translate·proofs.proofs.Putting.{wrote_none, wrote_no_more, wrote_more}
-use Rattle·translate·specs.specs.internal.Parts.{WroteAt, WroteMore, WroteCells, WroteCellsAt, flagged, distinct_in, leaves_at, leaving, target_cells, target_cell}
+use lib.ListN.{length, take, get_or, length-append, length-map, get_or-eq_default}
+use lib.Seq.{take_all}
+use Rattle.sets.specs.Lists.{numbers_from, every, keep}
+use Rattle.sets.specs.States.{States}
+use Rattle.sets.specs.Words.{from_bits, words, marked, bit}
+use Rattle.sets.proofs.Lists.{and_left, and_right, length_table, table_at}
+use Rattle.sets.proofs.Words.{marked_words}
+use Rattle.solver.specs.Cells.{Cell, operands_of}
+use Rattle.cases.specs.Action.{Action, accepts}
+use Rattle.cases.specs.Formula.{Formula, False, True, And, Or, Box, Diamond, Variable, Fix}
+use Rattle.cases.specs.declared.Transition.{Transition}
+use Rattle.cases.specs.internal.Masks.{mask_of}
+use Rattle.cases.specs.Meaning.{from}
+use Rattle.cases.specs.File.{transition_in, label_limit}
+use Rattle.translate.specs.Bytes.{all_operands, cell_numbers}
+use Rattle.translate.specs.Cells.{targets, cell_of}
+use Rattle.translate.specs.declared.Shape.{Shape}
+use Rattle.translate.specs.internal.Writing.{shape_of, leaves, shape_operands, shape_kind, shape_cell}
+use Rattle.translate.proofs.NumberBytes.{length_cell_numbers}
+use Rattle.translate.proofs.Counts.{operands_append}
+use Rattle.translate.proofs.Putting.{wrote_none, wrote_no_more, wrote_more}
+use Rattle.translate.specs.internal.Parts.{WroteAt, WroteMore, WroteCells, WroteCellsAt, flagged, distinct_in, leaves_at, leaving, target_cells, target_cell}
 
 -- bit x of an action formula's mask says whether label x is accepted
 pub mask_bit : (α : Action) (x : ℕ) → x < label_limit → marked (mask_of α ∷ []) x ≡ accepts α x
 unfolding words
 mask_bit α x h =
     let v : States = map (accepts α) (numbers_from 0 label_limit) in
-    let e : take label_limit v ≡ v = take-all label_limit v (omega (arith, length_table (accepts α) label_limit)) in
+    let e : take label_limit v ≡ v = take_all label_limit v (omega (arith, length_table (accepts α) label_limit)) in
     ap (λ (u : States). marked (from_bits u ∷ []) x) (sym e) ∙ marked_words 1 v x (omega arith) ∙ table_at (accepts α) label_limit x false h
 
 -- tests that agree on the elements of a list keep the same ones
@@ -46,12 +46,12 @@ keep_same u p q h [] t = refl
 keep_same u p q h (x ∷ xs) t = rw (h x (and_left (u x) (every u xs) t), keep_same u p q h xs (and_right (u x) (every u xs) t))
 
 -- n states, the distinct transitions and the block of each binder
-module _ (n : ℕ) (ts : List Transition) (low : T (every (λ t. ltb (t .label) label_limit) ts)) (block : ℕ → ℕ) where
+module _ (n : ℕ) (ts : List Transition) (low : T (every (λ t. ltb t.label label_limit) ts)) (block : ℕ → ℕ) where
   -- the transitions from s that a mask takes are those whose labels are accepted
   leaves_from : (α : Action) (s : ℕ) → keep (leaves s (mask_of α)) ts ≡ keep (from s α) ts
   leaves_from α s =
-      keep_same (λ t. ltb (t .label) label_limit) (leaves s (mask_of α)) (from s α)
-      (λ t l. ap (λ (b : Bool). eqb (t .source) s && b) (mask_bit α (t .label) (ltb→lt _ _ l))) ts low
+      keep_same (λ t. ltb t.label label_limit) (leaves s (mask_of α)) (from s α)
+      (λ t l. ap (λ (b : Bool). eqb t.source s && b) (mask_bit α t.label (ltb→lt _ _ l))) ts low
 
   pub shape_cell_lem : (a : Formula) (i s : ℕ) → shape_cell n ts (shape_of block a i) i s ≡ cell_of n ts block a i s
   unfolding shape_cell shape_of shape_kind shape_operands cell_of targets
@@ -79,7 +79,7 @@ mark_low labels x h =
 pub mark_high : (labels x : ℕ) → 64 ≤ x → marked (labels ∷ []) x ≡ false
 unfolding marked
 mark_high labels x h =
-    let q : getD (labels ∷ []) (x / 64) 0 ≡ 0 = List·getD-eq-default (labels ∷ []) 0 {n = x / 64} (omega arith) in
+    let q : get_or (labels ∷ []) (x / 64) 0 ≡ 0 = get_or-eq_default (labels ∷ []) 0 {n = x / 64} (omega arith) in
     rw (q, zero-div)
 
 -- ---- records and rows, one by one
@@ -120,7 +120,7 @@ grows f h j m l =
 -- one operand for each transition
 pub length_targets : (base : ℕ) (ts : List Transition) → length (target_cells base ts) ≡ length ts
 unfolding target_cells
-length_targets base ts = length-map ts (λ t. base + t .target)
+length_targets base ts = length-map ts (λ t. base + t.target)
 
 -- The first records of a transition part, with their flags, and those that leave s.
 module _ (part first : List ℕ) (s labels : ℕ) where
@@ -129,14 +129,14 @@ module _ (part first : List ℕ) (s labels : ℕ) where
   here j = cond (leaves_at part first s labels j) (transition_in part j ∷ []) []
 
   -- a record that is not the first of its kind
-  pub not_first : (j : ℕ) → ¬ (getD first j 0 ≡ 1) → false ≡ leaves_at part first s labels j
+  pub not_first : (j : ℕ) → ¬ (get_or first j 0 ≡ 1) → false ≡ leaves_at part first s labels j
   unfolding leaves_at
-  not_first j h = rw (ne-eqb (getD first j 0) 1 h)
+  not_first j h = rw (ne_eqb (get_or first j 0) 1 h)
 
   -- one that is the first
-  pub is_first_lem : (j : ℕ) {t : Transition} → getD first j 0 ≡ 1 → t ≡ transition_in part j → leaves s labels t ≡ leaves_at part first s labels j
+  pub is_first_lem : (j : ℕ) {t : Transition} → get_or first j 0 ≡ 1 → t ≡ transition_in part j → leaves s labels t ≡ leaves_at part first s labels j
   unfolding leaves_at
-  is_first_lem j {t} h e = rw (eq-eqb (getD first j 0) 1 h) (ap (leaves s labels) e)
+  is_first_lem j {t} h e = rw (eq-eqb (get_or first j 0) 1 h) (ap (leaves s labels) e)
 
   -- one record more
   leaving_more : (j : ℕ) → leaving part first s labels (j + 1) ≡ leaving part first s labels j ++ here j
@@ -153,12 +153,12 @@ module _ (part first : List ℕ) (s labels : ℕ) where
   unfolding target_cells target_cell
   targets_more base j = rw (leaving_more j, map-append) (ap (λ (l : List ℕ). target_cells base (leaving part first s labels j) ++ l) (go (leaves_at part first s labels j)))
     where
-      go : (b : Bool) → map (λ t. base + t .target) (cond b (transition_in part j ∷ []) []) ≡ cond b ((base + transition_in part j .target) ∷ []) []
+      go : (b : Bool) → map (λ t. base + t.target) (cond b (transition_in part j ∷ []) []) ≡ cond b ((base + (transition_in part j).target) ∷ []) []
       go true = refl
       go false = refl
 
   -- one record's operand is written, if it leaves s
-  pub wrote_target : (base done j x : ℕ) {b : Bool} {before after : List ℕ} → b ≡ leaves_at part first s labels j → b ≡ true → x ≡ transition_in part j .target
+  pub wrote_target : (base done j x : ℕ) {b : Bool} {before after : List ℕ} → b ≡ leaves_at part first s labels j → b ≡ true → x ≡ (transition_in part j).target
       → WroteAt (4 * done) ((base + x) ∷ []) before after → WroteMore done (target_cell part first base s labels j) before after (done + 1)
   unfolding target_cell
   wrote_target base done j x is h e w = rw (← is, h, ← e) (record { wrote = w; count = refl })
@@ -227,7 +227,7 @@ numbers_append used (c ∷ cs) ds =
     let k : used + length (operands_of c) + length (all_operands cs) ≡ used + length (operands_of c ++ all_operands cs) = omega (arith, length-append (operands_of c) (all_operands cs)) in
     cell_first used c (cs ++ ds)
     ∙ ap (λ (l : List ℕ). cell_numbers used (c ∷ []) ++ l) (numbers_append (used + length (operands_of c)) cs ds)
-    ∙ sym (append-assoc (cell_numbers used (c ∷ [])) (cell_numbers (used + length (operands_of c)) cs) (cell_numbers (used + length (operands_of c) + length (all_operands cs)) ds))
+    ∙ sym (append_assoc (cell_numbers used (c ∷ [])) (cell_numbers (used + length (operands_of c)) cs) (cell_numbers (used + length (operands_of c) + length (all_operands cs)) ds))
     ∙ ap (λ (l : List ℕ). l ++ cell_numbers (used + length (operands_of c) + length (all_operands cs)) ds) (sym (cell_first used c cs))
     ∙ ap (λ (u : ℕ). cell_numbers used (c ∷ cs) ++ cell_numbers u ds) k
 
@@ -237,8 +237,8 @@ pub wrote_cells_on : {used next r at : ℕ} {cs ds : List Cell} {s t u : List �
 wrote_cells_on {used} {next} {r} {at} {cs} {ds} {s} {t} {u} e p q =
     let k : at ≡ 4 * length (cell_numbers used cs) = omega (arith, length_cell_numbers used cs) in
     record {
-      wrote = rw (numbers_append used cs ds, ← p .count) (wrote_more k (p .wrote) (q .wrote));
-      count = rw (operands_append cs ds, length-append (all_operands cs) (all_operands ds)) (omega (arith, p .count, q .count));
+      wrote = rw (numbers_append used cs ds, ← p.count) (wrote_more k p.wrote q.wrote);
+      count = rw (operands_append cs ds, length-append (all_operands cs) (all_operands ds)) (omega (arith, p.count, q.count));
     }
 
 -- The cell of a shape at node i in state s.
@@ -259,24 +259,24 @@ module _ (n : ℕ) (ts : List Transition) (x : Shape) (i s : ℕ) where
 
   -- a cell by its kind
   abbrev cell_by : ℕ → List ℕ → Cell
-  cell_by k os = cond (eqb k 2) (Cell.Variable (x .block) s) (cond (eqb k 0) (Cell.And os) (Cell.Or os))
+  cell_by k os = cond (eqb k 2) (Cell.Variable x.block s) (cond (eqb k 0) (Cell.And os) (Cell.Or os))
 
   -- operands by the kind of the node
   abbrev operands_by : ℕ → List ℕ → List ℕ → List ℕ
   operands_by k two many = cond (eqb k 2 || eqb k 3) two (cond (eqb k 4 || eqb k 5) many [])
 
   -- a variable's cell is written
-  pub wrote_variable : {used at k : ℕ} {before after : List ℕ} → k ≡ shape_kind (x .kind) → k ≡ 2
-      → WroteAt at (2 ∷ x .block ∷ s ∷ []) before after → WroteCellsAt at used (shape_cell n ts x i s ∷ []) before after used
+  pub wrote_variable : {used at k : ℕ} {before after : List ℕ} → k ≡ shape_kind x.kind → k ≡ 2
+      → WroteAt at (2 ∷ x.block ∷ s ∷ []) before after → WroteCellsAt at used (shape_cell n ts x i s ∷ []) before after used
   unfolding shape_cell cell_numbers all_operands operands_of
   wrote_variable is h w = rw (← is, h) (record { wrote = w; count = sym (add-zero _) })
 
   -- a list's cell is written
-  pub wrote_list : {used at k count : ℕ} {before after : List ℕ} → k ≡ shape_kind (x .kind) → ¬ (k ≡ 2) → count ≡ length (shape_operands n ts x i s)
+  pub wrote_list : {used at k count : ℕ} {before after : List ℕ} → k ≡ shape_kind x.kind → ¬ (k ≡ 2) → count ≡ length (shape_operands n ts x i s)
       → WroteAt at (k ∷ used ∷ count ∷ []) before after → WroteCellsAt at used (shape_cell n ts x i s ∷ []) before after (used + count)
   unfolding shape_cell cell_numbers all_operands operands_of
   wrote_list {used} {at} {k} {count} {before} {after} is h e w =
-      rw (← is) (go k (omega (arith, kind_small (x .kind))) h (shape_operands n ts x i s) e w)
+      rw (← is) (go k (omega (arith, kind_small x.kind)) h (shape_operands n ts x i s) e w)
     where
       go : (k : ℕ) → k ≤ 2 → ¬ (k ≡ 2) → (os : List ℕ) → count ≡ length os → WroteAt at (k ∷ used ∷ count ∷ []) before after
           → WroteCellsAt at used (cell_by k os ∷ []) before after (used + count)
@@ -287,7 +287,7 @@ module _ (n : ℕ) (ts : List Transition) (x : Shape) (i s : ℕ) where
   -- the operands of the cell are those of the shape
   pub operands_shape : operands_of (shape_cell n ts x i s) ≡ shape_operands n ts x i s
   unfolding shape_cell shape_operands shape_kind operands_of
-  operands_shape = go (x .kind) _ _
+  operands_shape = go x.kind _ _
     where
       go : (k : ℕ) (two many : List ℕ) → operands_of (cell_by (shape_kind k) (operands_by k two many)) ≡ operands_by k two many
       go zero two many = refl
@@ -302,28 +302,28 @@ module _ (n : ℕ) (ts : List Transition) (x : Shape) (i s : ℕ) where
       go (suc (suc (suc (suc (suc (suc (suc (suc (suc k))))))))) two many = refl
 
   -- The operands of an and or an or, of a box or a diamond, and of the others: b and d are the answers to the tests of the kind.
-  module _ {b : Bool} (is_pair : b ≡ (eqb (x .kind) 2 || eqb (x .kind) 3)) where
-    operands_pair : b ≡ true → shape_operands n ts x i s ≡ ((i + 1) * n + s) ∷ (x .second * n + s) ∷ []
+  module _ {b : Bool} (is_pair : b ≡ (eqb x.kind 2 || eqb x.kind 3)) where
+    operands_pair : b ≡ true → shape_operands n ts x i s ≡ ((i + 1) * n + s) ∷ (x.second * n + s) ∷ []
     unfolding shape_operands
     operands_pair h = rw (← is_pair, h)
 
     pub pair_count : b ≡ true → 2 ≡ length (shape_operands n ts x i s)
     pair_count h = rw (operands_pair h)
 
-    pub wrote_pair : b ≡ true → {low high done r : ℕ} {before after : List ℕ} → low ≡ (i + 1) * n → high ≡ x .second * n
+    pub wrote_pair : b ≡ true → {low high done r : ℕ} {before after : List ℕ} → low ≡ (i + 1) * n → high ≡ x.second * n
         → WroteMore done ((low + s) ∷ (high + s) ∷ []) before after r → WroteMore done (shape_operands n ts x i s) before after r
     wrote_pair h p q w = rw (operands_pair h, ← p, ← q) w
 
-    module _ {d : Bool} (is_modal : d ≡ (eqb (x .kind) 4 || eqb (x .kind) 5)) (no_pair : b ≡ false) where
-      operands_modal : d ≡ true → shape_operands n ts x i s ≡ target_cells ((i + 1) * n) (keep (leaves s (x .labels)) ts)
+    module _ {d : Bool} (is_modal : d ≡ (eqb x.kind 4 || eqb x.kind 5)) (no_pair : b ≡ false) where
+      operands_modal : d ≡ true → shape_operands n ts x i s ≡ target_cells ((i + 1) * n) (keep (leaves s x.labels) ts)
       unfolding shape_operands target_cells
       operands_modal h = rw (← is_pair, no_pair, ← is_modal, h)
 
-      pub modal_count : d ≡ true → length (keep (leaves s (x .labels)) ts) ≡ length (shape_operands n ts x i s)
-      modal_count h = rw (operands_modal h) (sym (length_targets ((i + 1) * n) (keep (leaves s (x .labels)) ts)))
+      pub modal_count : d ≡ true → length (keep (leaves s x.labels) ts) ≡ length (shape_operands n ts x i s)
+      modal_count h = rw (operands_modal h) (sym (length_targets ((i + 1) * n) (keep (leaves s x.labels) ts)))
 
       pub wrote_modal : d ≡ true → {low done r : ℕ} {before after : List ℕ} → low ≡ (i + 1) * n
-          → WroteMore done (target_cells low (keep (leaves s (x .labels)) ts)) before after r → WroteMore done (shape_operands n ts x i s) before after r
+          → WroteMore done (target_cells low (keep (leaves s x.labels) ts)) before after r → WroteMore done (shape_operands n ts x i s) before after r
       wrote_modal h p w = rw (operands_modal h, ← p) w
 
       operands_none : d ≡ false → shape_operands n ts x i s ≡ []

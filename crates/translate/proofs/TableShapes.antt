@@ -1,35 +1,35 @@
 -- The shapes of a formula's nodes: the cells and blocks that are written of them, and the shapes that a formula table gives.
-use mathlib.Core.Path.{_≡_, refl, sym, ap, ap₂, _∙_}
-use mathlib.Core.Bool.{Bool, true, false, cond, _||_}
-use mathlib.Core.List.{List, [], _∷_, _++_, map, append-nil, append-assoc, map-append}
-use Prim.Native.Nat.{ℕ, zero, suc, _+_, _*_, _≤_, _<_}
+use mathlib.Core.Path.{◌≡◌, refl, sym, ap, ap₂, ◌∙◌}
+use mathlib.Core.Bool.{Bool, true, false, cond, ◌||◌}
+use mathlib.Core.List.{List, [], ◌∷◌, ◌++◌, map, append-nil, append_assoc, map-append}
+use Prim.Native.Nat.{ℕ, zero, suc, ◌+◌, ◌*◌, ◌≤◌, ◌<◌}
 use native.Mathlib.Nat.{add-zero}
 use native.Mathlib.Numerals.{add-one}
 use native.Mathlib.Omega.{arith}
-use borrow.Author.Tests.{ne-eqb}
-use lib.Dec.{eqb, leb, eqb·suc-suc}
-use lib.ListN.{length, getD, take, length-append}
-use Rattle·sets.specs.Lists.{numbers_from}
-use Rattle·solver.specs.Cells.{Cell}
-use Rattle·solver.specs.File.{Block}
-use Rattle·cases.specs.Action.{Action}
-use Rattle·cases.specs.Formula.{Formula, False, True, And, Or, Box, Diamond, Variable, Fix, nodes}
-use Rattle·cases.specs.declared.Node.{Node}
-use Rattle·cases.specs.declared.Transition.{Transition}
-use Rattle·cases.specs.Prefix.{arity_in, formula_arities, end_of, formula_at}
-use Rattle·cases.specs.internal.Masks.{mask_of}
-use Rattle·cases.specs.Conditions.{node_at, is_binder, binder_count}
-use Rattle·cases.specs.internal.Tables.{made, formula_operator, FormulaTable}
-use Rattle·cases.proofs.Trees.{arity_at}
-use Rattle·cases.proofs.TableTrees.{each_kind, formula_at_lem, root}
-use Rattle·translate·specs.specs.declared.Shape.{Shape}
-use Rattle·translate·specs.specs.Cells.{cell_of, cells_from, blocks_from}
-use Rattle·translate·specs.specs.Whole.{raise, binds_first, whole, binder_nodes, index_in, block_in}
-use Rattle·translate·specs.specs.internal.Writing.{shape_of, shape_cell}
-use Rattle·translate·specs.specs.internal.Shapes.{shapes_from, shape_cells, shape_blocks, shape_in, table_shapes}
-use Rattle·translate·proofs.proofs.Counts.{nodes_raise}
-use Rattle·translate·proofs.proofs.Equations.{raised}
-use Rattle·translate·proofs.proofs.BinderNodes.{collect, operand_lists, second_at, listed_all, block_of_binder}
+use borrow.Author.Tests.{ne_eqb}
+use lib.Dec.{eqb, leb, eqb-suc-suc}
+use lib.ListN.{length, get_or, take, length-append}
+use Rattle.sets.specs.Lists.{numbers_from}
+use Rattle.solver.specs.Cells.{Cell}
+use Rattle.solver.specs.File.{Block}
+use Rattle.cases.specs.Action.{Action}
+use Rattle.cases.specs.Formula.{Formula, False, True, And, Or, Box, Diamond, Variable, Fix, nodes}
+use Rattle.cases.specs.declared.Node.{Node}
+use Rattle.cases.specs.declared.Transition.{Transition}
+use Rattle.cases.specs.Prefix.{arity_in, formula_arities, end_of, formula_at}
+use Rattle.cases.specs.internal.Masks.{mask_of}
+use Rattle.cases.specs.Conditions.{node_at, is_binder, binder_count}
+use Rattle.cases.specs.internal.Tables.{made, formula_operator, FormulaTable}
+use Rattle.cases.proofs.Trees.{arity_at}
+use Rattle.cases.proofs.TableTrees.{each_kind, formula_at_lem, root}
+use Rattle.translate.specs.declared.Shape.{Shape}
+use Rattle.translate.specs.Cells.{cell_of, cells_from, blocks_from}
+use Rattle.translate.specs.Whole.{raise, binds_first, whole, binder_nodes, index_in, block_in}
+use Rattle.translate.specs.internal.Writing.{shape_of, shape_cell}
+use Rattle.translate.specs.internal.Shapes.{shapes_from, shape_cells, shape_blocks, shape_in, table_shapes}
+use Rattle.translate.proofs.Counts.{nodes_raise}
+use Rattle.translate.proofs.Equations.{raised}
+use Rattle.translate.proofs.BinderNodes.{collect, operand_lists, second_at, listed_all, block_of_binder}
 
 -- a formula has as many shapes as nodes
 pub length_shapes : (block : ℕ → ℕ) (a : Formula) (i : ℕ) → length (shapes_from block a i) ≡ nodes a
@@ -56,7 +56,7 @@ module _ {B : Type 0} (written : ℕ → List Shape → List B) (item : Shape �
       more i x (xs ++ ys)
       ∙ ap (λ (l : List B). item x i ++ l) (written_append (i + 1) xs ys)
       ∙ ap (λ (m : ℕ). item x i ++ (written (i + 1) xs ++ written m ys)) next
-      ∙ sym (append-assoc (item x i) (written (i + 1) xs) (written (i + suc (length xs)) ys))
+      ∙ sym (append_assoc (item x i) (written (i + 1) xs) (written (i + suc (length xs)) ys))
       ∙ ap (λ (l : List B). l ++ written (i + suc (length xs)) ys) (sym (more i x xs))
 
   -- and so of two formulas
@@ -67,14 +67,14 @@ module _ {B : Type 0} (written : ℕ → List Shape → List B) (item : Shape �
 -- ---- blocks
 -- the block of one shape
 abbrev block_item : ℕ → Shape → ℕ → List Block
-block_item n x i = cond (leb 7 (x .kind)) (record { sign = eqb (x .kind) 8; first = (i + 1) * n } ∷ []) []
+block_item n x i = cond (leb 7 x.kind) (record { sign = eqb x.kind 8; first = (i + 1) * n } ∷ []) []
 
 blocks_more : (n i : ℕ) (x : Shape) (xs : List Shape) → shape_blocks n i (x ∷ xs) ≡ block_item n x i ++ shape_blocks n (i + 1) xs
 unfolding shape_blocks
-blocks_more n i x xs = go (leb 7 (x .kind))
+blocks_more n i x xs = go (leb 7 x.kind)
   where
     b : Block
-    b = record { sign = eqb (x .kind) 8; first = (i + 1) * n }
+    b = record { sign = eqb x.kind 8; first = (i + 1) * n }
 
     go : (r : Bool) → cond r (b ∷ shape_blocks n (i + 1) xs) (shape_blocks n (i + 1) xs) ≡ cond r (b ∷ []) [] ++ shape_blocks n (i + 1) xs
     go true = refl
@@ -118,22 +118,22 @@ module _ (n : ℕ) (ts : List Transition) (block : ℕ → ℕ)
   shape_cells_lem False i = append-nil _ ∙ node_cells False i
   shape_cells_lem True i = append-nil _ ∙ node_cells True i
   shape_cells_lem (And a b) i =
-      ap₂ _++_ (node_cells (And a b) i) (cells_both a (i + 1) _ (shape_cells_lem a (i + 1)) (shape_cells_lem b (i + 1 + nodes a)))
+      ap₂ ◌++◌ (node_cells (And a b) i) (cells_both a (i + 1) _ (shape_cells_lem a (i + 1)) (shape_cells_lem b (i + 1 + nodes a)))
   shape_cells_lem (Or a b) i =
-      ap₂ _++_ (node_cells (Or a b) i) (cells_both a (i + 1) _ (shape_cells_lem a (i + 1)) (shape_cells_lem b (i + 1 + nodes a)))
-  shape_cells_lem (Box α a) i = ap₂ _++_ (node_cells (Box α a) i) (shape_cells_lem a (i + 1))
-  shape_cells_lem (Diamond α a) i = ap₂ _++_ (node_cells (Diamond α a) i) (shape_cells_lem a (i + 1))
+      ap₂ ◌++◌ (node_cells (Or a b) i) (cells_both a (i + 1) _ (shape_cells_lem a (i + 1)) (shape_cells_lem b (i + 1 + nodes a)))
+  shape_cells_lem (Box α a) i = ap₂ ◌++◌ (node_cells (Box α a) i) (shape_cells_lem a (i + 1))
+  shape_cells_lem (Diamond α a) i = ap₂ ◌++◌ (node_cells (Diamond α a) i) (shape_cells_lem a (i + 1))
   shape_cells_lem (Variable j) i = append-nil _ ∙ node_cells (Variable j) i
-  shape_cells_lem (Fix sign j a) i = ap₂ _++_ (node_cells (Fix sign j a) i) (shape_cells_lem a (i + 1))
+  shape_cells_lem (Fix sign j a) i = ap₂ ◌++◌ (node_cells (Fix sign j a) i) (shape_cells_lem a (i + 1))
 
 -- ---- raised formulas
 -- a shape whose node number and block are one higher, where its kind has them
 abbrev up : Shape → Shape
 up x = record {
-  kind = x .kind;
-  second = cond (eqb (x .kind) 2 || eqb (x .kind) 3) (x .second + 1) 0;
-  block = cond (eqb (x .kind) 6 || (eqb (x .kind) 7 || eqb (x .kind) 8)) (x .block + 1) 0;
-  labels = x .labels;
+  kind = x.kind;
+  second = cond (eqb x.kind 2 || eqb x.kind 3) (x.second + 1) 0;
+  block = cond (eqb x.kind 6 || (eqb x.kind 7 || eqb x.kind 8)) (x.block + 1) 0;
+  labels = x.labels;
 }
 
 -- blocks rise by one with the node numbers
@@ -166,27 +166,27 @@ module _ (block higher : ℕ → ℕ) (rises : (j : ℕ) → higher (j + 1) ≡ 
   shapes_raise False i = ap (λ (x : Shape). x ∷ []) (shape_raise False i)
   shapes_raise True i = ap (λ (x : Shape). x ∷ []) (shape_raise True i)
   shapes_raise (And a b) i =
-      ap₂ _∷_ (shape_raise (And a b) i) (raise_both a i b (shapes_raise a (i + 1)) (shapes_raise b (i + 1 + nodes a)))
+      ap₂ ◌∷◌ (shape_raise (And a b) i) (raise_both a i b (shapes_raise a (i + 1)) (shapes_raise b (i + 1 + nodes a)))
   shapes_raise (Or a b) i =
-      ap₂ _∷_ (shape_raise (Or a b) i) (raise_both a i b (shapes_raise a (i + 1)) (shapes_raise b (i + 1 + nodes a)))
-  shapes_raise (Box α a) i = ap₂ _∷_ (shape_raise (Box α a) i) (shapes_raise a (i + 1))
-  shapes_raise (Diamond α a) i = ap₂ _∷_ (shape_raise (Diamond α a) i) (shapes_raise a (i + 1))
+      ap₂ ◌∷◌ (shape_raise (Or a b) i) (raise_both a i b (shapes_raise a (i + 1)) (shapes_raise b (i + 1 + nodes a)))
+  shapes_raise (Box α a) i = ap₂ ◌∷◌ (shape_raise (Box α a) i) (shapes_raise a (i + 1))
+  shapes_raise (Diamond α a) i = ap₂ ◌∷◌ (shape_raise (Diamond α a) i) (shapes_raise a (i + 1))
   shapes_raise (Variable j) i = ap (λ (x : Shape). x ∷ []) (shape_raise (Variable j) i)
-  shapes_raise (Fix sign j a) i = ap₂ _∷_ (shape_raise (Fix sign j a) i) (shapes_raise a (i + 1))
+  shapes_raise (Fix sign j a) i = ap₂ ◌∷◌ (shape_raise (Fix sign j a) i) (shapes_raise a (i + 1))
 
 -- a number's place stays where all numbers rise by one
 place_raise : (j : ℕ) (xs : List ℕ) → index_in (j + 1) (map (λ i. i + 1) xs) ≡ index_in j xs
 unfolding index_in
 place_raise j [] = refl
 place_raise j (x ∷ xs) =
-    let one : eqb (j + 1) (x + 1) ≡ eqb j x = rw (add-one j, add-one x) (eqb·suc-suc j x) in
+    let one : eqb (j + 1) (x + 1) ≡ eqb j x = rw (add-one j, add-one x) (eqb-suc-suc j x) in
     rw (one, place_raise j xs)
 
 -- a nu before a raised formula is block 0, and blocks rise by one
 block_raise : (a : Formula) (j : ℕ) → block_in (Fix true 0 (raise a)) (j + 1) ≡ block_in a j + 1
 unfolding block_in binder_nodes index_in
 block_raise a j =
-    rw (ne-eqb (j + 1) 0 (λ q. omega arith), raised a, place_raise j (binder_nodes a)) (sym (add-one (index_in j (binder_nodes a))))
+    rw (ne_eqb (j + 1) 0 (λ q. omega arith), raised a, place_raise j (binder_nodes a)) (sym (add-one (index_in j (binder_nodes a))))
 
 -- ---- tables
 -- the second operand of a table's shape, one higher
@@ -204,15 +204,15 @@ block_up false false m n = refl
 shape_up : (action : ℕ → Action) (t : List Node) (i : ℕ) → up (shape_in action t 0 i) ≡ shape_in action t 1 i
 unfolding shape_in
 shape_up action t i = λ q. record {
-  kind = node_at t i .kind;
-  second = second_up (eqb (node_at t i .kind) 2 || eqb (node_at t i .kind) 3) (end_of (map (arity_in formula_arities) t) (i + 1)) q;
-  block = block_up (eqb (node_at t i .kind) 6) (is_binder (node_at t i)) (binder_count (take (node_at t i .arg) t)) (binder_count (take i t)) q;
-  labels = cond (eqb (node_at t i .kind) 4 || eqb (node_at t i .kind) 5) (mask_of (action (node_at t i .arg))) 0;
+  kind = (node_at t i).kind;
+  second = second_up (eqb (node_at t i).kind 2 || eqb (node_at t i).kind 3) (end_of (map (arity_in formula_arities) t) (i + 1)) q;
+  block = block_up (eqb (node_at t i).kind 6) (is_binder (node_at t i)) (binder_count (take (node_at t i).arg t)) (binder_count (take i t)) q;
+  labels = cond (eqb (node_at t i).kind 4 || eqb (node_at t i).kind 5) (mask_of (action (node_at t i).arg)) 0;
 }
 
 shapes_up : (action : ℕ → Action) (t : List Node) (is : List ℕ) → map up (map (shape_in action t 0) is) ≡ map (shape_in action t 1) is
 shapes_up action t [] = refl
-shapes_up action t (i ∷ is) = ap₂ _∷_ (shape_up action t i) (shapes_up action t is)
+shapes_up action t (i ∷ is) = ap₂ ◌∷◌ (shape_up action t i) (shapes_up action t is)
 
 -- single items are a map
 collect_map : {A : Type 0} (f : ℕ → A) (k i : ℕ) → collect (λ j. f j ∷ []) i k ≡ map f (numbers_from i k)
@@ -224,14 +224,14 @@ collect_map f (suc k) i = ap (λ (l : List _). f i ∷ l) (collect_map f k (suc 
 -- the second operand.
 abbrev MadeShapes : (ℕ → Action) → (ℕ → ℕ) → ℕ → ℕ → ℕ → ℕ → ℕ → Formula → Formula → ℕ → Type 0
 MadeShapes action block i arg bound here next f g k =
-    (k ≡ 6 → block arg ≡ bound) → ((eqb k 7 || eqb k 8) ≡ true → block i ≡ here) → (getD formula_arities k 0 ≡ 2 → i + 1 + nodes f ≡ next)
+    (k ≡ 6 → block arg ≡ bound) → ((eqb k 7 || eqb k 8) ≡ true → block i ≡ here) → (get_or formula_arities k 0 ≡ 2 → i + 1 + nodes f ≡ next)
     → shapes_from block (made (formula_operator action i arg k) f g) i
     ≡ record {
       kind = k;
       second = cond (eqb k 2 || eqb k 3) (next + 0) 0;
       block = cond (eqb k 6) (bound + 0) (cond (eqb k 7 || eqb k 8) (here + 0) 0);
       labels = cond (eqb k 4 || eqb k 5) (mask_of (action arg)) 0;
-    } ∷ operand_lists (getD formula_arities k 0) (shapes_from block f (i + 1)) (shapes_from block g (i + 1 + nodes f))
+    } ∷ operand_lists (get_or formula_arities k 0) (shapes_from block f (i + 1)) (shapes_from block g (i + 1 + nodes f))
 
 made_shapes : (action : ℕ → Action) (block : ℕ → ℕ) (i arg bound here next : ℕ) (f g : Formula) (k : ℕ) → k ≤ 8
     → MadeShapes action block i arg bound here next f g k
@@ -248,24 +248,24 @@ module _ (action : ℕ → Action) (t : List Node) (table : FormulaTable t) wher
   root_binds : binds_first root_formula ≡ is_binder (node_at t 0)
   unfolding binds_first
   root_binds =
-      ap binds_first (formula_at_lem action t table 0 (node_at t 0 .kind) (root t table) refl)
-      ∙ each_kind (λ k. binds_first (made (formula_operator action 0 (node_at t 0 .arg) k) (formula_at action t (0 + 1))
+      ap binds_first (formula_at_lem action t table 0 (node_at t 0).kind (root t table) refl)
+      ∙ each_kind (λ k. binds_first (made (formula_operator action 0 (node_at t 0).arg k) (formula_at action t (0 + 1))
       (formula_at action t (end_of (map (arity_in formula_arities) t) (0 + 1)))) ≡ eqb k 7 || eqb k 8)
-      refl refl refl refl refl refl refl refl refl (node_at t 0 .kind) (table .kinds 0 (root t table))
+      refl refl refl refl refl refl refl refl refl (node_at t 0).kind (table.kinds 0 (root t table))
 
   -- every variable has a binder of the table
-  module _ (bound : (i : ℕ) → i < length t → node_at t i .kind ≡ 6
-      → (node_at t i .arg < length t) × (is_binder (node_at t (node_at t i .arg)) ≡ true)) where
+  module _ (bound : (i : ℕ) → i < length t → (node_at t i).kind ≡ 6
+      → ((node_at t i).arg < length t) × (is_binder (node_at t (node_at t i).arg) ≡ true)) where
     -- the shapes of node i and its operands
     node_shapes : (i : ℕ) → i < length t → shapes_from (block_in root_formula) (formula_at action t i) i
-        ≡ shape_in action t 0 i ∷ operand_lists (getD (map (arity_in formula_arities) t) i 0) (shapes_from (block_in root_formula) (formula_at action t (i + 1)) (i + 1))
+        ≡ shape_in action t 0 i ∷ operand_lists (get_or (map (arity_in formula_arities) t) i 0) (shapes_from (block_in root_formula) (formula_at action t (i + 1)) (i + 1))
         (shapes_from (block_in root_formula) (formula_at action t (end_of (map (arity_in formula_arities) t) (i + 1))) (i + 1 + nodes (formula_at action t (i + 1))))
     unfolding shape_in
     node_shapes i h =
-        ap (λ (a : Formula). shapes_from (block_in root_formula) a i) (formula_at_lem action t table i (node_at t i .kind) h refl)
+        ap (λ (a : Formula). shapes_from (block_in root_formula) a i) (formula_at_lem action t table i (node_at t i).kind h refl)
         ∙ rw (arity_at formula_arities t i h)
-        (made_shapes action (block_in root_formula) i (node_at t i .arg) _ _ _ _ _ (node_at t i .kind) (table .kinds i h)
-        (λ e. block_of_binder action t table (node_at t i .arg) (bound i h e .0) (bound i h e .1))
+        (made_shapes action (block_in root_formula) i (node_at t i).arg _ _ _ _ _ (node_at t i).kind (table.kinds i h)
+        (λ e. block_of_binder action t table (node_at t i).arg (bound i h e).0 (bound i h e).1)
         (λ e. block_of_binder action t table i h e)
         (λ e. second_at action t table i h (arity_at formula_arities t i h ∙ e)))
 

@@ -1,16 +1,16 @@
 -- How many operands cells have: of one state more, of one node more.
-use mathlib.Core.Path.{_≡_, ap, _∙_}
+use mathlib.Core.Path.{◌≡◌, ap, ◌∙◌}
 use mathlib.Core.List.{List, map}
-use Prim.Native.Nat.{ℕ, _+_, _<_}
+use Prim.Native.Nat.{ℕ, ◌+◌, ◌<◌}
 use lib.ListN.{length, length-append}
-use Rattle·sets.specs.Lists.{numbers_from}
-use Rattle·cases.specs.declared.Transition.{Transition}
-use Rattle·translate·specs.specs.declared.Shape.{Shape}
-use Rattle·translate·specs.specs.Bytes.{all_operands}
-use Rattle·translate·specs.specs.internal.Writing.{shape_operands, shape_cell}
-use Rattle·translate·specs.specs.internal.Sources.{shape_at}
-use Rattle·translate·proofs.proofs.ShapeLaws.{row_operands, row_none}
-use Rattle·translate·proofs.proofs.NodeParts.{row, cells_to, cells_none, operands_more}
+use Rattle.sets.specs.Lists.{numbers_from}
+use Rattle.cases.specs.declared.Transition.{Transition}
+use Rattle.translate.specs.declared.Shape.{Shape}
+use Rattle.translate.specs.Bytes.{all_operands}
+use Rattle.translate.specs.internal.Writing.{shape_operands, shape_cell}
+use Rattle.translate.specs.internal.Sources.{shape_at}
+use Rattle.translate.proofs.ShapeLaws.{row_operands, row_none}
+use Rattle.translate.proofs.NodeParts.{row, cells_to, cells_none, operands_more}
 
 module _ (n : ℕ) (ts : List Transition) where
   -- the operands of node i, of a shape x, in its first s states

@@ -1,18 +1,18 @@
 -- When a translation is refused, and the three ways it ends.
-use mathlib.Core.Path.{_≡_, sym, ap, _∙_}
-use mathlib.Core.Logic.{_↔_}
-use mathlib.Core.List.{List, [], _++_}
-use Prim.Native.Nat.{ℕ, _≤_, _<_}
+use mathlib.Core.Path.{◌≡◌, sym, ap, ◌∙◌}
+use mathlib.Core.Logic.{◌↔◌}
+use mathlib.Core.List.{List, [], ◌++◌}
+use Prim.Native.Nat.{ℕ, ◌≤◌, ◌<◌}
 use native.Mathlib.Omega.{arith}
 use lib.ListN.{length, drop}
 use borrow.Author.Tests.{lt-ltb, le-ltb, ltb-true, ltb-false}
-use Rattle·sets.specs.Lists.{every}
-use Rattle·sets.proofs.Refusals.{Without, one_of_first, reached, none_reached, refusing}
-use Rattle·cases.specs.Conditions.{layout_conditions, model_conditions, formula_conditions, case_conditions, case_refusal, Accepted}
-use Rattle·cases.proofs.Openings.{some_number as case_number_lem}
-use Rattle·translate·specs.specs.Translating.{file, translate_conditions, translate_refusal, translate_number, file_after, Translated}
-use Rattle·translate·specs.specs.declared.Cause.{Cause}
-use Rattle·translate·specs.specs.declared.Cause.the-variants.{Open, Memory}
+use Rattle.sets.specs.Lists.{every}
+use Rattle.sets.proofs.Refusals.{Without, one_of_first, reached, none_reached, refusing}
+use Rattle.cases.specs.Conditions.{layout_conditions, model_conditions, formula_conditions, case_conditions, case_refusal, Accepted}
+use Rattle.cases.proofs.Openings.{some_number as case_number_lem}
+use Rattle.translate.specs.Translating.{file, translate_conditions, translate_refusal, translate_number, file_after, Translated}
+use Rattle.translate.specs.declared.Cause.{Cause}
+use Rattle.translate.specs.declared.Cause.TheVariants.{Open, Memory}
 
 module _ (b : List ℕ) where
   -- No condition of a case has the number 0, and none the number 13.
@@ -30,8 +30,8 @@ module _ (b : List ℕ) where
     unfolding translate_refusal translate_conditions case_refusal
     unrefused =
         let r = none_reached (case_conditions b) 13 _ (λ z. omega arith) none_0 in (
-          λ e. let x = r .0 e in (x .0, ltb-false room (length (file b)) (x .1)),
-          λ x. r .1 (x .0, le-ltb room (length (file b)) (x .1)),
+          λ e. let x = r.0 e in (x.0, ltb-false room (length (file b)) x.1),
+          λ x. r.1 (x.0, le-ltb room (length (file b)) x.1),
         )
 
     -- It is refused with 13 exactly if it is accepted and there is no room.
@@ -39,8 +39,8 @@ module _ (b : List ℕ) where
     unfolding translate_refusal translate_conditions case_refusal every
     lacks_room =
         let r = reached (case_conditions b) 13 _ [] (λ z. omega arith) none_0 none_13 tt in (
-          λ e. let x = r .0 e in (x .0, ltb-true room (length (file b)) (x .1)),
-          λ x. r .1 (x .0, lt-ltb room (length (file b)) (x .1)),
+          λ e. let x = r.0 e in (x.0, ltb-true room (length (file b)) x.1),
+          λ x. r.1 (x.0, lt-ltb room (length (file b)) x.1),
         )
 
     -- A case that is not accepted is refused with its own number.
@@ -68,12 +68,12 @@ module _ (b before : List ℕ) where
   module _ (accepted : Accepted b) where
     -- the buffer is too short
     pub too_short_lem : (k : ℕ) → k ≡ length (file b) → length before < k → Translated b before 13 0 before
-    too_short_lem k e h = refuses (lacks_room b (length before) .1 (accepted, rw (sym e) h)) (λ z. omega arith)
+    too_short_lem k e h = refuses ((lacks_room b (length before)).1 (accepted, rw (sym e) h)) (λ z. omega arith)
 
     -- the file is written
     pub file_written : (k : ℕ) → k ≡ length (file b) → k ≤ length before → {after : List ℕ} → after ≡ file b ++ drop k before
         → Translated b before 0 k after
     unfolding file_after
     file_written k e h {after} w =
-        let none : translate_refusal b (length before) ≡ 0 = unrefused b (length before) .1 (accepted, rw (sym e) h) in
+        let none : translate_refusal b (length before) ≡ 0 = (unrefused b (length before)).1 (accepted, rw (sym e) h) in
         record { answers = sym none; long_is = e ∙ sym (rw none); bytes = w ∙ ap (λ (j : ℕ). file b ++ drop j before) e ∙ sym (rw none) }

@@ -1,25 +1,25 @@
 -- The nodes and cells of a formula, and what the cells are when unfolded along their operands: the right-hand sides of the table.
-use mathlib.Core.Path.{_≡_, refl, sym, ap, ap₂, _∙_}
-use mathlib.Core.Bool.{Bool, true, false, cond, _&&_}
-use mathlib.Core.List.{List, [], _∷_, _++_, map, append-nil}
-use Prim.Native.Nat.{ℕ, zero, suc, _+_, _*_, _/_, _%_, _≤_, _<_}
-use native.Mathlib.Nat.{zero-add, add-zero, suc-add, add-assoc, zero-mul, one-mul, add-mul, mod-lt, div-add-mod', div-lt-iff-lt-mul, mul-le-mul-right}
+use mathlib.Core.Path.{◌≡◌, refl, sym, ap, ap₂, ◌∙◌}
+use mathlib.Core.Bool.{Bool, true, false, cond, ◌&&◌}
+use mathlib.Core.List.{List, [], ◌∷◌, ◌++◌, map, append-nil}
+use Prim.Native.Nat.{ℕ, zero, suc, ◌+◌, ◌*◌, ◌/◌, ◌%◌, ◌≤◌, ◌<◌}
+use native.Mathlib.Nat.{zero-add, add-zero, suc-add, add_assoc, zero-mul, one-mul, add-mul, mod-lt, div-add-mod', div-lt_iff_lt-mul, mul-le-mul_right}
 use native.Mathlib.Omega.{arith}
-use lib.Arith.{digits-lt, digits-div, digits-mod}
+use lib.Arith.{digits_lt, digits_div, digits_mod}
 use lib.Dec.{T, eqb, ltb, ltb→lt, lt→ltb}
-use lib.ListN.{length, getD, length-append, List·getD-append}
-use lib.Seq.{getD-append-add}
-use Rattle·sets.specs.Lists.{numbers_from, every, keep}
-use Rattle·sets.proofs.Lists.{length_map_range, get_or_map_range, and_left, and_right, and_both, all_mono}
-use Rattle·solver.specs.Cells.{Cell, operands_of}
-use Rattle·solver.specs.internal.Forms.{Ordered}
-use Rattle·cases.specs.Action.{Action, accepts}
-use Rattle·cases.specs.Formula.{Formula, False, True, And, Or, Box, Diamond, Variable, Fix, nodes, subformulas, Stands}
-use Rattle·cases.specs.declared.Transition.{Transition}
-use Rattle·cases.specs.Meaning.{from}
-use Rattle·translate·specs.specs.Tables.{Expression, Sat⇒, Sat∧, each, RHS}
-use Rattle·translate·specs.specs.Unfolding.{Plain, All, Any, more, left_out, plain, plains, chosen, unfolded, Unfolding}
-use Rattle·translate·specs.specs.Cells.{targets, cell_of, cells_from}
+use lib.ListN.{length, get_or, length-append, get_or-append}
+use lib.Seq.{get_or-append-add}
+use Rattle.sets.specs.Lists.{numbers_from, every, keep}
+use Rattle.sets.proofs.Lists.{length_map_range, get_or_map_range, and_left, and_right, and_both, all_mono}
+use Rattle.solver.specs.Cells.{Cell, operands_of}
+use Rattle.solver.specs.internal.Forms.{Ordered}
+use Rattle.cases.specs.Action.{Action, accepts}
+use Rattle.cases.specs.Formula.{Formula, False, True, And, Or, Box, Diamond, Variable, Fix, nodes, subformulas, Stands}
+use Rattle.cases.specs.declared.Transition.{Transition}
+use Rattle.cases.specs.Meaning.{from}
+use Rattle.translate.specs.Tables.{Expression, Sat⇒, Sat∧, each, RHS}
+use Rattle.translate.specs.Unfolding.{Plain, All, Any, more, left_out, plain, plains, chosen, unfolded, Unfolding}
+use Rattle.translate.specs.Cells.{targets, cell_of, cells_from}
 
 -- There is a subformula for each node.
 pub length_subformulas : (a : Formula) → length (subformulas a) ≡ nodes a
@@ -34,8 +34,8 @@ length_subformulas (Variable i) = refl
 length_subformulas (Fix sign i a) = omega (arith, length_subformulas a)
 
 -- What holds of each element of two lists, by its place in both together, holds of each element of both together.
-pub by_parts : {A : Type 0} (d : A) (xs ys : List A) (P : ℕ → A → Type 0) → ((i : ℕ) → i < length xs → P i (getD xs i d))
-    → ((i : ℕ) → i < length ys → P (length xs + i) (getD ys i d)) → (i : ℕ) → i < length (xs ++ ys) → P i (getD (xs ++ ys) i d)
+pub by_parts : {A : Type 0} (d : A) (xs ys : List A) (P : ℕ → A → Type 0) → ((i : ℕ) → i < length xs → P i (get_or xs i d))
+    → ((i : ℕ) → i < length ys → P (length xs + i) (get_or ys i d)) → (i : ℕ) → i < length (xs ++ ys) → P i (get_or (xs ++ ys) i d)
 by_parts d [] ys P low high i h = rw zero-add at (high i h)
 by_parts d (x ∷ xs) ys P low high zero h = low 0 (omega arith)
 by_parts d (x ∷ xs) ys P low high (suc i) h =
@@ -43,11 +43,11 @@ by_parts d (x ∷ xs) ys P low high (suc i) h =
 
 -- Node j of the formula f, which stands at place i of a list, stands at place i + j.
 abbrev Inner : List Formula → ℕ → Formula → Type 0
-Inner fs i f = (j : ℕ) → j < nodes f → (i + j < length fs) × (getD fs (i + j) False ≡ getD (subformulas f) j False)
+Inner fs i f = (j : ℕ) → j < nodes f → (i + j < length fs) × (get_or fs (i + j) False ≡ get_or (subformulas f) j False)
 
 -- formulas that are listed with all their subformulas
 record Nested (fs : List Formula) : Type 0 where
-  inner : (i : ℕ) → i < length fs → Inner fs i (getD fs i False)
+  inner : (i : ℕ) → i < length fs → Inner fs i (get_or fs i False)
 
 nested_none : Nested []
 nested_none = record { inner = λ i h. absurd (omega arith) }
@@ -55,23 +55,23 @@ nested_none = record { inner = λ i h. absurd (omega arith) }
 nested_join : {fs gs : List Formula} → Nested fs → Nested gs → Nested (fs ++ gs)
 nested_join {fs} {gs} a b = record { inner = by_parts False fs gs (Inner (fs ++ gs)) low high }
   where
-    low : (i : ℕ) → i < length fs → Inner (fs ++ gs) i (getD fs i False)
+    low : (i : ℕ) → i < length fs → Inner (fs ++ gs) i (get_or fs i False)
     low i h j g =
-        let (l, e) = a .inner i h j g in
-        (simp length-append (omega arith), List·getD-append fs gs False (i + j) l ∙ e)
+        let (l, e) = a.inner i h j g in
+        (simp length-append (omega arith), get_or-append fs gs False (i + j) l ∙ e)
 
-    high : (i : ℕ) → i < length gs → Inner (fs ++ gs) (length fs + i) (getD gs i False)
+    high : (i : ℕ) → i < length gs → Inner (fs ++ gs) (length fs + i) (get_or gs i False)
     high i h j g =
-        let (l, e) = b .inner i h j g in
-        (simp length-append (omega arith), rw add-assoc (getD-append-add fs gs (i + j) False ∙ e))
+        let (l, e) = b.inner i h j g in
+        (simp length-append (omega arith), rw add_assoc (get_or-append-add fs gs (i + j) False ∙ e))
 
 nested_cons : (a : Formula) (fs : List Formula) → subformulas a ≡ a ∷ fs → Nested fs → Nested (a ∷ fs)
 nested_cons a fs e w = record { inner = at }
   where
-    at : (i : ℕ) → i < length (a ∷ fs) → Inner (a ∷ fs) i (getD (a ∷ fs) i False)
+    at : (i : ℕ) → i < length (a ∷ fs) → Inner (a ∷ fs) i (get_or (a ∷ fs) i False)
     at zero h j g = rw (zero-add, e) (omega (arith, length_subformulas a, ap length e), refl)
     at (suc i) h j g =
-        let (l, q) = w .inner i (omega arith) j g in
+        let (l, q) = w.inner i (omega arith) j g in
         rw suc-add (omega arith, q)
 
 nested : (a : Formula) → Nested (subformulas a)
@@ -88,9 +88,9 @@ nested (Fix sign i a) = nested_cons (Fix sign i a) _ refl (nested a)
 -- Node j of a formula that stands at node i stands at node i + j.
 pub inner : (a : Formula) {i : ℕ} {f : Formula} → Stands a i f → {j : ℕ} {x : Formula} → Stands f j x → Stands a (i + j) x
 inner a {i} {f} (h, e) {j} (g, q) =
-    let g′ : j < nodes (getD (subformulas a) i False) = rw e g in
-    let (l, r) = nested a .inner i (rw length_subformulas h) j g′ in
-    (rw length_subformulas at l, r ∙ ap (λ (b : Formula). getD (subformulas b) j False) e ∙ q)
+    let g' : j < nodes (get_or (subformulas a) i False) = rw e g in
+    let (l, r) = (nested a).inner i (rw length_subformulas h) j g' in
+    (rw length_subformulas at l, r ∙ ap (λ (b : Formula). get_or (subformulas b) j False) e ∙ q)
 
 -- A formula stands at its own first node.
 pub first : (a : Formula) → Stands a 0 a
@@ -109,17 +109,17 @@ operand_first : (f x : Formula) (gs : List Formula) → subformulas f ≡ f ∷ 
 operand_first f x gs e =
     let (l, q) = first x in
     let h : length (subformulas f) ≡ suc (nodes x + length gs) = ap length e ∙ ap suc (length-append (subformulas x) gs ∙ ap (λ (m : ℕ). m + length gs) (length_subformulas x)) in
-    let r : getD (subformulas f) 1 False ≡ x =
-    ap (λ (fs : List Formula). getD fs 1 False) e ∙ List·getD-append (subformulas x) gs False 0 (rw length_subformulas l) ∙ q in
+    let r : get_or (subformulas f) 1 False ≡ x =
+    ap (λ (fs : List Formula). get_or fs 1 False) e ∙ get_or-append (subformulas x) gs False 0 (rw length_subformulas l) ∙ q in
     (omega (arith, length_subformulas f), r)
 
 operand_second : (f x y : Formula) → subformulas f ≡ f ∷ (subformulas x ++ subformulas y) → Stands f (1 + nodes x) y
 operand_second f x y e =
     let (l, q) = first y in
-    let h : length (subformulas f) ≡ suc (nodes x + nodes y) = ap length e ∙ ap suc (length-append (subformulas x) (subformulas y) ∙ ap₂ _+_ (length_subformulas x) (length_subformulas y)) in
+    let h : length (subformulas f) ≡ suc (nodes x + nodes y) = ap length e ∙ ap suc (length-append (subformulas x) (subformulas y) ∙ ap₂ ◌+◌ (length_subformulas x) (length_subformulas y)) in
     let m : 1 + nodes x ≡ suc (length (subformulas x) + 0) = omega (arith, length_subformulas x) in
-    let r : getD (subformulas f) (1 + nodes x) False ≡ y =
-    rw (e, m) (getD-append-add (subformulas x) (subformulas y) 0 False ∙ q) in
+    let r : get_or (subformulas f) (1 + nodes x) False ≡ y =
+    rw (e, m) (get_or-append-add (subformulas x) (subformulas y) 0 False ∙ q) in
     (omega (arith, length_subformulas f), r)
 
 -- The operands of node i: the first is node i + 1, and a second one, after x, is node i + 1 + nodes x.
@@ -128,7 +128,7 @@ module _ (a : Formula) {i : ℕ} where
   next {f} {x} gs e h = inner a h (operand_first f x gs e)
 
   two : {f x y : Formula} → subformulas f ≡ f ∷ (subformulas x ++ subformulas y) → Stands a i f → Stands a (i + 1) x × Stands a (i + 1 + nodes x) y
-  two {f} {x} {y} e h = (next (subformulas y) e h, rw (← add-assoc) at (inner a h (operand_second f x y e)))
+  two {f} {x} {y} e h = (next (subformulas y) e h, rw (← add_assoc) at (inner a h (operand_second f x y e)))
 
   one : {f x : Formula} → subformulas f ≡ f ∷ subformulas x → Stands a i f → Stands a (i + 1) x
   one {f} {x} e h = next [] (rw append-nil e) h
@@ -157,17 +157,17 @@ module _ (a : Formula) {i : ℕ} where
 module _ (n : ℕ) (cell : Formula → ℕ → ℕ → Cell) where
   -- row j of some cells is that of the formula f, where row 0 is that of node k
   abbrev Row : List Cell → ℕ → ℕ → Formula → Type 0
-  Row cs k j f = (s : ℕ) → s < n → getD cs (j * n + s) (Cell.And []) ≡ cell f (k + j) s
+  Row cs k j f = (s : ℕ) → s < n → get_or cs (j * n + s) (Cell.And []) ≡ cell f (k + j) s
 
   -- the cells are a row for each of the formulas
   record Laid (k : ℕ) (fs : List Formula) (cs : List Cell) : Type 0 where
     long : length cs ≡ length fs * n
-    each : (j : ℕ) → j < length fs → Row cs k j (getD fs j False)
+    each : (j : ℕ) → j < length fs → Row cs k j (get_or fs j False)
 
   laid_row : (k : ℕ) (f : Formula) → Laid k (f ∷ []) (map (cell f k) (numbers_from 0 n))
   laid_row k f = record { long = length_map_range (cell f k) 0 n ∙ sym (one-mul n); each = at }
     where
-      at : (j : ℕ) → j < length (f ∷ []) → Row (map (cell f k) (numbers_from 0 n)) k j (getD (f ∷ []) j False)
+      at : (j : ℕ) → j < length (f ∷ []) → Row (map (cell f k) (numbers_from 0 n)) k j (get_or (f ∷ []) j False)
       at zero h s g = rw (zero-mul, zero-add, add-zero) (get_or_map_range (cell f k) 0 n s (Cell.And []) g ∙ ap (cell f k) (zero-add s))
       at (suc j) h s g = absurd (omega arith)
 
@@ -175,16 +175,16 @@ module _ (n : ℕ) (cell : Formula → ℕ → ℕ → Cell) where
   laid_join {k} {m} {fs} {gs} {cs} {ds} next a b = record { long = long; each = by_parts False fs gs (Row (cs ++ ds) k) low high }
     where
       long : length (cs ++ ds) ≡ length (fs ++ gs) * n
-      long = rw (length-append cs ds, length-append fs gs, add-mul) (omega (arith, a .long, b .long))
+      long = rw (length-append cs ds, length-append fs gs, add-mul) (omega (arith, a.long, b.long))
 
-      low : (j : ℕ) → j < length fs → Row (cs ++ ds) k j (getD fs j False)
-      low j h s g = List·getD-append cs ds (Cell.And []) (j * n + s) (rw (a .long) (digits-lt h g)) ∙ a .each j h s g
+      low : (j : ℕ) → j < length fs → Row (cs ++ ds) k j (get_or fs j False)
+      low j h s g = get_or-append cs ds (Cell.And []) (j * n + s) (rw a.long (digits_lt h g)) ∙ a.each j h s g
 
-      high : (j : ℕ) → j < length gs → Row (cs ++ ds) k (length fs + j) (getD gs j False)
+      high : (j : ℕ) → j < length gs → Row (cs ++ ds) k (length fs + j) (get_or gs j False)
       high j h s g =
-          let e : (length fs + j) * n + s ≡ length cs + (j * n + s) = rw add-mul (omega (arith, a .long)) in
+          let e : (length fs + j) * n + s ≡ length cs + (j * n + s) = rw add-mul (omega (arith, a.long)) in
           let q : m + j ≡ k + (length fs + j) = omega arith in
-          rw e (getD-append-add cs ds (j * n + s) (Cell.And []) ∙ b .each j h s g ∙ ap (λ (i : ℕ). cell (getD gs j False) i s) q)
+          rw e (get_or-append-add cs ds (j * n + s) (Cell.And []) ∙ b.each j h s g ∙ ap (λ (i : ℕ). cell (get_or gs j False) i s) q)
 
 module _ (n : ℕ) (ts : List Transition) (block : ℕ → ℕ) where
   abbrev cell : Formula → ℕ → ℕ → Cell
@@ -213,23 +213,23 @@ module _ (n : ℕ) (ts : List Transition) (block : ℕ → ℕ) where
 
   -- A formula has a cell for each node and state,
   pub cells_long : (a : Formula) (k : ℕ) → length (cells_from n ts block a k) ≡ nodes a * n
-  cells_long a k = laid a k .long ∙ ap (λ (m : ℕ). m * n) (length_subformulas a)
+  cells_long a k = (laid a k).long ∙ ap (λ (m : ℕ). m * n) (length_subformulas a)
 
   pub length_cells : (a : Formula) → length (cells_from n ts block a 0) ≡ nodes a * n
   length_cells a = cells_long a 0
 
   -- and cell i * n + s of a formula at node 0 is that of node i in state s.
   pub cell_at_lem : (a : Formula) (i s : ℕ) → i < nodes a → s < n
-      → getD (cells_from n ts block a 0) (i * n + s) (Cell.And []) ≡ cell_of n ts block (getD (subformulas a) i False) i s
-  cell_at_lem a i s h g = laid a 0 .each i (rw length_subformulas h) s g ∙ ap (λ (j : ℕ). cell (getD (subformulas a) i False) j s) (zero-add i)
+      → get_or (cells_from n ts block a 0) (i * n + s) (Cell.And []) ≡ cell_of n ts block (get_or (subformulas a) i False) i s
+  cell_at_lem a i s h g = (laid a 0).each i (rw length_subformulas h) s g ∙ ap (λ (j : ℕ). cell (get_or (subformulas a) i False) j s) (zero-add i)
 
   -- Any cell c is that of node c / n in state c % n.
   place : 0 < n → (a : Formula) (c : ℕ) → c < length (cells_from n ts block a 0)
-      → (c / n < nodes a) × (c % n < n) × (getD (cells_from n ts block a 0) c (Cell.And []) ≡ cell_of n ts block (getD (subformulas a) (c / n) False) (c / n) (c % n))
+      → (c / n < nodes a) × (c % n < n) × (get_or (cells_from n ts block a 0) c (Cell.And []) ≡ cell_of n ts block (get_or (subformulas a) (c / n) False) (c / n) (c % n))
   place states a c h =
-      let l : c / n < nodes a = div-lt-iff-lt-mul states .1 (rw length_cells at h) in
+      let l : c / n < nodes a = (div-lt_iff_lt-mul states).1 (rw length_cells at h) in
       let g : c % n < n = mod-lt c states in
-      (l, g, ap (λ (x : ℕ). getD (cells_from n ts block a 0) x (Cell.And [])) (sym (div-add-mod' c n)) ∙ cell_at_lem a (c / n) (c % n) l g)
+      (l, g, ap (λ (x : ℕ). get_or (cells_from n ts block a 0) x (Cell.And [])) (sym (div-add-mod' c n)) ∙ cell_at_lem a (c / n) (c % n) l g)
 
 -- The transitions that a box or a diamond puts in: sat is Sat⇒ or Sat∧.
 module _ (es : ℕ → Plain) (sat : Bool → Expression → Expression) (kept : (e : Expression) → left_out (sat true e) ≡ false)
@@ -244,23 +244,23 @@ module _ (es : ℕ → Plain) (sat : Bool → Expression → Expression) (kept :
   put_one false c t f g e us vs p q r = r
 
   put : (n i s : ℕ) (α : Action) (side : ℕ → Expression) → ((u : ℕ) → u < n → es (i * n + u) ≡ plain (side u))
-      → (ts : List Transition) → T (every (λ t. ltb (t .target) n) ts)
-      → plains (each (λ t. sat (accepts α (t .label)) (side (t .target))) (keep (λ t. eqb (t .source) s) ts))
-      ≡ chosen es (map (λ t. i * n + t .target) (keep (from s α) ts))
+      → (ts : List Transition) → T (every (λ t. ltb t.target n) ts)
+      → plains (each (λ t. sat (accepts α t.label) (side t.target)) (keep (λ t. eqb t.source s) ts))
+      ≡ chosen es (map (λ t. i * n + t.target) (keep (from s α) ts))
   unfolding keep every each plains chosen
   put n i s α side h [] l = refl
   put n i s α side h (t ∷ ts) l =
-      put_one (eqb (t .source) s) (accepts α (t .label)) t _ _ (side (t .target)) _ _ refl
-      (h (t .target) (ltb→lt _ _ (and_left (ltb (t .target) n) _ l))) (put n i s α side h ts (and_right (ltb (t .target) n) _ l))
+      put_one (eqb t.source s) (accepts α t.label) t _ _ (side t.target) _ _ refl
+      (h t.target (ltb→lt _ _ (and_left (ltb t.target n) _ l))) (put n i s α side h ts (and_right (ltb t.target n) _ l))
 
 -- The right-hand side of the table for each cell, without Sat: cell c is that of node c / n in state c % n.
 abbrev pub sides : ℕ → List Transition → (ℕ → ℕ) → Formula → ℕ → Plain
-sides n ts block a c = plain (RHS ts block (getD (subformulas a) (c / n) False) (c % n))
+sides n ts block a c = plain (RHS ts block (get_or (subformulas a) (c / n) False) (c % n))
 
-module _ (n : ℕ) (states : 0 < n) (ts : List Transition) (low : T (every (λ t. ltb (t .target) n) ts)) (block : ℕ → ℕ) (a : Formula) where
+module _ (n : ℕ) (states : 0 < n) (ts : List Transition) (low : T (every (λ t. ltb t.target n) ts)) (block : ℕ → ℕ) (a : Formula) where
   -- that of the formula x at node i in state s
   pub side_at : {i : ℕ} {x : Formula} → Stands a i x → (s : ℕ) → s < n → sides n ts block a (i * n + s) ≡ plain (RHS ts block x s)
-  side_at {i} (h, e) s g = rw (digits-div i g, digits-mod i g, e)
+  side_at {i} (h, e) s g = rw (digits_div i g, digits_mod i g, e)
 
   rule_at : (f : Formula) {i : ℕ} → Stands a i f → (s : ℕ) → s < n → plain (RHS ts block f s) ≡ unfolded (sides n ts block a) (cell_of n ts block f i s)
   unfolding RHS plain plains left_out unfolded chosen cell_of targets
@@ -283,14 +283,14 @@ module _ (n : ℕ) (states : 0 < n) (ts : List Transition) (low : T (every (λ t
   pub cells_RHS : Unfolding (cells_from n ts block a 0) (sides n ts block a)
   cells_RHS = record { rule = at }
     where
-      at : (c : ℕ) → c < length (cells_from n ts block a 0) → sides n ts block a c ≡ unfolded (sides n ts block a) (getD (cells_from n ts block a 0) c (Cell.And []))
+      at : (c : ℕ) → c < length (cells_from n ts block a 0) → sides n ts block a c ≡ unfolded (sides n ts block a) (get_or (cells_from n ts block a 0) c (Cell.And []))
       at c h =
           let (l, g, e) = place n ts block states a c h in
-          rw e (rule_at (getD (subformulas a) (c / n) False) (l, refl) (c % n) g)
+          rw e (rule_at (get_or (subformulas a) (c / n) False) (l, refl) (c % n) g)
 
 -- each operand is a cell
 unfoldable pub OperandsInside : List Cell → Type 0
-OperandsInside cs = (i : ℕ) → i < length cs → T (every (λ o. ltb o (length cs)) (operands_of (getD cs i (Cell.And []))))
+OperandsInside cs = (i : ℕ) → i < length cs → T (every (λ o. ltb o (length cs)) (operands_of (get_or cs i (Cell.And []))))
 
 -- Cells whose operands are cells above them unfold in one way.
 module _ (cs : List Cell) (ordered : Ordered cs) (inside : OperandsInside cs) (ds es : ℕ → Plain) (u : Unfolding cs ds) (w : Unfolding cs es) where
@@ -314,13 +314,13 @@ module _ (cs : List Cell) (ordered : Ordered cs) (inside : OperandsInside cs) (d
   unfolding Ordered OperandsInside
   one_from zero i h g = absurd (omega arith)
   one_from (suc m) i h g =
-      u .rule i g ∙ unfolded_same i (λ o l. one_from m o (omega arith)) _ (ordered i g) (inside i g) ∙ sym (w .rule i g)
+      u.rule i g ∙ unfolded_same i (λ o l. one_from m o (omega arith)) _ (ordered i g) (inside i g) ∙ sym (w.rule i g)
 
   pub unfolding_one : (i : ℕ) → i < length cs → ds i ≡ es i
   unfolding_one i h = one_from (length cs) i (omega arith) h
 
 -- The cells of a formula are such cells.
-module _ (n : ℕ) (states : 0 < n) (ts : List Transition) (low : T (every (λ t. ltb (t .target) n) ts)) (block : ℕ → ℕ) (a : Formula) where
+module _ (n : ℕ) (states : 0 < n) (ts : List Transition) (low : T (every (λ t. ltb t.target n) ts)) (block : ℕ → ℕ) (a : Formula) where
   -- what a number o is that is an operand of cell c
   abbrev good : ℕ → ℕ → Bool
   good c o = ltb c o && ltb o (nodes a * n)
@@ -328,22 +328,22 @@ module _ (n : ℕ) (states : 0 < n) (ts : List Transition) (low : T (every (λ t
   -- a cell of a later node
   good_at : (i j s u : ℕ) → i < j → j < nodes a → s < n → u < n → T (good (i * n + s) (j * n + u))
   good_at i j s u h l g r =
-      let x : i * n + s < (i + 1) * n = digits-lt {q = i} (omega arith) g in
-      let y : (i + 1) * n ≤ j * n = mul-le-mul-right n (omega arith) in
-      and_both (ltb (i * n + s) (j * n + u)) _ (lt→ltb (i * n + s) (j * n + u) (omega arith)) (lt→ltb (j * n + u) (nodes a * n) (digits-lt l r))
+      let x : i * n + s < (i + 1) * n = digits_lt {q = i} (omega arith) g in
+      let y : (i + 1) * n ≤ j * n = mul-le-mul_right n (omega arith) in
+      and_both (ltb (i * n + s) (j * n + u)) _ (lt→ltb (i * n + s) (j * n + u) (omega arith)) (lt→ltb (j * n + u) (nodes a * n) (digits_lt l r))
 
-  good_targets : (i s : ℕ) (α : Action) → i + 1 < nodes a → s < n → (us : List Transition) → T (every (λ t. ltb (t .target) n) us)
-      → T (every (good (i * n + s)) (map (λ t. (i + 1) * n + t .target) (keep (from s α) us)))
+  good_targets : (i s : ℕ) (α : Action) → i + 1 < nodes a → s < n → (us : List Transition) → T (every (λ t. ltb t.target n) us)
+      → T (every (good (i * n + s)) (map (λ t. (i + 1) * n + t.target) (keep (from s α) us)))
   unfolding every keep
   good_targets i s α h g [] l = tt
   good_targets i s α h g (t ∷ us) l =
-      go (from s α t) (good_at i (i + 1) s (t .target) (omega arith) h g (ltb→lt _ _ (and_left (ltb (t .target) n) _ l)))
-      (good_targets i s α h g us (and_right (ltb (t .target) n) _ l))
+      go (from s α t) (good_at i (i + 1) s t.target (omega arith) h g (ltb→lt _ _ (and_left (ltb t.target n) _ l)))
+      (good_targets i s α h g us (and_right (ltb t.target n) _ l))
     where
-      go : (b : Bool) → T (good (i * n + s) ((i + 1) * n + t .target))
-          → T (every (good (i * n + s)) (map (λ t. (i + 1) * n + t .target) (keep (from s α) us)))
-          → T (every (good (i * n + s)) (map (λ t. (i + 1) * n + t .target) (cond b (t ∷ keep (from s α) us) (keep (from s α) us))))
-      go true x y = and_both (good (i * n + s) ((i + 1) * n + t .target)) _ x y
+      go : (b : Bool) → T (good (i * n + s) ((i + 1) * n + t.target))
+          → T (every (good (i * n + s)) (map (λ t. (i + 1) * n + t.target) (keep (from s α) us)))
+          → T (every (good (i * n + s)) (map (λ t. (i + 1) * n + t.target) (cond b (t ∷ keep (from s α) us) (keep (from s α) us))))
+      go true x y = and_both (good (i * n + s) ((i + 1) * n + t.target)) _ x y
       go false x y = y
 
   good_both : (i m s : ℕ) → s < n → i + 1 < nodes a → i + 1 + m < nodes a
@@ -359,19 +359,19 @@ module _ (n : ℕ) (states : 0 < n) (ts : List Transition) (low : T (every (λ t
   good_operands True h s g = tt
   good_operands (And x y) {i} h s g =
       let (p, q) = and_operands a h in
-      good_both i (nodes x) s g (p .0) (q .0)
+      good_both i (nodes x) s g p.0 q.0
   good_operands (Or x y) {i} h s g =
       let (p, q) = or_operands a h in
-      good_both i (nodes x) s g (p .0) (q .0)
-  good_operands (Box α x) {i} h s g = good_targets i s α (box_operand a h .0) g ts low
-  good_operands (Diamond α x) {i} h s g = good_targets i s α (diamond_operand a h .0) g ts low
+      good_both i (nodes x) s g p.0 q.0
+  good_operands (Box α x) {i} h s g = good_targets i s α (box_operand a h).0 g ts low
+  good_operands (Diamond α x) {i} h s g = good_targets i s α (diamond_operand a h).0 g ts low
   good_operands (Variable j) h s g = tt
   good_operands (Fix sign j x) h s g = tt
 
-  good_cell : (c : ℕ) → c < length (cells_from n ts block a 0) → T (every (good c) (operands_of (getD (cells_from n ts block a 0) c (Cell.And []))))
+  good_cell : (c : ℕ) → c < length (cells_from n ts block a 0) → T (every (good c) (operands_of (get_or (cells_from n ts block a 0) c (Cell.And []))))
   good_cell c h =
       let (l, g, e) = place n ts block states a c h in
-      rw e (rw (div-add-mod' c n) at (good_operands (getD (subformulas a) (c / n) False) (l, refl) (c % n) g))
+      rw e (rw (div-add-mod' c n) at (good_operands (get_or (subformulas a) (c / n) False) (l, refl) (c % n) g))
 
   pub cells_ordered : Ordered (cells_from n ts block a 0)
   unfolding Ordered
@@ -386,5 +386,5 @@ module _ (n : ℕ) (states : 0 < n) (ts : List Transition) (low : T (every (λ t
       → es (i * n + s) ≡ plain (RHS ts block x s)
   unfolded_RHS es u {i} h s g =
       unfolding_one (cells_from n ts block a 0) cells_ordered cells_inside es (sides n ts block a) u (cells_RHS n states ts low block a)
-      (i * n + s) (rw (length_cells n ts block a) (digits-lt (h .0) g))
+      (i * n + s) (rw (length_cells n ts block a) (digits_lt h.0 g))
       ∙ side_at n states ts low block a h s g

@@ -1,19 +1,18 @@
 -- The cells and blocks of a formula: cell i * n + s is the right-hand side of node i in state s.
-use mathlib.Core.List.{List, [], _∷_, _++_, map}
-use Prim.Native.Nat.{ℕ, _+_, _*_}
-use Rattle·sets.specs.Lists.{numbers_from, keep}
-use Rattle·solver.specs.Cells.{Cell}
-use Rattle·solver.specs.File.{Block}
-use Rattle·cases.specs.Action.{Action}
-use Rattle·cases.specs.Formula.{Formula, False, True, And, Or, Box, Diamond, Variable, Fix, nodes}
-use Rattle·cases.specs.declared.Transition.{Transition}
-use Rattle·cases.specs.Meaning.{from}
+use Rattle.std.specs.Prelude.{List, [], ◌∷◌, ◌++◌, map, ℕ, ◌+◌, ◌*◌}
+use Rattle.sets.specs.Lists.{numbers_from, keep}
+use Rattle.solver.specs.Cells.{Cell}
+use Rattle.solver.specs.File.{Block}
+use Rattle.cases.specs.Action.{Action}
+use Rattle.cases.specs.Formula.{Formula, False, True, And, Or, Box, Diamond, Variable, Fix, nodes}
+use Rattle.cases.specs.declared.Transition.{Transition}
+use Rattle.cases.specs.Meaning.{from}
 
 -- n states, the distinct transitions ts, and the block of each binder
 module _ (n : ℕ) (ts : List Transition) (block : ℕ → ℕ) where
   -- one operand for each distinct transition from s whose label is accepted: the cell of node i in its target
   unfoldable pub targets : ℕ → Action → ℕ → List ℕ
-  targets i α s = map (λ t. i * n + t .target) (keep (from s α) ts)
+  targets i α s = map (λ t. i * n + t.target) (keep (from s α) ts)
 
   -- the cell of a formula that stands at node i, in state s
   unfoldable pub cell_of : Formula → ℕ → ℕ → Cell

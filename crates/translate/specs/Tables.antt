@@ -1,12 +1,9 @@
 -- The tables E and RHS of LTS2PBES, section 2 of the source, untimed and without data.
-use mathlib.Core.Bool.{Bool, true, false}
-use mathlib.Core.List.{List, [], _∷_, _++_}
-use Prim.Native.Nat.{ℕ}
-use lib.Dec.{eqb}
-use Rattle·cases.specs.Action.{accepts}
-use Rattle·cases.specs.Formula.{Formula, False, True, And, Or, Box, Diamond, Variable, Fix}
-use Rattle·cases.specs.declared.Transition.{Transition}
-use Rattle·sets.specs.Lists.{keep}
+use Rattle.std.specs.Prelude.{Bool, true, false, List, [], ◌∷◌, ◌++◌, ℕ, eqb}
+use Rattle.cases.specs.Action.{accepts}
+use Rattle.cases.specs.Formula.{Formula, False, True, And, Or, Box, Diamond, Variable, Fix}
+use Rattle.cases.specs.declared.Transition.{Transition}
+use Rattle.sets.specs.Lists.{keep}
 
 -- Right-hand sides as the table writes them; Sat is a truth value, for labels have no data. X k s is the variable of block k in state s.
 mutual
@@ -31,15 +28,15 @@ each f (t ∷ ts) = cons (f t) (each f ts)
 module _ (ts : List Transition) (block : ℕ → ℕ) where
   -- the transitions from s
   abbrev pub outgoing : ℕ → List Transition
-  outgoing s = keep (λ t. eqb (t .source) s) ts
+  outgoing s = keep (λ t. eqb t.source s) ts
 
   unfoldable pub RHS : Formula → ℕ → Expression
   RHS False s = Constant false
   RHS True s = Constant true
   RHS (And a b) s = Conj (RHS a s) (RHS b s)
   RHS (Or a b) s = Disj (RHS a s) (RHS b s)
-  RHS (Box α a) s = ⋀ (each (λ t. Sat⇒ (accepts α (t .label)) (RHS a (t .target))) (outgoing s))
-  RHS (Diamond α a) s = ⋁ (each (λ t. Sat∧ (accepts α (t .label)) (RHS a (t .target))) (outgoing s))
+  RHS (Box α a) s = ⋀ (each (λ t. Sat⇒ (accepts α t.label) (RHS a t.target)) (outgoing s))
+  RHS (Diamond α a) s = ⋁ (each (λ t. Sat∧ (accepts α t.label) (RHS a t.target)) (outgoing s))
   RHS (Variable i) s = X (block i) s
   RHS (Fix sign i a) s = X (block i) s
 

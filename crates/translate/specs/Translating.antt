@@ -1,18 +1,14 @@
 -- What `translate` answers, and what it leaves in the buffer.
-use mathlib.Core.Path.{_≡_}
-use mathlib.Core.List.{List, [], _∷_, _++_}
-use Prim.Native.Nat.{ℕ}
-use lib.Dec.{ltb}
-use lib.ListN.{length, drop}
-use Rattle·sets.specs.Refusals.{Conditions, first_of, by_refusal}
-use Rattle·cases.specs.Case.{case_of}
-use Rattle·cases.specs.Conditions.{case_conditions}
-use Rattle·cases.specs.Opening.{case_number}
-use Rattle·translate·specs.specs.Bytes.{file_of}
-use Rattle·translate·specs.specs.declared.Cause.{Cause}
-use Rattle·translate·specs.specs.declared.Cause.the-variants.{Open, Memory}
-use Rattle·translate·specs.specs.declared.Written.{Written}
-use Rattle·translate·specs.specs.declared.Written.the-variants.{File, Refused}
+use Rattle.std.specs.Prelude.{◌≡◌, List, [], ◌∷◌, ◌++◌, ℕ, ltb, length, drop}
+use Rattle.sets.specs.Refusals.{Conditions, first_of, by_refusal}
+use Rattle.cases.specs.Case.{case_of}
+use Rattle.cases.specs.Conditions.{case_conditions}
+use Rattle.cases.specs.Opening.{case_number}
+use Rattle.translate.specs.Bytes.{file_of}
+use Rattle.translate.specs.declared.Cause.{Cause}
+use Rattle.translate.specs.declared.Cause.TheVariants.{Open, Memory}
+use Rattle.translate.specs.declared.Written.{Written}
+use Rattle.translate.specs.declared.Written.TheVariants.{File, Refused}
 
 -- the equation file of the case that any bytes are read as
 abbrev pub file : List ℕ → List ℕ

@@ -1,17 +1,13 @@
 -- Cells unfolded along their operands, right-hand sides without Sat, and when a block of the file is an equation of the table E.
-use mathlib.Core.Path.{_≡_}
-use mathlib.Core.Bool.{Bool, true, false, cond}
-use mathlib.Core.List.{List, [], _∷_}
-use Prim.Native.Nat.{ℕ, _+_, _*_, _≤_, _<_}
-use lib.ListN.{length, getD}
-use Rattle·solver.specs.Cells.{Cell, And, Or, Variable}
-use Rattle·solver.specs.File.{Block}
-use Rattle·cases.specs.declared.Transition.{Transition}
-use Rattle·cases.specs.Formula.{Formula, Fix, Stands}
-use Rattle·cases.specs.Case.{Case}
-use Rattle·translate·specs.specs.Whole.{formula_of, steps_of, block_of}
-use Rattle·translate·specs.specs.Tables.{Expression, Constant, Conj, Disj, ⋀, ⋁, Sat⇒, Sat∧, X, Expressions, nil, cons, Equation, E}
-use Rattle·translate·specs.specs.Cells.{cells_from}
+use Rattle.std.specs.Prelude.{◌≡◌, Bool, true, false, cond, List, [], ◌∷◌, ℕ, ◌+◌, ◌*◌, ◌≤◌, ◌<◌, length, get_or}
+use Rattle.solver.specs.Cells.{Cell, And, Or, Variable}
+use Rattle.solver.specs.File.{Block}
+use Rattle.cases.specs.declared.Transition.{Transition}
+use Rattle.cases.specs.Formula.{Formula, Fix, Stands}
+use Rattle.cases.specs.Case.{Case}
+use Rattle.translate.specs.Whole.{formula_of, steps_of, block_of}
+use Rattle.translate.specs.Tables.{Expression, Constant, Conj, Disj, ⋀, ⋁, Sat⇒, Sat∧, X, Expressions, nil, cons, Equation, E}
+use Rattle.translate.specs.Cells.{cells_from}
 
 -- And and or of any number of plain expressions, and variables.
 mutual
@@ -65,7 +61,7 @@ unfolded es (Variable k s) = Var k s
 
 -- es are the cells unfolded along their operands: each cell's is its rule over its operands'
 pub record Unfolding (cs : List Cell) (es : ℕ → Plain) : Type 0 where
-  pub rule : (i : ℕ) → i < length cs → es i ≡ unfolded es (getD cs i (And []))
+  pub rule : (i : ℕ) → i < length cs → es i ≡ unfolded es (get_or cs i (And []))
 
 -- the equations, in order
 abbrev pub equations_of : (c : Case) → List (Equation (steps_of c) (block_of c))
@@ -76,11 +72,11 @@ pub record Agree (n : ℕ) (ts : List Transition) (block : ℕ → ℕ) (a : For
   -- the binder's node and body
   pub node : ℕ
   pub body : Formula
-  pub binder : Stands a node (Fix (e .sign) name body)
+  pub binder : Stands a node (Fix e.sign name body)
   pub operand : Stands a (node + 1) body
-  pub sign : b .sign ≡ e .sign
-  pub of : e .of ≡ block name
+  pub sign : b.sign ≡ e.sign
+  pub of : e.of ≡ block name
   -- the block's cells are those of the body, and their unfoldings the right-hand sides of the equation
-  pub first : b .first ≡ (node + 1) * n
-  pub inside : b .first + n ≤ length (cells_from n ts block a 0)
-  pub side : (s : ℕ) → s < n → es (b .first + s) ≡ plain (e .side s)
+  pub first : b.first ≡ (node + 1) * n
+  pub inside : b.first + n ≤ length (cells_from n ts block a 0)
+  pub side : (s : ℕ) → s < n → es (b.first + s) ≡ plain (e.side s)

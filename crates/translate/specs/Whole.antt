@@ -1,11 +1,8 @@
 -- The formula that is translated: a root that is not a binder first gets a nu that binds nothing used, and node numbers rise by one.
-use mathlib.Core.Bool.{Bool, true, false, cond}
-use mathlib.Core.List.{List, [], _∷_, _++_}
-use Prim.Native.Nat.{ℕ, suc, _+_}
-use lib.Dec.{eqb}
-use Rattle·cases.specs.Formula.{Formula, False, True, And, Or, Box, Diamond, Variable, Fix}
-use Rattle·cases.specs.declared.Transition.{Transition}
-use Rattle·cases.specs.Case.{Case, distinct}
+use Rattle.std.specs.Prelude.{Bool, true, false, cond, List, [], ◌∷◌, ◌++◌, ℕ, suc, ◌+◌, eqb}
+use Rattle.cases.specs.Formula.{Formula, False, True, And, Or, Box, Diamond, Variable, Fix}
+use Rattle.cases.specs.declared.Transition.{Transition}
+use Rattle.cases.specs.Case.{Case, distinct}
 
 -- all node numbers one higher
 unfoldable pub raise : Formula → Formula
@@ -53,10 +50,10 @@ block_in a i = index_in i (binder_nodes a)
 
 -- Of a case: the formula that is translated, the block of each of its binders, and its distinct transitions.
 abbrev pub formula_of : Case → Formula
-formula_of c = whole (c .formula)
+formula_of c = whole c.formula
 
 abbrev pub block_of : Case → ℕ → ℕ
 block_of c = block_in (formula_of c)
 
 abbrev pub steps_of : Case → List Transition
-steps_of c = distinct (c .transitions)
+steps_of c = distinct c.transitions

@@ -1,15 +1,14 @@
 // Writing numbers of 32 bits, low byte first.
+ghost use Rattle.std.specs.Prelude.{[], ◌∷◌, ◌+◌, ◌*◌, ◌^◌, ◌<◌, ◌≤◌, length};
+ghost use Rattle.solver.specs.File.{blocks_at};
+ghost use Rattle.translate.specs.internal.Parts.{Wrote, WroteAt, WroteMore};
+
 use solver::HEADER;
-ghost use mathlib.Core.List.{[], _∷_};
-ghost use Prim.Native.Nat.{_+_, _*_, _^_, _<_, _≤_};
-ghost use lib.ListN.{length};
-ghost use Rattle·solver.specs.File.{blocks_at};
-ghost use Rattle·translate·specs.specs.internal.Parts.{Wrote, WroteAt, WroteMore};
 
 // One number.
 pub fn put(part: &mut [u8], x: usize)
-    requires { ⌜ 4 ≤ length (now part) ⌝ }
-    ensures { λ _. ⌜ Wrote (x ∷ []) (now (part .entry)) (now (part .exit)) ⌝ }
+    requires { 4 ≤ length part.old }
+    ensures { Wrote (x ∷ []) part.old part.new }
 {
     part[0] = (x % 256) as u8;
     part[1] = (x / 256 % 256) as u8;
@@ -19,16 +18,16 @@ pub fn put(part: &mut [u8], x: usize)
 
 // One number, from the byte `at` on.
 pub fn put_at(part: &mut [u8], at: usize, x: usize)
-    requires { ⌜ at + 4 ≤ length (now part) ⌝ }
-    ensures { λ _. ⌜ WroteAt at (x ∷ []) (now (part .entry)) (now (part .exit)) ⌝ }
+    requires { at + 4 ≤ length part.old }
+    ensures { WroteAt at (x ∷ []) part.old part.new }
 {
     put(&mut part[at..], x);
 }
 
 // Two numbers.
 pub fn put_two(part: &mut [u8], x: usize, y: usize)
-    requires { ⌜ 8 ≤ length (now part) ⌝ }
-    ensures { λ _. ⌜ Wrote (x ∷ y ∷ []) (now (part .entry)) (now (part .exit)) ⌝ }
+    requires { 8 ≤ length part.old }
+    ensures { Wrote (x ∷ y ∷ []) part.old part.new }
 {
     put(part, x);
     put_at(part, 4, y);
@@ -36,8 +35,8 @@ pub fn put_two(part: &mut [u8], x: usize, y: usize)
 
 // Two numbers behind `done` others. Answers how many are then written.
 pub fn put_two_behind(part: &mut [u8], done: usize, x: usize, y: usize) -> usize
-    requires { ⌜ 4 * (done + 2) ≤ length (now part) ⌝ }
-    ensures { λ r. ⌜ WroteMore done (x ∷ y ∷ []) (now (part .entry)) (now (part .exit)) r ⌝ }
+    requires { 4 * (done + 2) ≤ length part.old }
+    ensures { WroteMore done (x ∷ y ∷ []) part.old part.new result }
 {
     let at = 4 * done;
     put_two(&mut part[at..], x, y);
@@ -46,8 +45,8 @@ pub fn put_two_behind(part: &mut [u8], done: usize, x: usize, y: usize) -> usize
 
 // Three numbers.
 pub fn put_three(part: &mut [u8], x: usize, y: usize, z: usize)
-    requires { ⌜ 12 ≤ length (now part) ⌝ }
-    ensures { λ _. ⌜ Wrote (x ∷ y ∷ z ∷ []) (now (part .entry)) (now (part .exit)) ⌝ }
+    requires { 12 ≤ length part.old }
+    ensures { Wrote (x ∷ y ∷ z ∷ []) part.old part.new }
 {
     put_two(part, x, y);
     put_at(part, 8, z);
@@ -55,16 +54,16 @@ pub fn put_three(part: &mut [u8], x: usize, y: usize, z: usize)
 
 // Three numbers, from the byte `at` on.
 pub fn put_three_at(part: &mut [u8], at: usize, x: usize, y: usize, z: usize)
-    requires { ⌜ at + 12 ≤ length (now part) ⌝ }
-    ensures { λ _. ⌜ WroteAt at (x ∷ y ∷ z ∷ []) (now (part .entry)) (now (part .exit)) ⌝ }
+    requires { at + 12 ≤ length part.old }
+    ensures { WroteAt at (x ∷ y ∷ z ∷ []) part.old part.new }
 {
     put_three(&mut part[at..], x, y, z);
 }
 
 // The header of an equation file: version, states, blocks, cells, operands, initial state, and where the tables start.
 pub fn put_header(part: &mut [u8], n: usize, d: usize, c: usize, p: usize, initial: usize)
-    requires { ⌜ (blocks_at ≤ length (now part)) × (blocks_at + 8 * d + 12 * c < 2 ^ 32) ⌝ }
-    ensures { λ _. ⌜ Wrote (1 ∷ n ∷ d ∷ c ∷ p ∷ initial ∷ blocks_at ∷ (blocks_at + 8 * d) ∷ (blocks_at + 8 * d + 12 * c) ∷ []) (now (part .entry)) (now (part .exit)) ⌝ }
+    requires { (blocks_at ≤ length part.old) × (blocks_at + 8 * d + 12 * c < 2 ^ 32) }
+    ensures { Wrote (1 ∷ n ∷ d ∷ c ∷ p ∷ initial ∷ blocks_at ∷ (blocks_at + 8 * d) ∷ (blocks_at + 8 * d + 12 * c) ∷ []) part.old part.new }
 {
     let cells = HEADER + 8 * d;
     put_three(part, 1, n, d);

@@ -6,39 +6,33 @@ mod rows;
 mod shapes;
 mod totals;
 
-use blocks::block_count;
-use blocks::write_blocks;
+ghost use Rattle.std.specs.Prelude.{◌≡◌, ◌+◌, ◌*◌, length, take};
+ghost use Rattle.cases.specs.File.{header_of};
+ghost use Rattle.cases.specs.Conditions.{Accepted};
+ghost use Rattle.cases.specs.internal.Checks.{transition_part};
+ghost use Rattle.cases.specs.internal.Links.{FirstFlags};
+ghost use Rattle.translate.specs.Bytes.{numbers};
+ghost use Rattle.translate.specs.internal.Parts.{Wrote, distinct_in};
+ghost use Rattle.translate.specs.internal.Sources.{Sources, RoomFor, shape_system, Emitted};
+ghost use Rattle.translate.specs.Translating.{translate_number, written_number, written_length, Translated};
+
+use blocks::{block_count, write_blocks};
 use bytes::put_header;
-use cases::Header;
-use cases::Opened;
-use cases::TRANSITIONS;
-use cases::first_appearances;
-use rows::write_all_cells;
-use rows::write_all_operands;
-use shapes::SHAPES;
-use shapes::added_before;
-use shapes::shapes_of;
+use cases::{Header, Opened, TRANSITIONS, first_appearances};
+use rows::{write_all_cells, write_all_operands};
+use shapes::{SHAPES, added_before, shapes_of};
 use solver::HEADER;
 use totals::operand_total;
-ghost use mathlib.Core.Path.{_≡_};
-ghost use Prim.Native.Nat.{_+_, _*_};
-ghost use lib.ListN.{length, take};
-ghost use Rattle·cases.specs.File.{header_of};
-ghost use Rattle·cases.specs.Conditions.{Accepted};
-ghost use Rattle·cases.specs.internal.Checks.{transition_part};
-ghost use Rattle·cases.specs.internal.Links.{FirstFlags};
-ghost use Rattle·translate·specs.specs.Bytes.{numbers};
-ghost use Rattle·translate·specs.specs.internal.Parts.{Wrote, distinct_in};
-ghost use Rattle·translate·specs.specs.internal.Sources.{Sources, RoomFor, shape_system, Emitted};
-ghost use Rattle·translate·specs.specs.Translating.{translate_number, written_number, written_length, Translated};
 
 // Why no file is written: found on opening the case, or the buffer is too short.
+#[derive(Drop)]
 pub enum Cause {
     Open(cases::Cause),
     Memory,
 }
 
 // The length of the file that was written, or why there is none.
+#[derive(Drop)]
 pub enum Written {
     File(usize),
     Refused(Cause),
@@ -46,6 +40,7 @@ pub enum Written {
 
 // What the writers need of a node: its kind as in the formula table, the node of a second operand, the block of a binder or variable,
 // and the labels that a box or diamond accepts, bit x for label x. What a kind does not have is 0.
+#[derive(Drop)]
 pub struct Shape {
     pub kind: usize,
     pub second: usize,
@@ -66,9 +61,10 @@ fn fill(
     d: usize,
     p: usize,
 )
-    requires { ⌜ Sources (now part) (now first) m shapes k n ⌝ ∗ ⌜ RoomFor (shape_system n initial (distinct_in (now part) (now first) m) (take k shapes)) (k * n) d p (length (now out)) ⌝ }
-    ensures { λ _. ⌜ Wrote (numbers (shape_system n initial (distinct_in (now (part .entry)) (now (first .entry)) m) (take k shapes)))
-        (now (out .entry)) (now (out .exit)) ⌝ }
+    requires fact_1 { Sources part.now first.now m shapes k n }
+    requires fact_2 { RoomFor (shape_system n initial (distinct_in part.now first.now m) (take k shapes)) (k * n) d p (length out.old) }
+    ensures { Wrote (numbers (shape_system n initial (distinct_in part.now first.now m) (take k shapes)))
+        out.old out.new }
 {
     let c = k * n;
     put_header(out, n, d, c, p, initial);
@@ -91,9 +87,9 @@ fn emit(
     n: usize,
     initial: usize,
 ) -> Written
-    requires { ⌜ Sources (now part) (now first) m shapes k n ⌝ }
-    ensures { λ w. ⌜ Emitted (shape_system n initial (distinct_in (now (part .entry)) (now (first .entry)) m) (take k shapes))
-        (now (out .entry)) w (now (out .exit)) ⌝ }
+    requires { Sources part.now first.now m shapes k n }
+    ensures { Emitted (shape_system n initial (distinct_in part.now first.now m) (take k shapes))
+        out.old result out.new }
 {
     let d = block_count(shapes, k);
     let p = operand_total(part, first, m, n, shapes, k);
@@ -108,8 +104,8 @@ fn emit(
 // The equation file of an accepted case, with its header and the flags of first appearances. The labels that an action formula accepts are
 // found once.
 pub fn write_case(case: &[u8], h: Header, first: &[u8], out: &mut [u8]) -> Written
-    requires { ⌜ Accepted (now case) × (h ≡ header_of (now case)) × FirstFlags (transition_part (now case)) (h .transitions) (now first) ⌝ }
-    ensures { λ w. ⌜ Translated (now (case .entry)) (now (out .entry)) (written_number w) (written_length w) (now (out .exit)) ⌝ }
+    requires { Accepted case.now × (h ≡ header_of case.now) × FirstFlags (transition_part case.now) h.transitions first.now }
+    ensures { Translated case.now out.old (written_number result) (written_length result) out.new }
 {
     let labels = h.labels_at;
     let records = h.transitions_at;
@@ -132,8 +128,8 @@ pub fn write_case(case: &[u8], h: Header, first: &[u8], out: &mut [u8]) -> Writt
 
 // Finds the first appearances of an accepted case, and writes its equation file.
 fn translate_opened(case: &[u8], h: Header, out: &mut [u8]) -> Written
-    requires { ⌜ Accepted (now case) × (h ≡ header_of (now case)) ⌝ }
-    ensures { λ w. ⌜ Translated (now (case .entry)) (now (out .entry)) (written_number w) (written_length w) (now (out .exit)) ⌝ }
+    requires { Accepted case.now × (h ≡ header_of case.now) }
+    ensures { Translated case.now out.old (written_number result) (written_length result) out.new }
 {
     let mut first = [0u8; TRANSITIONS];
     first_appearances(case, h, &mut first);
@@ -142,7 +138,7 @@ fn translate_opened(case: &[u8], h: Header, out: &mut [u8]) -> Written
 
 // Writes the equation file of a case to the start of a buffer.
 pub fn translate(case: &[u8], out: &mut [u8]) -> Written
-    ensures { λ w. ⌜ Translated (now (case .entry)) (now (out .entry)) (written_number w) (written_length w) (now (out .exit)) ⌝ }
+    ensures { Translated case.now out.old (written_number result) (written_length result) out.new }
 {
     match cases::open(case) {
         Opened::Accepted(h) => translate_opened(case, h, out),
@@ -152,7 +148,7 @@ pub fn translate(case: &[u8], out: &mut [u8]) -> Written
 
 // The number of a cause.
 pub fn number_of(cause: Cause) -> u8
-    ensures { λ r. ⌜ r ≡ translate_number cause ⌝ }
+    ensures { result ≡ translate_number cause }
 {
     match cause {
         Cause::Open(cause) => cases::number_of(cause),

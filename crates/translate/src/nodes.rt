@@ -1,26 +1,20 @@
 // Writing what one node of the formula gives: its cells, one for each state, and their operands.
+ghost use Rattle.std.specs.Prelude.{◌≡◌, [], ◌∷◌, map, ℕ, ◌+◌, ◌*◌, ◌^◌, ◌<◌, ◌≤◌, length};
+ghost use Rattle.sets.specs.Lists.{numbers_from};
+ghost use Rattle.sets.specs.Words.{marked, state_limit};
+ghost use Rattle.cases.specs.File.{transition_in, transition_limit, node_limit};
+ghost use Rattle.translate.specs.Bytes.{all_operands};
+ghost use Rattle.translate.specs.internal.Writing.{shape_kind, shape_operands, shape_cell};
+ghost use Rattle.translate.specs.internal.Parts.{WroteMore, WroteCellsAt, WroteCells, Recorded, Placed, distinct_in, leaves_at, leaving, target_cells, target_cell};
+
 use crate::Shape;
-use crate::bytes::put_at;
-use crate::bytes::put_three_at;
-use crate::bytes::put_two_behind;
-use crate::shapes::is_modal;
-use crate::shapes::is_pair;
-use cases::number_at;
-use cases::transition_at;
-ghost use mathlib.Core.Path.{_≡_};
-ghost use mathlib.Core.List.{[], _∷_, map};
-ghost use Prim.Native.Nat.{ℕ, _+_, _*_, _^_, _<_, _≤_};
-ghost use lib.ListN.{length};
-ghost use Rattle·sets.specs.Lists.{numbers_from};
-ghost use Rattle·sets.specs.Words.{marked, state_limit};
-ghost use Rattle·cases.specs.File.{transition_in, transition_limit, node_limit};
-ghost use Rattle·translate·specs.specs.Bytes.{all_operands};
-ghost use Rattle·translate·specs.specs.internal.Writing.{shape_kind, shape_operands, shape_cell};
-ghost use Rattle·translate·specs.specs.internal.Parts.{WroteMore, WroteCellsAt, WroteCells, Recorded, Placed, distinct_in, leaves_at, leaving, target_cells, target_cell};
+use crate::bytes::{put_at, put_three_at, put_two_behind};
+use crate::shapes::{is_modal, is_pair};
+use cases::{number_at, transition_at};
 
 // Whether bit x of a mask of labels is 1. A label past its bits is not in it.
 fn marks(labels: u64, x: usize) -> bool
-    ensures { λ r. ⌜ r ≡ marked (labels ∷ []) x ⌝ }
+    ensures { result ≡ marked (labels ∷ []) x }
 {
     if 64 <= x {
         return false;
@@ -30,8 +24,8 @@ fn marks(labels: u64, x: usize) -> bool
 
 // Whether record j is the first of its kind, from s, with its label in the mask.
 pub fn leaves(part: &[u8], first: &[u8], j: usize, s: usize, labels: u64) -> bool
-    requires { ⌜ (6 * j + 6 ≤ length (now part)) × (j < length (now first)) ⌝ }
-    ensures { λ r. ⌜ r ≡ leaves_at (now (part .entry)) (now (first .entry)) s labels j ⌝ }
+    requires { (6 * j + 6 ≤ length part.now) × (j < length first.now) }
+    ensures { result ≡ leaves_at part.now first.now s labels j }
 {
     if first[j] != 1 {
         return false;
@@ -45,8 +39,8 @@ pub fn leaves(part: &[u8], first: &[u8], j: usize, s: usize, labels: u64) -> boo
 
 // How many of the first m records.
 pub fn degree(part: &[u8], first: &[u8], m: usize, s: usize, labels: u64) -> usize
-    requires { ⌜ Recorded (now part) (now first) m ⌝ }
-    ensures { λ r. ⌜ (r ≡ length (leaving (now (part .entry)) (now (first .entry)) s labels m)) × (r ≤ m) ⌝ }
+    requires { Recorded part.now first.now m }
+    ensures { (result ≡ length (leaving part.now first.now s labels m)) × (result ≤ m) }
 {
     let mut found: usize = 0;
     for j in 0..m {
@@ -59,8 +53,8 @@ pub fn degree(part: &[u8], first: &[u8], m: usize, s: usize, labels: u64) -> usi
 
 // The target of record j.
 fn target_at(part: &[u8], j: usize) -> usize
-    requires { ⌜ 6 * j + 6 ≤ length (now part) ⌝ }
-    ensures { λ r. ⌜ (r ≡ transition_in (now (part .entry)) j .target) × (r < 2 ^ 16) ⌝ }
+    requires { 6 * j + 6 ≤ length part.now }
+    ensures { (result ≡ (transition_in part.now j).target) × (result < 2 ^ 16) }
 {
     number_at(part, 6 * j + 4)
 }
@@ -76,9 +70,9 @@ fn write_target(
     s: usize,
     labels: u64,
 ) -> usize
-    requires { ⌜ (6 * j + 6 ≤ length (now part)) × (j < length (now first)) × (base < 2 ^ 32)
-        × (4 * (done + length (target_cell (now part) (now first) base s labels j)) ≤ length (now out)) ⌝ }
-    ensures { λ r. ⌜ WroteMore done (target_cell (now (part .entry)) (now (first .entry)) base s labels j) (now (out .entry)) (now (out .exit)) r ⌝ }
+    requires { (6 * j + 6 ≤ length part.now) × (j < length first.now) × (base < 2 ^ 32)
+        × (4 * (done + length (target_cell part.now first.now base s labels j)) ≤ length out.old) }
+    ensures { WroteMore done (target_cell part.now first.now base s labels j) out.old out.new result }
 {
     if leaves(part, first, j, s, labels) {
         put_at(out, 4 * done, base + target_at(part, j));
@@ -98,9 +92,9 @@ fn write_targets(
     s: usize,
     labels: u64,
 ) -> usize
-    requires { ⌜ Recorded (now part) (now first) m × (base < 2 ^ 32)
-        × (4 * (done + length (leaving (now part) (now first) s labels m)) ≤ length (now out)) ⌝ }
-    ensures { λ r. ⌜ WroteMore done (target_cells base (leaving (now (part .entry)) (now (first .entry)) s labels m)) (now (out .entry)) (now (out .exit)) r ⌝ }
+    requires { Recorded part.now first.now m × (base < 2 ^ 32)
+        × (4 * (done + length (leaving part.now first.now s labels m)) ≤ length out.old) }
+    ensures { WroteMore done (target_cells base (leaving part.now first.now s labels m)) out.old out.new result }
 {
     let mut next = done;
     for j in 0..m {
@@ -111,8 +105,8 @@ fn write_targets(
 
 // The kind of the cells of a node of this kind.
 fn cell_kind(kind: usize) -> usize
-    requires { ⌜ kind ≤ 8 ⌝ }
-    ensures { λ r. ⌜ r ≡ shape_kind kind ⌝ }
+    requires { kind ≤ 8 }
+    ensures { result ≡ shape_kind kind }
 {
     let kinds: [usize; 9] = [1, 0, 0, 1, 0, 1, 2, 2, 2];
     kinds[kind]
@@ -120,8 +114,8 @@ fn cell_kind(kind: usize) -> usize
 
 // How many operands a node of a shape has in state s.
 pub fn operand_count(part: &[u8], first: &[u8], m: usize, x: Shape, s: usize) -> usize
-    requires { ⌜ Recorded (now part) (now first) m ⌝ }
-    ensures { λ r. ⌜ ((n i : ℕ) → r ≡ length (shape_operands n (distinct_in (now (part .entry)) (now (first .entry)) m) x i s)) × (r ≤ m + 2) ⌝ }
+    requires { Recorded part.now first.now m }
+    ensures { ((n i : ℕ) → result ≡ length (shape_operands n (distinct_in part.now first.now m) x i s)) × (result ≤ m + 2) }
 {
     if is_pair(x.kind) {
         return 2;
@@ -144,9 +138,9 @@ fn write_cell(
     s: usize,
     used: usize,
 ) -> usize
-    requires { ⌜ Recorded (now part) (now first) m × (x .kind ≤ 8) × (at + 12 ≤ length (now out)) × (used + m + 2 < 2 ^ 64) ⌝ }
-    ensures { λ r. ⌜ ((n i : ℕ) → WroteCellsAt at used (shape_cell n (distinct_in (now (part .entry)) (now (first .entry)) m) x i s ∷ []) (now (out .entry)) (now (out .exit)) r)
-        × (r ≤ used + m + 2) ⌝ }
+    requires { Recorded part.now first.now m × (x.kind ≤ 8) × (at + 12 ≤ length out.old) × (used + m + 2 < 2 ^ 64) }
+    ensures { ((n i : ℕ) → WroteCellsAt at used (shape_cell n (distinct_in part.now first.now m) x i s ∷ []) out.old out.new result)
+        × (result ≤ used + m + 2) }
 {
     let kind = cell_kind(x.kind);
     if kind == 2 {
@@ -168,8 +162,8 @@ pub fn write_cells(
     x: Shape,
     used: usize,
 ) -> usize
-    requires { ⌜ Recorded (now part) (now first) m × (x .kind ≤ 8) × (12 * n ≤ length (now out)) × (m ≤ transition_limit) × (n ≤ state_limit) × (used < 2 ^ 32) ⌝ }
-    ensures { λ r. ⌜ ((i : ℕ) → WroteCells used (map (shape_cell n (distinct_in (now (part .entry)) (now (first .entry)) m) x i) (numbers_from 0 n)) (now (out .entry)) (now (out .exit)) r) ⌝ }
+    requires { Recorded part.now first.now m × (x.kind ≤ 8) × (12 * n ≤ length out.old) × (m ≤ transition_limit) × (n ≤ state_limit) × (used < 2 ^ 32) }
+    ensures { (i : ℕ) → WroteCells used (map (shape_cell n (distinct_in part.now first.now m) x i) (numbers_from 0 n)) out.old out.new result }
 {
     let mut next = used;
     for s in 0..n {
@@ -180,8 +174,8 @@ pub fn write_cells(
 
 // Where the row of a node's cells starts.
 fn row(node: usize, n: usize) -> usize
-    requires { ⌜ (node ≤ node_limit + 2) × (n ≤ state_limit) ⌝ }
-    ensures { λ r. ⌜ (r ≡ node * n) × (r < 2 ^ 31) ⌝ }
+    requires { (node ≤ node_limit + 2) × (n ≤ state_limit) }
+    ensures { (result ≡ node * n) × (result < 2 ^ 31) }
 {
     node * n
 }
@@ -198,9 +192,9 @@ fn write_state(
     i: usize,
     s: usize,
 ) -> usize
-    requires { ⌜ Recorded (now part) (now first) m × Placed n x i × (s < n)
-        × (4 * (done + length (shape_operands n (distinct_in (now part) (now first) m) x i s)) ≤ length (now out)) ⌝ }
-    ensures { λ r. ⌜ WroteMore done (shape_operands n (distinct_in (now (part .entry)) (now (first .entry)) m) x i s) (now (out .entry)) (now (out .exit)) r ⌝ }
+    requires { Recorded part.now first.now m × Placed n x i × (s < n)
+        × (4 * (done + length (shape_operands n (distinct_in part.now first.now m) x i s)) ≤ length out.old) }
+    ensures { WroteMore done (shape_operands n (distinct_in part.now first.now m) x i s) out.old out.new result }
 {
     let low = row(i + 1, n);
     if is_pair(x.kind) {
@@ -223,9 +217,9 @@ pub fn write_operands(
     x: Shape,
     i: usize,
 ) -> usize
-    requires { ⌜ Recorded (now part) (now first) m × Placed n x i
-        × (4 * (done + length (all_operands (map (shape_cell n (distinct_in (now part) (now first) m) x i) (numbers_from 0 n)))) ≤ length (now out)) ⌝ }
-    ensures { λ r. ⌜ WroteMore done (all_operands (map (shape_cell n (distinct_in (now (part .entry)) (now (first .entry)) m) x i) (numbers_from 0 n))) (now (out .entry)) (now (out .exit)) r ⌝ }
+    requires { Recorded part.now first.now m × Placed n x i
+        × (4 * (done + length (all_operands (map (shape_cell n (distinct_in part.now first.now m) x i) (numbers_from 0 n)))) ≤ length out.old) }
+    ensures { WroteMore done (all_operands (map (shape_cell n (distinct_in part.now first.now m) x i) (numbers_from 0 n))) out.old out.new result }
 {
     let mut next = done;
     for s in 0..n {

@@ -1,19 +1,17 @@
 // Writing what all nodes of the formula give: their cells, and the operands of these.
+ghost use Rattle.std.specs.Prelude.{map, ◌+◌, ◌*◌, ◌^◌, ◌<◌, ◌≤◌, length, take};
+ghost use Rattle.sets.specs.Lists.{numbers_from};
+ghost use Rattle.sets.specs.Words.{state_limit};
+ghost use Rattle.cases.specs.File.{transition_limit};
+ghost use Rattle.translate.specs.Bytes.{all_operands};
+ghost use Rattle.translate.specs.internal.Writing.{shape_cell};
+ghost use Rattle.translate.specs.internal.Shapes.{shape_cells};
+ghost use Rattle.translate.specs.internal.Parts.{WroteAll, WroteCellsAt, WroteCells, Recorded, distinct_in};
+ghost use Rattle.translate.specs.internal.Sources.{Sources};
+
 use crate::Shape;
-use crate::nodes::write_cells;
-use crate::nodes::write_operands;
+use crate::nodes::{write_cells, write_operands};
 use crate::shapes::SHAPES;
-ghost use mathlib.Core.List.{map};
-ghost use Prim.Native.Nat.{_+_, _*_, _^_, _<_, _≤_};
-ghost use lib.ListN.{length, take};
-ghost use Rattle·sets.specs.Lists.{numbers_from};
-ghost use Rattle·sets.specs.Words.{state_limit};
-ghost use Rattle·cases.specs.File.{transition_limit};
-ghost use Rattle·translate·specs.specs.Bytes.{all_operands};
-ghost use Rattle·translate·specs.specs.internal.Writing.{shape_cell};
-ghost use Rattle·translate·specs.specs.internal.Shapes.{shape_cells};
-ghost use Rattle·translate·specs.specs.internal.Parts.{WroteAll, WroteCellsAt, WroteCells, Recorded, distinct_in};
-ghost use Rattle·translate·specs.specs.internal.Sources.{Sources};
 
 // The cells of node i, of a shape, behind those of the nodes before it. Answers how many operands come before those of the next node.
 fn write_cells_behind(
@@ -26,8 +24,8 @@ fn write_cells_behind(
     x: Shape,
     used: usize,
 ) -> usize
-    requires { ⌜ Recorded (now part) (now first) m × (x .kind ≤ 8) × (12 * (i * n + n) ≤ length (now out)) × (m ≤ transition_limit) × (n ≤ state_limit) × (used < 2 ^ 32) ⌝ }
-    ensures { λ r. ⌜ WroteCellsAt (12 * (i * n)) used (map (shape_cell n (distinct_in (now (part .entry)) (now (first .entry)) m) x i) (numbers_from 0 n)) (now (out .entry)) (now (out .exit)) r ⌝ }
+    requires { Recorded part.now first.now m × (x.kind ≤ 8) × (12 * (i * n + n) ≤ length out.old) × (m ≤ transition_limit) × (n ≤ state_limit) × (used < 2 ^ 32) }
+    ensures { WroteCellsAt (12 * (i * n)) used (map (shape_cell n (distinct_in part.now first.now m) x i) (numbers_from 0 n)) out.old out.new result }
 {
     let at = 12 * (i * n);
     write_cells(&mut out[at..], part, first, m, n, x, used)
@@ -43,8 +41,8 @@ pub fn write_all_cells(
     shapes: [Shape; SHAPES],
     k: usize,
 ) -> usize
-    requires { ⌜ Sources (now part) (now first) m shapes k n × (12 * (k * n) ≤ length (now out)) ⌝ }
-    ensures { λ r. ⌜ WroteCells 0 (shape_cells n (distinct_in (now (part .entry)) (now (first .entry)) m) 0 (take k shapes)) (now (out .entry)) (now (out .exit)) r ⌝ }
+    requires { Sources part.now first.now m shapes k n × (12 * (k * n) ≤ length out.old) }
+    ensures { WroteCells 0 (shape_cells n (distinct_in part.now first.now m) 0 (take k shapes)) out.old out.new result }
 {
     let mut used: usize = 0;
     for i in 0..k {
@@ -64,9 +62,9 @@ pub fn write_all_operands(
     shapes: [Shape; SHAPES],
     k: usize,
 ) -> usize
-    requires { ⌜ Sources (now part) (now first) m shapes k n
-        × (4 * length (all_operands (shape_cells n (distinct_in (now part) (now first) m) 0 (take k shapes))) ≤ length (now out)) ⌝ }
-    ensures { λ r. ⌜ WroteAll (all_operands (shape_cells n (distinct_in (now (part .entry)) (now (first .entry)) m) 0 (take k shapes))) (now (out .entry)) (now (out .exit)) r ⌝ }
+    requires { Sources part.now first.now m shapes k n
+        × (4 * length (all_operands (shape_cells n (distinct_in part.now first.now m) 0 (take k shapes))) ≤ length out.old) }
+    ensures { WroteAll (all_operands (shape_cells n (distinct_in part.now first.now m) 0 (take k shapes))) out.old out.new result }
 {
     let mut done: usize = 0;
     for i in 0..k {

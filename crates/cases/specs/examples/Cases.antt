@@ -1,22 +1,19 @@
 -- Worked values: what is refused, of cases whose answer the paper gives, or that are worked out here by hand.
-use mathlib.Core.Path.{_≡_, refl}
-use mathlib.Core.Bool.{Bool, true, false}
-use mathlib.Core.List.{List, [], _∷_, _++_, map, flatMap}
-use Prim.Native.Nat.{ℕ, _+_, _-_, _*_, _/_, _%_}
-use lib.ListN.{length, set, take, replicate}
-use Rattle·sets.specs.Lists.{numbers_from, every, for_some, keep}
-use Rattle·sets.specs.Words.{state_limit}
-use Rattle·solver.specs.File.{block_limit}
-use Rattle·sets.specs.Refusals.{first_of}
-use Rattle·cases·specs.specs.Action.{accepts}
-use Rattle·cases·specs.specs.Prefix.{whole_formulas, exactly, span, trees, action_at}
-use Rattle·cases·specs.specs.File.{u16, header_size, header_of, label_records, Transition, label_table, transition_table, action_table, formula_table, label_limit, name_limit, transition_limit, action_limit, node_limit}
-use Rattle·cases·specs.specs.Labels.{alike, alike_labels}
-use Rattle·cases·specs.specs.Case.{same_transition, copies, copies_before, distinct}
-use Rattle·cases·specs.specs.Tally.{tallied}
-use Rattle·cases·specs.specs.Conditions.{too_small, other_version, bad_count, bad_offset, bad_length, bad_model, padded, bad_labels, bad_actions, bad_formula, bound_ok, bad_variable, binder_count, block_total, too_deep}
-use Rattle·cases·specs.specs.internal.Checks.{largest_case}
-use Rattle·cases·specs.specs.Conditions.{layout_conditions, model_conditions, formula_conditions, case_conditions, case_refusal}
+use Rattle.std.specs.Prelude.{◌≡◌, refl, Bool, true, false, ℕ, ◌+◌, ◌-◌, ◌*◌, ◌/◌, ◌%◌, length, set, take, replicate}
+use mathlib.Core.List.{List, [], ◌∷◌, ◌++◌, map, flat_map}
+use Rattle.sets.specs.Lists.{numbers_from, every, for_some, keep}
+use Rattle.sets.specs.Words.{state_limit}
+use Rattle.solver.specs.File.{block_limit}
+use Rattle.sets.specs.Refusals.{first_of}
+use Rattle.cases.specs.Action.{accepts}
+use Rattle.cases.specs.Prefix.{whole_formulas, exactly, span, trees, action_at}
+use Rattle.cases.specs.File.{u16, header_size, header_of, label_records, Transition, label_table, transition_table, action_table, formula_table, label_limit, name_limit, transition_limit, action_limit, node_limit}
+use Rattle.cases.specs.Labels.{alike, alike_labels}
+use Rattle.cases.specs.Case.{same_transition, copies, copies_before, distinct}
+use Rattle.cases.specs.Tally.{tallied}
+use Rattle.cases.specs.Conditions.{too_small, other_version, bad_count, bad_offset, bad_length, bad_model, padded, bad_labels, bad_actions, bad_formula, bound_ok, bad_variable, binder_count, block_total, too_deep}
+use Rattle.cases.specs.internal.Checks.{largest_case}
+use Rattle.cases.specs.Conditions.{layout_conditions, model_conditions, formula_conditions, case_conditions, case_refusal}
 
 -- numbers of 16 bits as bytes, low byte first
 unfoldable pub bytes : List ℕ → List ℕ
@@ -49,7 +46,7 @@ tables = header / 2
 -- other numbers at some places
 unfoldable pub set_all : List (ℕ × ℕ) → List ℕ → List ℕ
 set_all [] xs = xs
-set_all (c ∷ cs) xs = set_all cs (set xs (c .0) (c .1))
+set_all (c ∷ cs) xs = set_all cs (set xs c.0 c.1)
 
 -- P1 with other numbers at some places: from `tables` on there are 9 numbers of transitions, 2 of the action node, 6 of formula nodes
 changed : List (ℕ × ℕ) → List ℕ
@@ -58,8 +55,8 @@ changed cs = bytes (set_all cs p1)
 
 -- nodes of kind and argument, as numbers
 unfoldable pub flat : List (ℕ × ℕ) → List ℕ
-unfolding flatMap
-flat xs = flatMap (λ x. x .0 ∷ x .1 ∷ []) xs
+unfolding flat_map
+flat xs = flat_map (λ x. x.0 ∷ x.1 ∷ []) xs
 
 -- a case of one state and three labels without transitions
 still : List (ℕ × ℕ) → List (ℕ × ℕ) → List ℕ
@@ -200,10 +197,10 @@ unfoldable pub answer : Example → ℕ
 unfolding case_refusal case_conditions first_of layout_conditions model_conditions formula_conditions too_small other_version bad_count bad_offset bad_length bad_model bad_labels
     bad_actions bad_formula bound_ok bad_variable binder_count block_total too_deep u16 header_size label_records label_table transition_table action_table formula_table padded whole_formulas
     exactly span numbers_from every for_some
-answer x = case_refusal (x .0)
+answer x = case_refusal x.0
 
 -- each example comes out as given
-pub come_out : map answer examples ≡ map (λ (x : Example). x .1) examples
+pub come_out : map answer examples ≡ map (λ (x : Example). x.1) examples
 unfolding answer examples
 come_out = refl
 

@@ -1,14 +1,9 @@
 -- Worked values of version 2: what is refused, and which labels are alike, worked out here by hand.
-use mathlib.Core.Path.{_≡_, refl}
-use mathlib.Core.Bool.{Bool}
-use mathlib.Core.List.{List, [], _∷_, _++_, map}
-use Prim.Native.Nat.{ℕ, _+_, _*_, _/_}
-use lib.Dec.{eqb}
-use lib.ListN.{length, take}
-use Rattle·sets.specs.Lists.{numbers_from, every, for_some, keep}
-use Rattle·cases·specs.specs.File.{u16, header_size, header_of, label_records, label_table, name_limit}
-use Rattle·cases·specs.specs.Labels.{names_of, occurrences, same_names, alike, alike_labels}
-use Rattle·cases·specs.specs.examples.Cases.{bytes, flat, set_all, Example, answer}
+use Rattle.std.specs.Prelude.{◌≡◌, refl, Bool, List, [], ◌∷◌, ◌++◌, map, ℕ, ◌+◌, ◌*◌, ◌/◌, eqb, length, take}
+use Rattle.sets.specs.Lists.{numbers_from, every, for_some, keep}
+use Rattle.cases.specs.File.{u16, header_size, header_of, label_records, label_table, name_limit}
+use Rattle.cases.specs.Labels.{names_of, occurrences, same_names, alike, alike_labels}
+use Rattle.cases.specs.examples.Cases.{bytes, flat, set_all, Example, answer}
 
 -- P1 with label records, number by number: header, two label records, three transitions, an action node, three formula nodes
 p1 : List ℕ
@@ -95,7 +90,7 @@ refusals =
     ∷ []
 
 -- each comes out as given
-pub refused : map answer refusals ≡ map (λ (x : Example). x .1) refusals
+pub refused : map answer refusals ≡ map (λ (x : Example). x.1) refusals
 unfolding answer refusals
 refused = refl
 

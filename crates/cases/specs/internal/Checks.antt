@@ -1,27 +1,23 @@
 -- What the functions that check a case ask and promise.
-use mathlib.Core.Path.{_≡_}
-use mathlib.Core.Bool.{Bool, true, false}
-use mathlib.Core.List.{List, map}
-use Prim.Native.Nat.{ℕ, _+_, _*_, _≤_}
-use lib.ListN.{length, drop}
-use Rattle·sets.specs.Lists.{numbers_from}
-use Rattle·sets.specs.Words.{state_limit}
-use Rattle·cases·specs.specs.Prefix.{Node}
-use Rattle·cases·specs.specs.File.{Header, header_size, version, header_of, label_records, labels_start, transitions_start, actions_start, formula_start, file_end, Label, label_in, Transition, transition_in, node_in, label_limit, transition_limit, action_limit, node_limit}
-use Rattle·cases·specs.specs.Conditions.{action_ok, node_ok}
+use Rattle.std.specs.Prelude.{◌≡◌, Bool, true, false, List, map, ℕ, ◌+◌, ◌*◌, ◌≤◌, length, drop}
+use Rattle.sets.specs.Lists.{numbers_from}
+use Rattle.sets.specs.Words.{state_limit}
+use Rattle.cases.specs.Prefix.{Node}
+use Rattle.cases.specs.File.{Header, header_size, version, header_of, label_records, labels_start, transitions_start, actions_start, formula_start, file_end, Label, label_in, Transition, transition_in, node_in, label_limit, transition_limit, action_limit, node_limit}
+use Rattle.cases.specs.Conditions.{action_ok, node_ok}
 
 -- the parts of a file that start at its tables
 abbrev pub label_part : List ℕ → List ℕ
-label_part b = drop (header_of b .«labels_at») b
+label_part b = drop (header_of b).labels_at b
 
 abbrev pub transition_part : List ℕ → List ℕ
-transition_part b = drop (header_of b .«transitions_at») b
+transition_part b = drop (header_of b).transitions_at b
 
 abbrev pub action_part : List ℕ → List ℕ
-action_part b = drop (header_of b .«actions_at») b
+action_part b = drop (header_of b).actions_at b
 
 abbrev pub formula_part : List ℕ → List ℕ
-formula_part b = drop (header_of b .«formula_at_lem») b
+formula_part b = drop (header_of b).formula_at b
 
 -- the first label records, transitions, or nodes, of a part
 unfoldable pub labels_in : List ℕ → ℕ → List Label
@@ -45,18 +41,18 @@ pub record NodesFit (limit : ℕ) (part : List ℕ) (k : ℕ) : Type 0 where
 
 -- each count is in its range
 pub record CountsFit (h : Header) : Type 0 where
-  pub some_state : 1 ≤ h .states
-  pub few_states : h .states ≤ state_limit
-  pub few_transitions : h .transitions ≤ transition_limit
-  pub some_label : 1 ≤ h .labels
-  pub few_labels : h .labels ≤ label_limit
-  pub few_actions : h .actions ≤ action_limit
-  pub some_node : 1 ≤ h .nodes
-  pub few_nodes : h .nodes ≤ node_limit
+  pub some_state : 1 ≤ h.states
+  pub few_states : h.states ≤ state_limit
+  pub few_transitions : h.transitions ≤ transition_limit
+  pub some_label : 1 ≤ h.labels
+  pub few_labels : h.labels ≤ label_limit
+  pub few_actions : h.actions ≤ action_limit
+  pub some_node : 1 ≤ h.nodes
+  pub few_nodes : h.nodes ≤ node_limit
 
 -- a part holds the label records of a header with few labels
 pub record LabelPart (part : List ℕ) (h : Header) : Type 0 where
-  pub few : h .labels ≤ label_limit
+  pub few : h.labels ≤ label_limit
   pub inside : 8 * label_records h ≤ length part
 
 -- what holds of a case and its header if none of the conditions of its layout does, but for the version
@@ -64,10 +60,10 @@ pub record Laid (b : List ℕ) (h : Header) : Type 0 where
   pub read : h ≡ header_of b
   pub header : header_size (version b) ≤ length b
   pub counts : CountsFit h
-  pub labels : h .«labels_at» ≡ labels_start h
-  pub transitions : h .«transitions_at» ≡ transitions_start h
-  pub actions : h .«actions_at» ≡ actions_start h
-  pub formula : h .«formula_at_lem» ≡ formula_start h
+  pub labels : h.labels_at ≡ labels_start h
+  pub transitions : h.transitions_at ≡ transitions_start h
+  pub actions : h.actions_at ≡ actions_start h
+  pub formula : h.formula_at ≡ formula_start h
   pub ends : length b ≡ file_end h
 
 -- how many bytes the header has that all versions have, and how many the longest one has; the code's HEADER and LONGEST_HEADER

@@ -1,18 +1,13 @@
 -- The records of a transition part linked by their source, and flagged where they are the first of their kind.
-use mathlib.Core.Path.{_≡_}
-use mathlib.Core.Bool.{cond}
-use mathlib.Core.List.{List}
-use Prim.Native.Nat.{ℕ, zero, suc, _+_, _-_, _*_, _<_, _≤_}
-use lib.Dec.{eqb}
-use lib.ListN.{length, getD}
-use Rattle·sets.specs.Words.{bit, state_limit}
-use Rattle·cases·specs.specs.File.{transition_in, transition_limit}
-use Rattle·cases·specs.specs.Case.{copies_before}
-use Rattle·cases·specs.specs.internal.Checks.{transitions_in}
+use Rattle.std.specs.Prelude.{◌≡◌, cond, List, ℕ, zero, suc, ◌+◌, ◌-◌, ◌*◌, ◌<◌, ◌≤◌, eqb, length, get_or}
+use Rattle.sets.specs.Words.{bit, state_limit}
+use Rattle.cases.specs.File.{transition_in, transition_limit}
+use Rattle.cases.specs.Case.{copies_before}
+use Rattle.cases.specs.internal.Checks.{transitions_in}
 
 -- the source of record j of a part
 abbrev pub source_in : List ℕ → ℕ → ℕ
-source_in part j = transition_in part j .source
+source_in part j = (transition_in part j).source
 
 -- the first number from j on, of k numbers, where f is s; the limit on transitions where there is none
 unfoldable pub first_on : (ℕ → ℕ) → ℕ → ℕ → ℕ → ℕ
@@ -32,8 +27,8 @@ pub record Sourced (part : List ℕ) (m : ℕ) : Type 0 where
 -- The places of all states, and of the records from i on, are filled.
 pub record LinkedFrom (part : List ℕ) (m i : ℕ) (links : List ℕ) : Type 0 where
   pub long : length links ≡ state_limit + transition_limit
-  pub state : (s : ℕ) → s < state_limit → getD links s 0 ≡ next_from part m s i
-  pub after : (j : ℕ) → i ≤ j → j < m → getD links (state_limit + j) 0 ≡ next_from part m (source_in part j) (j + 1)
+  pub state : (s : ℕ) → s < state_limit → get_or links s 0 ≡ next_from part m s i
+  pub after : (j : ℕ) → i ≤ j → j < m → get_or links (state_limit + j) 0 ≡ next_from part m (source_in part j) (j + 1)
 
 -- All are filled.
 pub record Linked (part : List ℕ) (m : ℕ) (links : List ℕ) : Type 0 where
@@ -49,4 +44,4 @@ pub record LinkedAt (part links : List ℕ) (i : ℕ) : Type 0 where
 -- flag j is 1 where transition j is the first of its kind, and 0 where it is a copy
 pub record FirstFlags (part : List ℕ) (m : ℕ) (flags : List ℕ) : Type 0 where
   pub long : m ≤ length flags
-  pub at : (j : ℕ) → j < m → getD flags j 0 ≡ bit (eqb (copies_before (transitions_in part m) j) 0)
+  pub at : (j : ℕ) → j < m → get_or flags j 0 ≡ bit (eqb (copies_before (transitions_in part m) j) 0)

@@ -1,11 +1,8 @@
 -- What the functions that read label records promise.
-use mathlib.Core.Bool.{Bool, not, _&&_, _||_}
-use mathlib.Core.List.{List}
-use Prim.Native.Nat.{ℕ}
-use lib.Dec.{eqb, leb}
-use Rattle·cases·specs.specs.File.{name_limit}
-use Rattle·cases·specs.specs.Labels.{is_name, occurrences, same_names, label_names}
-use Rattle·cases·specs.specs.internal.Checks.{labels_in}
+use Rattle.std.specs.Prelude.{Bool, not, ◌&&◌, ◌||◌, List, ℕ, eqb, leb}
+use Rattle.cases.specs.File.{name_limit}
+use Rattle.cases.specs.Labels.{is_name, occurrences, same_names, label_names}
+use Rattle.cases.specs.internal.Checks.{labels_in}
 
 -- whether k may stand behind another number in a record: it is no name above the limit, and behind a 0 it is a 0
 abbrev pub follows : ℕ → ℕ → Bool

@@ -1,12 +1,9 @@
 -- What laws about formulas and transitions speak of: free variables, how many binders there are, and lists with the same transitions.
-use mathlib.Core.Bool.{Bool, false, not, _&&_, _||_}
-use mathlib.Core.List.{List}
-use Prim.Native.Nat.{ℕ, _+_}
-use lib.Dec.{T, eqb}
-use Rattle·sets.specs.Lists.{for_some}
-use Rattle·cases·specs.specs.Formula.{Formula, False, True, And, Or, Box, Diamond, Variable, Fix}
-use Rattle·cases·specs.specs.File.{Transition}
-use Rattle·cases·specs.specs.Case.{same_transition}
+use Rattle.std.specs.Prelude.{Bool, false, not, ◌&&◌, ◌||◌, List, ℕ, ◌+◌, T, eqb}
+use Rattle.sets.specs.Lists.{for_some}
+use Rattle.cases.specs.Formula.{Formula, False, True, And, Or, Box, Diamond, Variable, Fix}
+use Rattle.cases.specs.File.{Transition}
+use Rattle.cases.specs.Case.{same_transition}
 
 -- how many binders
 unfoldable pub binders : Formula → ℕ

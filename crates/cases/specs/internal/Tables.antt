@@ -1,17 +1,13 @@
 -- Tables that can be read, and what each node makes of its operands.
-use mathlib.Core.Path.{_≡_}
-use mathlib.Core.Bool.{Bool, true, false}
-use mathlib.Core.List.{List, [], _∷_, map}
-use Prim.Native.Nat.{ℕ, _≤_, _<_}
-use lib.ListN.{length, getD}
-use Rattle·cases·specs.specs.Action.{Action}
-use Rattle·cases·specs.specs.Formula.{Formula}
-use Rattle·cases·specs.specs.Prefix.{Node, arity_in, action_arities, formula_arities, whole_formulas, exactly}
-use Rattle·cases·specs.specs.Conditions.{node_at}
+use Rattle.std.specs.Prelude.{◌≡◌, Bool, true, false, List, [], ◌∷◌, map, ℕ, ◌≤◌, ◌<◌, length, get_or}
+use Rattle.cases.specs.Action.{Action}
+use Rattle.cases.specs.Formula.{Formula}
+use Rattle.cases.specs.Prefix.{Node, arity_in, action_arities, formula_arities, whole_formulas, exactly}
+use Rattle.cases.specs.Conditions.{node_at}
 
 -- every node's kind is in range
 abbrev pub KindsTo : ℕ → List Node → Type 0
-KindsTo limit t = (i : ℕ) → i < length t → node_at t i .kind ≤ limit
+KindsTo limit t = (i : ℕ) → i < length t → (node_at t i).kind ≤ limit
 
 -- A table of whole action formulas, of known kinds.
 pub record ActionTable (t : List Node) : Type 0 where
@@ -38,7 +34,7 @@ made (binary f) a b = f a b
 -- what an action node with argument arg makes, by its kind, where `alike_to j` is the set of the labels that are alike to label j
 abbrev pub action_operator : (ℕ → List Bool) → ℕ → ℕ → Operator Action
 action_operator alike_to arg k =
-    getD
+    get_or
     (constant Action.False ∷ constant Action.True ∷ constant (Action.Label (alike_to arg))
     ∷ unary Action.Not ∷ binary Action.And ∷ binary Action.Or ∷ binary Action.Implies ∷ [])
     k (constant Action.False)
@@ -46,7 +42,7 @@ action_operator alike_to arg k =
 -- what node i of a formula makes, with argument arg, by its kind
 abbrev pub formula_operator : (ℕ → Action) → ℕ → ℕ → ℕ → Operator Formula
 formula_operator action i arg k =
-    getD
+    get_or
     (constant Formula.False ∷ constant Formula.True ∷ binary Formula.And ∷ binary Formula.Or
     ∷ unary (Formula.Box (action arg)) ∷ unary (Formula.Diamond (action arg))
     ∷ constant (Formula.Variable arg) ∷ unary (Formula.Fix false i) ∷ unary (Formula.Fix true i) ∷ [])

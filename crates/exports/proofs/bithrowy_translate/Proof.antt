@@ -1,21 +1,21 @@
 -- `bithrowy_translate` meets its contract.
-use Rattle·exports·proofs.proofs.Saying.{translate_says}
-use borrow.Author.Needs.{needs}
-use Rattle·exports·proofs.proofs.bithrowy_translate.Statement.{statement}
-use Rattle·exports·proofs.proofs.bithrowy_translate.Tie as tie
+use Rattle.exports.proofs.Saying.{translate_says}
+use borrow.Author.Rules.{rules}
+use Rattle.exports.proofs.bithrowy_translate.Statement.{statement}
+use Rattle.exports.proofs.bithrowy_translate.Tie as tie
 
 translate-requires : tie.Need-translate-requires
-translate-requires c κs = search needs
+translate-requires c κs = search rules
 
 written-requires : tie.Need-written-requires
-written-requires c κs = search needs
+written-requires c κs = search rules
 
-same-length : tie.Need-same-length
-same-length c = search needs
+same_length : tie.Need-same-length
+same_length c = search rules
 
 returns : tie.Need-returns
-returns c = translate_says (c .before .before .before .translate .ensures) (c .written .ensures)
+returns c = translate_says c.before.before.before.translate.ensures c.written.ensures
 
 pub bithrowy_translate_spec : {M : Type 1} → statement M
 bithrowy_translate_spec =
-    tie.close (tie.spec translate-requires written-requires same-length returns)
+    tie.close (tie.spec translate-requires written-requires same_length returns)

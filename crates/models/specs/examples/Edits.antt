@@ -1,18 +1,15 @@
 -- Worked values: P1's model opened, edited and refused. The bytes were worked out by hand.
-use mathlib.Core.Path.{_≡_, refl}
-use mathlib.Core.List.{List, [], _∷_, _++_, map}
-use Prim.Native.Nat.{ℕ}
-use lib.ListN.{take, replicate}
-use Rattle·sets.specs.Lists.{numbers_from, every, for_some, keep}
-use Rattle·sets.specs.Refusals.{first_of, refused}
-use Rattle·cases.specs.declared.Transition.{Transition}
-use Rattle·cases.specs.File.{u16, header_size, label_records, transition_table, case_within}
-use Rattle·cases.specs.Case.{same_transition, copies, copies_before, distinct}
-use Rattle·cases.specs.Conditions.{too_small, other_version, bad_count, bad_offset, bad_length, layout_conditions}
-use Rattle·records.specs.Replaced.{table_bytes, with_number, head_for, with_transitions}
-use Rattle·records.specs.Places.{place_of, without_at}
-use Rattle·models·specs.specs.History.{Add, Drop, Want, held_after}
-use Rattle·models·specs.specs.Model.{adding, dropping, add_checks, drop_checks, model_room, opened_model, add_conditions, added_model, drop_conditions, dropped_model}
+use Rattle.std.specs.Prelude.{◌≡◌, refl, List, [], ◌∷◌, ◌++◌, map, ℕ, take, replicate}
+use Rattle.sets.specs.Lists.{numbers_from, every, for_some, keep}
+use Rattle.sets.specs.Refusals.{first_of, refused}
+use Rattle.cases.specs.declared.Transition.{Transition}
+use Rattle.cases.specs.File.{u16, header_size, label_records, transition_table, case_within}
+use Rattle.cases.specs.Case.{same_transition, copies, copies_before, distinct}
+use Rattle.cases.specs.Conditions.{too_small, other_version, bad_count, bad_offset, bad_length, layout_conditions}
+use Rattle.records.specs.Replaced.{table_bytes, with_number, head_for, with_transitions}
+use Rattle.records.specs.Places.{place_of, without_at}
+use Rattle.models.specs.History.{Add, Drop, Want, held_after}
+use Rattle.models.specs.Model.{adding, dropping, add_checks, drop_checks, model_room, opened_model, add_conditions, added_model, drop_conditions, dropped_model}
 
 abbrev t : ℕ → ℕ → ℕ → Transition
 t s l e = record { source = s; label = l; target = e }

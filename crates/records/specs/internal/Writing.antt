@@ -1,15 +1,12 @@
 -- What the writers of this crate ask and promise.
-use mathlib.Core.Path.{_≡_}
-use mathlib.Core.List.{List, _++_}
-use Prim.Native.Nat.{ℕ, _+_, _*_, _<_}
-use lib.ListN.{length, getD, take, drop}
-use Rattle·cases.specs.declared.Header.{Header}
-use Rattle·cases.specs.declared.Transition.{Transition}
-use Rattle·records·specs.specs.Replaced.{table_bytes}
+use Rattle.std.specs.Prelude.{◌≡◌, List, ◌++◌, ℕ, ◌+◌, ◌*◌, ◌<◌, length, get_or, take, drop}
+use Rattle.cases.specs.declared.Header.{Header}
+use Rattle.cases.specs.declared.Transition.{Transition}
+use Rattle.records.specs.Replaced.{table_bytes}
 
 -- each number is a byte
 abbrev pub AllBytes : List ℕ → Type 0
-AllBytes b = (i : ℕ) → getD b i 0 < 256
+AllBytes b = (i : ℕ) → get_or b i 0 < 256
 
 -- bytes with others in their place from `at` on
 abbrev pub over : List ℕ → ℕ → List ℕ → List ℕ
@@ -28,15 +25,15 @@ pub record RecordsWritten (ts : List Transition) (before after : List ℕ) (r : 
 -- a header for a table of k transitions, where the tables stand as they have to
 abbrev pub recounted : Header → ℕ → Header
 recounted h k = record {
-  version = h .version;
-  states = h .states;
+  version = h.version;
+  states = h.states;
   transitions = k;
-  labels = h .labels;
-  initial = h .initial;
-  actions = h .actions;
-  nodes = h .nodes;
-  «labels_at» = h .«labels_at»;
-  «transitions_at» = h .«transitions_at»;
-  «actions_at» = h .«transitions_at» + 6 * k;
-  «formula_at_lem» = h .«transitions_at» + 6 * k + 4 * h .actions;
+  labels = h.labels;
+  initial = h.initial;
+  actions = h.actions;
+  nodes = h.nodes;
+  labels_at = h.labels_at;
+  transitions_at = h.transitions_at;
+  actions_at = h.transitions_at + 6 * k;
+  formula_at_lem = h.transitions_at + 6 * k + 4 * h.actions;
 }

@@ -1,33 +1,33 @@
 -- `direct` meets its contract: the case is opened, and evaluated or refused.
-use Rattle·cases.proofs.Openings.{accepted}
-use Rattle·routes·proofs.proofs.Refusing.{direct_refused}
-use borrow.Author.Needs.{needs}
-use Rattle·routes·proofs.proofs.direct.Statement.{statement}
-use Rattle·routes·proofs.proofs.direct.Tie as tie
+use Rattle.cases.proofs.Openings.{accepted}
+use Rattle.routes.proofs.Refusing.{direct_refused}
+use borrow.Author.Rules.{rules}
+use Rattle.routes.proofs.direct.Statement.{statement}
+use Rattle.routes.proofs.direct.Tie as tie
 
 open-requires : tie.Need-open-requires
-open-requires c κs = search needs
+open-requires c κs = search rules
 
 enum-known-h : tie.Need-enum-known-h
-enum-known-h c = search needs
+enum-known-h c = search rules
 
 direct-opened-requires : tie.Need-direct-opened-requires
-direct-opened-requires c κs = accepted (c .before .before .before .before .«open» .ensures) (c .before .before .h .given .1)
+direct-opened-requires c κs = accepted c.before.before.before.before.«open».ensures c.before.before.h.given.1
 
 enum-known-cause : tie.Need-enum-known-cause
-enum-known-cause c = search needs
+enum-known-cause c = search rules
 
 unopened-requires : tie.Need-unopened-requires
-unopened-requires c κs = search needs
+unopened-requires c κs = search rules
 
-same-length : tie.Need-same-length
-same-length c = search needs
+same_length : tie.Need-same-length
+same_length c = search rules
 
 returns : tie.Need-returns
-returns c = search needs
+returns c = search rules
 
 returns-2 : tie.Need-returns-2
-returns-2 c = direct_refused _ (c .before .before .before .before .«open» .ensures) (c .before .before .cause .given .1) (c .unopened .ensures)
+returns-2 c = direct_refused _ c.before.before.before.before.«open».ensures c.before.before.cause.given.1 c.unopened.ensures
 
 pub direct_spec : {M : Type 1} → statement M
 direct_spec =
@@ -38,6 +38,6 @@ direct_spec =
     direct-opened-requires
     enum-known-cause
     unopened-requires
-    same-length
+    same_length
     returns
     returns-2)

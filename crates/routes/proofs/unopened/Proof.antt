@@ -1,8 +1,8 @@
 -- `unopened` meets its contract.
 use mathlib.Core.Path.{refl}
-use Rattle·routes·specs.specs.Route.{route_number, route_answer}
-use Rattle·routes·proofs.proofs.unopened.Statement.{statement}
-use Rattle·routes·proofs.proofs.unopened.Tie as tie
+use Rattle.routes.specs.Route.{route_number, route_answer}
+use Rattle.routes.proofs.unopened.Statement.{statement}
+use Rattle.routes.proofs.unopened.Tie as tie
 
 returns : tie.Need-returns
 unfolding route_answer route_number

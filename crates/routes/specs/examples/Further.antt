@@ -1,10 +1,9 @@
 -- Further cases, worked out by hand: what both routes answer.
-use mathlib.Core.Path.{_≡_, refl}
-use mathlib.Core.List.{List, [], _∷_, map}
-use Rattle·sets.specs.Refusals.{refused}
-use Rattle·translate.specs.examples.Translations.{halves, case_file, p1, p4, copied, middle, still}
-use Rattle·routes·specs.specs.Route.{direct, equation, program_limit}
-use Rattle·routes·specs.specs.examples.Paper.{Example, reported, tally, answer, tally_in}
+use Rattle.std.specs.Prelude.{◌≡◌, refl, List, [], ◌∷◌, map}
+use Rattle.sets.specs.Refusals.{refused}
+use Rattle.translate.specs.examples.Translations.{halves, case_file, p1, p4, copied, middle, still}
+use Rattle.routes.specs.Route.{direct, equation, program_limit}
+use Rattle.routes.specs.examples.Paper.{Example, reported, tally, answer, tally_in}
 
 pub further : List Example
 unfolding p1 p4 copied middle still case_file halves reported tally
@@ -22,8 +21,8 @@ further =
     ∷ (middle, program_limit, reported 0 1 2, reported 0 1 2, tally 4 4)
     ∷ []
 
-pub runs : (map (answer equation) further ≡ map (λ (x : Example). x .2) further)
-    × (map (answer direct) further ≡ map (λ (x : Example). x .3) further)
-    × (map tally_in further ≡ map (λ (x : Example). x .4) further)
+pub runs : (map (answer equation) further ≡ map (λ (x : Example). x.2) further)
+    × (map (answer direct) further ≡ map (λ (x : Example). x.3) further)
+    × (map tally_in further ≡ map (λ (x : Example). x.4) further)
 unfolding answer tally_in further
 runs = (refl, refl, refl)

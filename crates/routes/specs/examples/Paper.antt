@@ -1,31 +1,29 @@
 -- P1 to P8 of the scope: what both routes answer, with the memory that the program lends, and how many records are copies.
-use mathlib.Core.Path.{_≡_, refl}
-use mathlib.Core.List.{List, [], _∷_, map}
-use Prim.Native.Nat.{ℕ}
-use Rattle·sets.specs.Lists.{numbers_from, every, for_some, keep}
-use Rattle·sets.specs.States.{size, update}
-use Rattle·sets.specs.computed.Iteration.{repeated, same}
-use Rattle·solver.specs.Cells.{value, operands_of}
-use Rattle·solver.specs.computed.Solved.{evaluate, work_out, solved, run}
-use Rattle·solver.specs.File.{u32, blocks, operands, entries, cells, entry_cell}
-use Rattle·sets.specs.Refusals.{Outcome, refused, first_of, outcome_by}
-use Rattle·solver.specs.Outcome.{solve_too_short}
-use Rattle·cases.specs.Action.{accepts}
-use Rattle·cases.specs.Formula.{nodes}
-use Rattle·cases.specs.Prefix.{trees, action_at, formula_at, whole_formulas, exactly, span}
-use Rattle·cases.specs.File.{u16, header_size, label_records, label_table, transition_table, action_table, formula_table}
-use Rattle·cases.specs.Labels.{names_of, occurrences, same_names, alike, alike_labels}
-use Rattle·cases.specs.Case.{case_of, same_transition, copies, copies_before, distinct}
-use Rattle·cases.specs.Conditions.{too_small, other_version, bad_count, bad_offset, bad_length, bad_model, padded, bad_labels, bad_actions, bad_formula, bound_ok, bad_variable, binder_count, block_total, too_deep, layout_conditions, model_conditions, formula_conditions, case_conditions, case_refusal}
-use Rattle·cases.specs.Tally.{tallied, tally_of}
-use Rattle·cases.specs.declared.Tally.{Tally}
-use Rattle·translate.specs.Whole.{raise, binds_first, whole, binder_nodes, index_in, block_in}
-use Rattle·translate.specs.Cells.{targets, cell_of, cells_from, blocks_from}
-use Rattle·translate.specs.Bytes.{system_of, all_operands, block_numbers, cell_numbers, numbers, bytes, file_of}
-use Rattle·translate.specs.Translating.{file}
-use Rattle·translate.specs.examples.Translations.{halves, case_file, still, p1, p1_equations, p2, p3, p4, p5, p6, p7, p8}
-use Rattle·routes·specs.specs.computed.Worked.{worked}
-use Rattle·routes·specs.specs.Route.{Route, direct, equation, run_of, too_short as Route·too_short, exceeds as Route·exceeds, run_conditions, route_conditions, route_outcome, outcome_of, program_limit, program_memory}
+use Rattle.std.specs.Prelude.{◌≡◌, refl, List, [], ◌∷◌, map, ℕ}
+use Rattle.sets.specs.Lists.{numbers_from, every, for_some, keep}
+use Rattle.sets.specs.States.{size, update}
+use Rattle.sets.specs.computed.Iteration.{repeated, same}
+use Rattle.solver.specs.Cells.{value, operands_of}
+use Rattle.solver.specs.computed.Solved.{evaluate, work_out, solved, run}
+use Rattle.solver.specs.File.{u32, blocks, operands, entries, cells, entry_cell}
+use Rattle.sets.specs.Refusals.{Outcome, refused, first_of, outcome_by}
+use Rattle.solver.specs.Outcome.{solve_too_short}
+use Rattle.cases.specs.Action.{accepts}
+use Rattle.cases.specs.Formula.{nodes}
+use Rattle.cases.specs.Prefix.{trees, action_at, formula_at, whole_formulas, exactly, span}
+use Rattle.cases.specs.File.{u16, header_size, label_records, label_table, transition_table, action_table, formula_table}
+use Rattle.cases.specs.Labels.{names_of, occurrences, same_names, alike, alike_labels}
+use Rattle.cases.specs.Case.{case_of, same_transition, copies, copies_before, distinct}
+use Rattle.cases.specs.Conditions.{too_small, other_version, bad_count, bad_offset, bad_length, bad_model, padded, bad_labels, bad_actions, bad_formula, bound_ok, bad_variable, binder_count, block_total, too_deep, layout_conditions, model_conditions, formula_conditions, case_conditions, case_refusal}
+use Rattle.cases.specs.Tally.{tallied, tally_of}
+use Rattle.cases.specs.declared.Tally.{Tally}
+use Rattle.translate.specs.Whole.{raise, binds_first, whole, binder_nodes, index_in, block_in}
+use Rattle.translate.specs.Cells.{targets, cell_of, cells_from, blocks_from}
+use Rattle.translate.specs.Bytes.{system_of, all_operands, block_numbers, cell_numbers, numbers, bytes, file_of}
+use Rattle.translate.specs.Translating.{file}
+use Rattle.translate.specs.examples.Translations.{halves, case_file, still, p1, p1_equations, p2, p3, p4, p5, p6, p7, p8}
+use Rattle.routes.specs.computed.Worked.{worked}
+use Rattle.routes.specs.Route.{Route, direct, equation, run_of, too_short as Route·too_short, exceeds as Route·exceeds, run_conditions, route_conditions, route_outcome, outcome_of, program_limit, program_memory}
 
 -- a case, a limit, what the equation route and direct answer, and the tally of both
 abbrev pub Example : Type 0
@@ -63,19 +61,19 @@ unfolding route_outcome outcome_by route_conditions run_conditions Route·too_sh
     too_deep whole_formulas exactly span file_of numbers system_of bytes cell_numbers block_numbers all_operands operands_of cells_from
     blocks_from cell_of targets whole raise binds_first binder_nodes index_in block_in solve_too_short run solved evaluate work_out value u32
     blocks operands entries entry_cell cells
-answer R x = outcome_of R (x .0) program_memory (x .1)
+answer R x = outcome_of R x.0 program_memory x.1
 
 -- the tally of an example, with all that this computes with
 unfoldable pub tally_in : Example → Tally
 unfolding tally_of tallied case_refusal numbers_from every for_some u16 header_size label_records label_table transition_table action_table formula_table case_of same_transition copies copies_before keep
     distinct case_conditions first_of layout_conditions model_conditions formula_conditions too_small other_version bad_count bad_offset bad_length bad_model
     bad_labels padded bad_actions bad_formula bound_ok bad_variable binder_count block_total too_deep whole_formulas exactly span
-tally_in x = tally_of (x .0)
+tally_in x = tally_of x.0
 
 -- P1 to P8 come out as given, by both routes; P1 has its equation file, and P7 has d 7
-pub runs : (map (answer equation) paper ≡ map (λ (x : Example). x .2) paper)
-    × (map (answer direct) paper ≡ map (λ (x : Example). x .3) paper)
-    × (map tally_in paper ≡ map (λ (x : Example). x .4) paper)
+pub runs : (map (answer equation) paper ≡ map (λ (x : Example). x.2) paper)
+    × (map (answer direct) paper ≡ map (λ (x : Example). x.3) paper)
+    × (map tally_in paper ≡ map (λ (x : Example). x.4) paper)
     × (file p1 ≡ p1_equations)
     × (block_total (formula_table p7) ≡ 7)
 unfolding answer tally_in paper p1_equations

@@ -1,12 +1,9 @@
 -- P1 to P8 with label records, and cases in which labels are alike: what both routes answer, with the memory that the program lends.
-use mathlib.Core.Path.{_≡_, refl}
-use mathlib.Core.List.{List, [], _∷_, _++_, map}
-use Prim.Native.Nat.{ℕ, _+_, _*_, _/_}
-use lib.ListN.{length}
-use Rattle·sets.specs.Refusals.{refused}
-use Rattle·translate.specs.examples.Translations.{halves, labelled}
-use Rattle·routes·specs.specs.Route.{direct, equation, program_limit}
-use Rattle·routes·specs.specs.examples.Paper.{Example, reported, tally, paper, answer, tally_in}
+use Rattle.std.specs.Prelude.{◌≡◌, refl, List, [], ◌∷◌, ◌++◌, map, ℕ, ◌+◌, ◌*◌, ◌/◌, length}
+use Rattle.sets.specs.Refusals.{refused}
+use Rattle.translate.specs.examples.Translations.{halves, labelled}
+use Rattle.routes.specs.Route.{direct, equation, program_limit}
+use Rattle.routes.specs.examples.Paper.{Example, reported, tally, paper, answer, tally_in}
 
 -- a version 2 case of two states and two labels, with the names and the transitions given as numbers: is there a step of label 0?
 fires : List ℕ → List ℕ → List ℕ
@@ -43,11 +40,11 @@ firing =
 -- all of P1 to P8, with a label record for each label, are answered as they are without
 pub examples : List Example
 unfolding paper labelled firing
-examples = map (λ x. (labelled (x .0), x .1, x .2, x .3, x .4)) paper ++ firing
+examples = map (λ x. (labelled x.0, x.1, x.2, x.3, x.4)) paper ++ firing
 
 -- they come out as given, by both routes
-pub runs : (map (answer equation) examples ≡ map (λ (x : Example). x .2) examples)
-    × (map (answer direct) examples ≡ map (λ (x : Example). x .3) examples)
-    × (map tally_in examples ≡ map (λ (x : Example). x .4) examples)
+pub runs : (map (answer equation) examples ≡ map (λ (x : Example). x.2) examples)
+    × (map (answer direct) examples ≡ map (λ (x : Example). x.3) examples)
+    × (map tally_in examples ≡ map (λ (x : Example). x.4) examples)
 unfolding answer tally_in examples
 runs = (refl, refl, refl)

@@ -1,26 +1,22 @@
 -- What the evaluator's parts are handed, and what they answer.
-use mathlib.Core.Path.{_≡_}
-use mathlib.Core.Bool.{Bool, true, false, cond}
-use mathlib.Core.List.{List, [], map}
-use Prim.Native.Nat.{ℕ, _+_, _*_, _<_, _≤_}
-use lib.ListN.{length, getD, take}
-use Rattle·sets.specs.States.{States, Valuation}
-use Rattle·sets.specs.Words.{words, word_count, state_limit}
-use Rattle·sets.specs.Lists.{every}
-use Rattle·solver.specs.File.{block_limit}
-use Rattle·cases.specs.File.{label_limit, action_limit, node_limit}
-use Rattle·cases.specs.Action.{Action}
-use Rattle·cases.specs.declared.Header.{Header}
-use Rattle·cases.specs.declared.Node.{Node}
-use Rattle·cases.specs.declared.Transition.{Transition}
-use Rattle·cases.specs.Prefix.{arity_in, formula_arities, end_of, formula_at}
-use Rattle·cases.specs.Case.{Case}
-use Rattle·cases.specs.Conditions.{transition_ok, node_at, is_binder, binder_count, bad_formula, bad_variable}
-use Rattle·cases.specs.internal.Masks.{WholeActions, action_in, ActionMasks}
-use Rattle·cases.specs.Meaning.{box_in, diamond_in}
-use Rattle·cases.specs.internal.Checks.{transitions_in, nodes_in, LabelPart, NodesFit}
-use Rattle·routes·specs.specs.Direct.{Direct}
-use Rattle·routes·specs.specs.declared.Value.{Value}
+use Rattle.std.specs.Prelude.{◌≡◌, Bool, true, false, cond, List, [], map, ℕ, ◌+◌, ◌*◌, ◌<◌, ◌≤◌, length, get_or, take}
+use Rattle.sets.specs.States.{States, Valuation}
+use Rattle.sets.specs.Words.{words, word_count, state_limit}
+use Rattle.sets.specs.Lists.{every}
+use Rattle.solver.specs.File.{block_limit}
+use Rattle.cases.specs.File.{label_limit, action_limit, node_limit}
+use Rattle.cases.specs.Action.{Action}
+use Rattle.cases.specs.declared.Header.{Header}
+use Rattle.cases.specs.declared.Node.{Node}
+use Rattle.cases.specs.declared.Transition.{Transition}
+use Rattle.cases.specs.Prefix.{arity_in, formula_arities, end_of, formula_at}
+use Rattle.cases.specs.Case.{Case}
+use Rattle.cases.specs.Conditions.{transition_ok, node_at, is_binder, binder_count, bad_formula, bad_variable}
+use Rattle.cases.specs.internal.Masks.{WholeActions, action_in, ActionMasks}
+use Rattle.cases.specs.Meaning.{box_in, diamond_in}
+use Rattle.cases.specs.internal.Checks.{transitions_in, nodes_in, LabelPart, NodesFit}
+use Rattle.routes.specs.Direct.{Direct}
+use Rattle.routes.specs.declared.Value.{Value}
 
 -- the values that are returned
 abbrev pub returned : List ℕ → ℕ → ℕ → Bool → Value
@@ -47,48 +43,48 @@ pub record FormulaPart (part : List ℕ) (f actions : ℕ) : Type 0 where
 -- the case of a header's counts and the parts of a file that start at its tables
 unfoldable pub case_in : Header → List ℕ → List ℕ → List ℕ → List ℕ → Case
 case_in h labels records actions formula = record {
-  states = h .states;
-  labels = h .labels;
-  initial = h .initial;
-  transitions = transitions_in records (h .transitions);
-  formula = formula_at (action_in h labels actions) (nodes_in formula (h .nodes)) 0;
+  states = h.states;
+  labels = h.labels;
+  initial = h.initial;
+  transitions = transitions_in records h.transitions;
+  formula = formula_at (action_in h labels actions) (nodes_in formula h.nodes) 0;
 }
 
 -- What direct needs of the parts; those of an accepted case have it.
 pub record CaseParts (h : Header) (labels records actions formula : List ℕ) : Type 0 where
-  pub model : Records records (h .transitions) (h .states) (h .labels)
-  pub initial : h .initial < h .states
+  pub model : Records records h.transitions h.states h.labels
+  pub initial : h.initial < h.states
   pub label_part_lem : LabelPart labels h
-  pub action_part_lem : NodesFit action_limit actions (h .actions)
-  pub whole_actions : WholeActions (h .labels) (nodes_in actions (h .actions))
-  pub formula_part_lem : FormulaPart formula (h .nodes) (h .actions)
+  pub action_part_lem : NodesFit action_limit actions h.actions
+  pub whole_actions : WholeActions h.labels (nodes_in actions h.actions)
+  pub formula_part_lem : FormulaPart formula h.nodes h.actions
 
 -- number i is the block of binder i: the binders before it are counted
 pub record BinderBlocks (table : List Node) (blocks : List ℕ) : Type 0 where
-  pub block : (i : ℕ) → i < length table → is_binder (node_at table i) ≡ true → getD blocks i 0 ≡ binder_count (take i table)
+  pub block : (i : ℕ) → i < length table → is_binder (node_at table i) ≡ true → get_or blocks i 0 ≡ binder_count (take i table)
 
 -- all of it, with room for a mask of each action formula and a block of each node
 pub record Parts (h : Header) (records formula masks blocks : List ℕ) : Type 0 where
-  pub model : Records records (h .transitions) (h .states) (h .labels)
-  pub nodes : FormulaPart formula (h .nodes) (h .actions)
-  pub masks_room : h .actions ≤ length masks
-  pub blocks_room : h .nodes ≤ length blocks
-  pub numbered : BinderBlocks (nodes_in formula (h .nodes)) blocks
+  pub model : Records records h.transitions h.states h.labels
+  pub nodes : FormulaPart formula h.nodes h.actions
+  pub masks_room : h.actions ≤ length masks
+  pub blocks_room : h.nodes ≤ length blocks
+  pub numbered : BinderBlocks (nodes_in formula h.nodes) blocks
 
 -- row k is the words of the set of the binder with block k
 pub record Shown (n : ℕ) (table : List Node) (rows : List (List ℕ)) (ρ : Valuation) : Type 0 where
   pub sized : (i : ℕ) → length (ρ i) ≡ n
-  pub row : (i : ℕ) → i < length table → is_binder (node_at table i) ≡ true → getD rows (binder_count (take i table)) [] ≡ words word_count (ρ i)
+  pub row : (i : ℕ) → i < length table → is_binder (node_at table i) ≡ true → get_or rows (binder_count (take i table)) [] ≡ words word_count (ρ i)
 
 -- a node to evaluate, after `used` rounds
 pub record Asks (h : Header) (records formula masks blocks : List ℕ) (at used limit : ℕ) : Type 0 where
   pub parts : Parts h records formula masks blocks
-  pub node : at < h .nodes
+  pub node : at < h.nodes
   pub within : used ≤ limit
 
 -- the kind of node `at`, which is one of two
 pub record KindAt (formula : List ℕ) (f at kind low high : ℕ) : Type 0 where
-  pub are : kind ≡ node_at (nodes_in formula f) at .kind
+  pub are : kind ≡ (node_at (nodes_in formula f) at).kind
   pub from : low ≤ kind
   pub to : kind ≤ high
 
@@ -97,14 +93,14 @@ module _ (h : Header) (records formula masks : List ℕ) (rows : List (List ℕ)
   -- what the rule works out at the node
   abbrev pub Rule : (ℕ → Action) → Valuation → States → ℕ → Type 0
   Rule action ρ v r =
-      ActionMasks action (h .actions) masks
-      × Shown (h .states) (nodes_in formula (h .nodes)) rows ρ
-      × Direct (h .states) (transitions_in records (h .transitions)) (formula_at action (nodes_in formula (h .nodes)) at) ρ v r
+      ActionMasks action h.actions masks
+      × Shown h.states (nodes_in formula h.nodes) rows ρ
+      × Direct h.states (transitions_in records h.transitions) (formula_at action (nodes_in formula h.nodes) at) ρ v r
 
   pub record Evaluated (o : Value) : Type 0 where
-    pub over : o .spent ≡ true → (action : ℕ → Action) (ρ : Valuation) (v : States) (r : ℕ) → Rule action ρ v r → limit < used + r
-    pub low : o .spent ≡ false → used ≤ o .rounds
-    pub high : o .spent ≡ false → o .rounds ≤ limit
-    pub ends : o .spent ≡ false → o .next ≡ end_of (map (arity_in formula_arities) (nodes_in formula (h .nodes))) at
-    pub right : o .spent ≡ false → (action : ℕ → Action) (ρ : Valuation) (v : States) (r : ℕ) → Rule action ρ v r →
-        (o .rounds ≡ used + r) × (o .set ≡ words word_count v)
+    pub over : o.spent ≡ true → (action : ℕ → Action) (ρ : Valuation) (v : States) (r : ℕ) → Rule action ρ v r → limit < used + r
+    pub low : o.spent ≡ false → used ≤ o.rounds
+    pub high : o.spent ≡ false → o.rounds ≤ limit
+    pub ends : o.spent ≡ false → o.next ≡ end_of (map (arity_in formula_arities) (nodes_in formula h.nodes)) at
+    pub right : o.spent ≡ false → (action : ℕ → Action) (ρ : Valuation) (v : States) (r : ℕ) → Rule action ρ v r →
+        (o.rounds ≡ used + r) × (o.set ≡ words word_count v)

@@ -1,41 +1,41 @@
-use Prim.Native.Nat.{_-_, _^_}
+use Prim.Native.Nat.{◌-◌, ◌^◌}
 use native.Mathlib.Omega.{arith}
-use Rattle·runs·proofs.proofs.main.Statement.{statement}
-use Rattle·runs·proofs.proofs.main.Tie as tie
+use Rattle.runs.proofs.main.Statement.{statement}
+use Rattle.runs.proofs.main.Tie as tie
 
-abbrev Inv-loop : tie.InvT-loop
-Inv-loop number₀ number = Unit {0}
+abbrev invariant-loop : tie.invariant-loop
+invariant-loop number₀ number = Unit {0}
 
-abbrev μ-loop : tie.MeasureT-loop
-μ-loop number₀ number = 2 ^ 64 - number
+abbrev decreases-loop : tie.decreases-loop
+decreases-loop number₀ number = 2 ^ 64 - number
 
-loop-holds : tie.Need-loop-holds Inv-loop μ-loop
+loop-holds : tie.Need-loop-init invariant-loop decreases-loop
 loop-holds c = tt
 
-run-next-requires : tie.Need-run-next-requires Inv-loop μ-loop
+run-next-requires : tie.Need-run-next-requires invariant-loop decreases-loop
 run-next-requires c κs = tt
 
-add-number : tie.Need-add-number Inv-loop μ-loop
+add-number : tie.Need-overflow-add-number invariant-loop decreases-loop
 add-number c = omega arith
 
-loop-less : tie.Need-loop-less Inv-loop μ-loop
+loop-less : tie.Need-loop-smaller invariant-loop decreases-loop
 loop-less c = omega arith
 
-loop-again : tie.Need-loop-again Inv-loop μ-loop
+loop-again : tie.Need-loop-preserved invariant-loop decreases-loop
 loop-again c = tt
 
-returns : tie.Need-returns Inv-loop μ-loop
+returns : tie.Need-returns invariant-loop decreases-loop
 returns c = tt
 
-returns-2 : tie.Need-returns-2 Inv-loop μ-loop
+returns-2 : tie.Need-returns-2 invariant-loop decreases-loop
 returns-2 c = tt
 
 pub main_spec : {M : Type 1} → statement M
 main_spec =
     tie.close
     (tie.spec
-    Inv-loop
-    μ-loop
+    invariant-loop
+    decreases-loop
     loop-holds
     run-next-requires
     add-number

@@ -1,39 +1,39 @@
 use mathlib.Core.Path.{sym}
 use native.Mathlib.Omega.{arith}
 use lib.Seq.{length-take-le}
-use borrow.Author.Needs.{needs}
-use Rattle·runs·proofs.proofs.run_next.Statement.{statement}
-use Rattle·runs·proofs.proofs.run_next.Tie as tie
+use borrow.Author.Rules.{rules}
+use Rattle.runs.proofs.run_next.Statement.{statement}
+use Rattle.runs.proofs.run_next.Tie as tie
 
 slice-aggregate-read-full : tie.Need-slice-aggregate-read-full
-slice-aggregate-read-full c = search needs
+slice-aggregate-read-full c = search rules
 
 read-full-requires : tie.Need-read-full-requires
-read-full-requires c κs = search needs
+read-full-requires c κs = search rules
 
 returns : tie.Need-returns
-returns c = search needs
+returns c = search rules
 
 slice-aggregate-number-at : tie.Need-slice-aggregate-number-at
-slice-aggregate-number-at c = search needs
+slice-aggregate-number-at c = search rules
 
 number-at-requires : tie.Need-number-at-requires
-number-at-requires c κs = search needs
+number-at-requires c κs = search rules
 
 large-buffer-requires : tie.Need-large-buffer-requires
-large-buffer-requires c κs = search needs
+large-buffer-requires c κs = search rules
 
 array-borrow-prefix-space : tie.Need-array-borrow-prefix-space
-array-borrow-prefix-space c = search needs
+array-borrow-prefix-space c = search rules
 
 slice-aggregate-run-whole : tie.Need-slice-aggregate-run-whole
 slice-aggregate-run-whole c = sym (length-take-le _ _ (omega arith))
 
 run-whole-requires : tie.Need-run-whole-requires
-run-whole-requires c κs = search needs
+run-whole-requires c κs = search rules
 
 returns-2 : tie.Need-returns-2
-returns-2 c = search needs
+returns-2 c = search rules
 
 pub run_next_spec : {M : Type 1} → statement M
 run_next_spec =

@@ -1,12 +1,9 @@
 -- Worked values: a set in words, and how many states it has.
-use mathlib.Core.Path.{_≡_, refl}
-use mathlib.Core.Bool.{true, false}
-use mathlib.Core.List.{[], _∷_, _++_, map}
-use lib.ListN.{replicate}
-use lib.Count.{ones}
-use Rattle·sets·specs.specs.Lists.{numbers_from, keep, sum}
-use Rattle·sets·specs.specs.States.{States, size}
-use Rattle·sets·specs.specs.Words.{words, from_bits, marked, ones_of, marked_below}
+use Rattle.std.specs.Prelude.{◌≡◌, refl, true, false, [], ◌∷◌, ◌++◌, map, replicate}
+use Rattle.std.specs.Int.Count.{ones}
+use Rattle.sets.specs.Lists.{numbers_from, keep, sum}
+use Rattle.sets.specs.States.{States, size}
+use Rattle.sets.specs.Words.{words, from_bits, marked, ones_of, marked_below}
 
 -- of 70 states those with the numbers 0, 2 and 65
 abbrev spread : States

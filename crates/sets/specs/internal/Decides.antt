@@ -1,6 +1,5 @@
 -- A truth value that says whether P holds.
-use mathlib.Core.Path.{_≡_}
-use mathlib.Core.Bool.{Bool, true, false}
+use Rattle.std.specs.Prelude.{◌≡◌, Bool, true, false}
 
 pub record Decides (P : Type 0) (answer : Bool) : Type 0 where
   pub yes_if : answer ≡ true → P

@@ -1,18 +1,16 @@
 -- Worked values: what solve answers of files whose answer the paper gives, or that are worked out here by hand.
-use mathlib.Core.Path.{_≡_, refl}
-use mathlib.Core.List.{List, [], _∷_, _++_, map, flatMap}
-use Prim.Native.Nat.{ℕ, _+_, _-_, _*_, _/_, _%_, _^_}
-use lib.ListN.{set, take, replicate}
-use Rattle·sets.specs.Lists.{numbers_from, every, for_some, sum}
-use Rattle·sets.specs.States.{size, update}
-use Rattle·sets.specs.computed.Iteration.{repeated, same}
-use Rattle·sets.specs.Words.{words, from_bits, word_count, state_limit}
-use Rattle·solver·specs.specs.Cells.{value}
-use Rattle·solver·specs.specs.computed.Solved.{evaluate, work_out, solved, run}
-use Rattle·solver·specs.specs.File.{u32, blocks_at, blocks, operands, entries, entry_cell, cells, block_limit, cell_limit, operand_limit}
-use Rattle·solver·specs.specs.Conditions.{layout_ok, tables_ok, block_ok, cell_ok, arity, operands_before}
-use Rattle·sets.specs.Refusals.{Outcome, refused, first_of, outcome_by}
-use Rattle·solver·specs.specs.Outcome.{bad_layout, bad_table, solve_too_short, solve_exceeds, report, solve_conditions, solve_refusal, solve_outcome, solve_marks, solve_work}
+use Rattle.std.specs.Prelude.{◌≡◌, refl, ℕ, ◌+◌, ◌-◌, ◌*◌, ◌/◌, ◌%◌, ◌^◌, set, take, replicate}
+use mathlib.Core.List.{List, [], ◌∷◌, ◌++◌, map, flat_map}
+use Rattle.sets.specs.Lists.{numbers_from, every, for_some, sum}
+use Rattle.sets.specs.States.{size, update}
+use Rattle.sets.specs.computed.Iteration.{repeated, same}
+use Rattle.sets.specs.Words.{words, from_bits, word_count, state_limit}
+use Rattle.solver.specs.Cells.{value}
+use Rattle.solver.specs.computed.Solved.{evaluate, work_out, solved, run}
+use Rattle.solver.specs.File.{u32, blocks_at, blocks, operands, entries, entry_cell, cells, block_limit, cell_limit, operand_limit}
+use Rattle.solver.specs.Conditions.{layout_ok, tables_ok, block_ok, cell_ok, arity, operands_before}
+use Rattle.sets.specs.Refusals.{Outcome, refused, first_of, outcome_by}
+use Rattle.solver.specs.Outcome.{bad_layout, bad_table, solve_too_short, solve_exceeds, report, solve_conditions, solve_refusal, solve_outcome, solve_marks, solve_work}
 
 -- numbers of 32 bits as bytes, low byte first
 bytes : List ℕ → List ℕ
@@ -36,7 +34,7 @@ changed cs = bytes (go cs p1)
   where
     go : List (ℕ × ℕ) → List ℕ → List ℕ
     go [] xs = xs
-    go (c ∷ cs) xs = go cs (set xs (c .0) (c .1))
+    go (c ∷ cs) xs = go cs (set xs c.0 c.1)
 
 -- a file with the offsets that its counts ask for
 file : (n d c p initial : ℕ) → List ℕ → List ℕ
@@ -59,9 +57,9 @@ diamonds a b = file 2 2 14 6 0
 
 -- d nested nu over true, with one state
 nested : ℕ → List ℕ
-unfolding file numbers_from flatMap
+unfolding file numbers_from flat_map
 nested d = file 1 d (d + 1) 0 0
-    (flatMap (λ k. 1 ∷ (k + 1) ∷ []) (numbers_from 0 d) ++ (flatMap (λ k. 2 ∷ k ∷ 0 ∷ []) (numbers_from 0 d) ++ (0 ∷ 0 ∷ 0 ∷ [])))
+    (flat_map (λ k. 1 ∷ (k + 1) ∷ []) (numbers_from 0 d) ++ (flat_map (λ k. 2 ∷ k ∷ 0 ∷ []) (numbers_from 0 d) ++ (0 ∷ 0 ∷ 0 ∷ [])))
 
 -- one block of one state, whose right side is an empty list: 0 an and, 1 an or
 empty : ℕ → ℕ → List ℕ
@@ -187,10 +185,10 @@ examples =
 pub answer : Example → Outcome
 unfolding solve_outcome solve_conditions solve_refusal first_of outcome_by bad_layout bad_table solve_too_short solve_exceeds run report solved repeated evaluate work_out value update
     u32 blocks operands entries entry_cell cells layout_ok tables_ok block_ok cell_ok arity operands_before sum numbers_from every for_some same size
-answer x = solve_outcome (x .0) (x .1) (x .2) (x .3)
+answer x = solve_outcome x.0 x.1 x.2 x.3
 
 -- each example comes out as given
-pub come_out : map answer examples ≡ map (λ (x : Example). x .4) examples
+pub come_out : map answer examples ≡ map (λ (x : Example). x.4) examples
 unfolding answer examples
 come_out = refl
 

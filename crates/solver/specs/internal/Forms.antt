@@ -1,24 +1,20 @@
 -- Forms of files and cells that laws and inner contracts speak of.
-use mathlib.Core.Bool.{true, false}
-use mathlib.Core.List.{List, []}
-use Prim.Native.Nat.{ℕ, _+_, _*_, _<_}
-use lib.Dec.{T, ltb, leb}
-use lib.ListN.{length, getD}
-use Rattle·sets.specs.Lists.{every}
-use Rattle·solver·specs.specs.declared.Cause.the-variants.{Layout, Table}
-use Rattle·solver·specs.specs.declared.Opened.{Opened}
-use Rattle·solver·specs.specs.declared.Opened.the-variants.{File, Unfit}
-use Rattle·solver·specs.specs.Cells.{Cell, And, operands_of}
-use Rattle·solver·specs.specs.File.{sizes_of, Block, blocks_at, block_limit, cell_limit, operand_limit}
-use Rattle·solver·specs.specs.Conditions.{layout_ok, tables_ok}
+use Rattle.std.specs.Prelude.{true, false, List, [], ℕ, ◌+◌, ◌*◌, ◌<◌, T, ltb, leb, length, get_or}
+use Rattle.sets.specs.Lists.{every}
+use Rattle.solver.specs.declared.Cause.TheVariants.{Layout, Table}
+use Rattle.solver.specs.declared.Opened.{Opened}
+use Rattle.solver.specs.declared.Opened.TheVariants.{File, Unfit}
+use Rattle.solver.specs.Cells.{Cell, And, operands_of}
+use Rattle.solver.specs.File.{sizes_of, Block, blocks_at, block_limit, cell_limit, operand_limit}
+use Rattle.solver.specs.Conditions.{layout_ok, tables_ok}
 
 -- each operand is a cell above its own
 unfoldable pub Ordered : List Cell → Type 0
-Ordered cs = (i : ℕ) → i < length cs → T (every (ltb i) (operands_of (getD cs i (And []))))
+Ordered cs = (i : ℕ) → i < length cs → T (every (ltb i) (operands_of (get_or cs i (And []))))
 
 -- each block has a cell, of c cells, for each of n states
 unfoldable pub Inside : ℕ → ℕ → List Block → Type 0
-Inside n c bs = T (every (λ b. leb (b .first + n) c) bs)
+Inside n c bs = T (every (λ b. leb (b.first + n) c) bs)
 
 -- what opening a file answers: its counts, or the first of the two conditions that holds
 unfoldable pub opened : List ℕ → Opened

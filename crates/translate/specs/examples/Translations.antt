@@ -1,27 +1,24 @@
 -- Worked values: the equation files of cases, and the tables that they come from. P1 to P8 are those of the scope.
-use mathlib.Core.Path.{_≡_, refl}
-use mathlib.Core.Bool.{Bool, true, false}
-use mathlib.Core.List.{List, [], _∷_, _++_, map, flatMap}
-use Prim.Native.Nat.{ℕ, zero, suc, _+_, _*_, _/_, _%_}
-use lib.ListN.{replicate, take, drop, set}
-use Rattle·sets.specs.Lists.{numbers_from, every, for_some, keep}
-use Rattle·solver.specs.File.{block_limit, blocks_at}
-use Rattle·solver.specs.Cells.{operands_of}
-use Rattle·sets.specs.Refusals.{first_of}
-use Rattle·cases.specs.Action.{accepts}
-use Rattle·cases.specs.declared.Header.{Header}
-use Rattle·cases.specs.Formula.{nodes}
-use Rattle·cases.specs.Prefix.{trees, action_at, formula_at, whole_formulas, exactly, span}
-use Rattle·cases.specs.File.{u16, header_size, header_of, label_records, label_table, transition_table, action_table, formula_table}
-use Rattle·cases.specs.Labels.{names_of, occurrences, same_names, alike, alike_labels}
-use Rattle·cases.specs.Case.{Case, case_of, same_transition, copies, copies_before, distinct}
-use Rattle·cases.specs.Conditions.{too_small, other_version, bad_count, bad_offset, bad_length, bad_model, padded, bad_labels, bad_actions, bad_formula, bound_ok, bad_variable, binder_count, block_total, too_deep, layout_conditions, model_conditions, formula_conditions, case_conditions}
-use Rattle·translate·specs.specs.Translating.{translate_conditions, translate_refusal}
-use Rattle·translate·specs.specs.Whole.{raise, binds_first, whole, binder_nodes, index_in, block_in}
-use Rattle·translate·specs.specs.Tables.{Expression, ⋀, Sat⇒, X, nil, cons, each, RHS, E}
-use Rattle·translate·specs.specs.Unfolding.{Plain, All, Var, nothing, more, left_out, plain, plains, equations_of}
-use Rattle·translate·specs.specs.Cells.{targets, cell_of, cells_from, blocks_from}
-use Rattle·translate·specs.specs.Bytes.{system_of, all_operands, block_numbers, cell_numbers, numbers, bytes, file_of}
+use Rattle.std.specs.Prelude.{◌≡◌, refl, Bool, true, false, ℕ, zero, suc, ◌+◌, ◌*◌, ◌/◌, ◌%◌, replicate, take, drop, set}
+use mathlib.Core.List.{List, [], ◌∷◌, ◌++◌, map, flat_map}
+use Rattle.sets.specs.Lists.{numbers_from, every, for_some, keep}
+use Rattle.solver.specs.File.{block_limit, blocks_at}
+use Rattle.solver.specs.Cells.{operands_of}
+use Rattle.sets.specs.Refusals.{first_of}
+use Rattle.cases.specs.Action.{accepts}
+use Rattle.cases.specs.declared.Header.{Header}
+use Rattle.cases.specs.Formula.{nodes}
+use Rattle.cases.specs.Prefix.{trees, action_at, formula_at, whole_formulas, exactly, span}
+use Rattle.cases.specs.File.{u16, header_size, header_of, label_records, label_table, transition_table, action_table, formula_table}
+use Rattle.cases.specs.Labels.{names_of, occurrences, same_names, alike, alike_labels}
+use Rattle.cases.specs.Case.{Case, case_of, same_transition, copies, copies_before, distinct}
+use Rattle.cases.specs.Conditions.{too_small, other_version, bad_count, bad_offset, bad_length, bad_model, padded, bad_labels, bad_actions, bad_formula, bound_ok, bad_variable, binder_count, block_total, too_deep, layout_conditions, model_conditions, formula_conditions, case_conditions}
+use Rattle.translate.specs.Translating.{translate_conditions, translate_refusal}
+use Rattle.translate.specs.Whole.{raise, binds_first, whole, binder_nodes, index_in, block_in}
+use Rattle.translate.specs.Tables.{Expression, ⋀, Sat⇒, X, nil, cons, each, RHS, E}
+use Rattle.translate.specs.Unfolding.{Plain, All, Var, nothing, more, left_out, plain, plains, equations_of}
+use Rattle.translate.specs.Cells.{targets, cell_of, cells_from, blocks_from}
+use Rattle.translate.specs.Bytes.{system_of, all_operands, block_numbers, cell_numbers, numbers, bytes, file_of}
 
 -- numbers of 16 bits as bytes, low byte first
 unfoldable pub halves : List ℕ → List ℕ
@@ -35,14 +32,14 @@ case_file n t l initial a f tables = halves (1 ∷ n ∷ t ∷ l ∷ initial ∷
 
 -- a case of version 1 as one of version 2: label j has the one name j + 1, and the tables stand behind the label records
 unfoldable pub labelled : List ℕ → List ℕ
-unfolding halves u16 numbers_from flatMap
+unfolding halves u16 numbers_from flat_map
 labelled b =
     let h : Header = header_of b in
-    let more : ℕ = 2 + 8 * h .labels in
+    let more : ℕ = 2 + 8 * h.labels in
     halves
-    (2 ∷ h .states ∷ h .transitions ∷ h .labels ∷ h .initial ∷ h .actions ∷ h .nodes
-    ∷ (h .«transitions_at» + more) ∷ (h .«actions_at» + more) ∷ (h .«formula_at_lem» + more) ∷ 22
-    ∷ flatMap (λ j. (j + 1) ∷ 0 ∷ 0 ∷ 0 ∷ []) (numbers_from 0 (h .labels))) ++ drop 20 b
+    (2 ∷ h.states ∷ h.transitions ∷ h.labels ∷ h.initial ∷ h.actions ∷ h.nodes
+    ∷ (h.transitions_at + more) ∷ (h.actions_at + more) ∷ (h.formula_at + more) ∷ 22
+    ∷ flat_map (λ j. (j + 1) ∷ 0 ∷ 0 ∷ 0 ∷ []) (numbers_from 0 h.labels)) ++ drop 20 b
 
 -- an equation file with the offsets that its counts of blocks, cells and operands ask for
 equation_file : (n d c p initial : ℕ) → List ℕ → List ℕ
@@ -186,14 +183,14 @@ loops = case_file 1 50 1 0 1 3 (replicate 150 0 ++ (1 ∷ 0 ∷ 8 ∷ 0 ∷ 4 �
 
 -- True in forty states: the nu that is put before it has forty variables, and the operands' offset is 1,004.
 forty : List ℕ
-unfolding equation_file numbers_from flatMap
-forty = equation_file 40 1 80 0 39 (1 ∷ 40 ∷ (flatMap (λ s. 2 ∷ 0 ∷ s ∷ []) (numbers_from 0 40) ++ replicate 120 0))
+unfolding equation_file numbers_from flat_map
+forty = equation_file 40 1 80 0 39 (1 ∷ 40 ∷ (flat_map (λ s. 2 ∷ 0 ∷ s ∷ []) (numbers_from 0 40) ++ replicate 120 0))
 
 -- the equations of d nested nu over true
 nested : ℕ → List ℕ
-unfolding equation_file numbers_from flatMap
+unfolding equation_file numbers_from flat_map
 nested d = equation_file 1 d (d + 1) 0 0
-    (flatMap (λ k. 1 ∷ (k + 1) ∷ []) (numbers_from 0 d) ++ (flatMap (λ k. 2 ∷ k ∷ 0 ∷ []) (numbers_from 0 d) ++ (0 ∷ 0 ∷ 0 ∷ [])))
+    (flat_map (λ k. 1 ∷ (k + 1) ∷ []) (numbers_from 0 d) ++ (flat_map (λ k. 2 ∷ k ∷ 0 ∷ []) (numbers_from 0 d) ++ (0 ∷ 0 ∷ 0 ∷ [])))
 
 -- a case and its equation file
 abbrev pub Example : Type 0
@@ -239,7 +236,7 @@ unfolding file_of numbers system_of bytes cell_numbers block_numbers all_operand
 equations b = file_of (case_of b)
 
 -- each example comes out as given
-pub come_out : map (λ (x : Example). equations (x .0)) examples ≡ map (λ (x : Example). x .1) examples
+pub come_out : map (λ (x : Example). equations x.0) examples ≡ map (λ (x : Example). x.1) examples
 unfolding equations examples
 come_out = refl
 
@@ -266,7 +263,7 @@ pub written : List ℕ → List Shown
 unfolding equations E RHS each plain plains left_out
 written b =
     let c : Case = case_of b in
-    map (λ e. (e .sign, e .of, map (e .side) (numbers_from 0 (c .states)), map (λ s. plain (e .side s)) (numbers_from 0 (c .states))))
+    map (λ e. (e.sign, e.of, map e.side (numbers_from 0 c.states), map (λ s. plain (e.side s)) (numbers_from 0 c.states)))
     (equations_of c)
 
 -- The tables of P1, and of the box into the middle of an action formula, where label 1 is not accepted.

@@ -1,18 +1,13 @@
 -- What the writers of the equation file promise of the part of the output that they are handed.
-use mathlib.Core.Path.{_≡_}
-use mathlib.Core.Bool.{Bool, cond, _&&_}
-use mathlib.Core.List.{List, [], _∷_, _++_, map}
-use Prim.Native.Nat.{ℕ, _+_, _*_, _≤_}
-use lib.Dec.{eqb}
-use lib.ListN.{length, getD, take, drop}
-use Rattle·sets.specs.Lists.{numbers_from, keep}
-use Rattle·sets.specs.Words.{state_limit}
-use Rattle·solver.specs.Cells.{Cell}
-use Rattle·cases.specs.File.{transition_in, node_limit}
-use Rattle·cases.specs.declared.Transition.{Transition}
-use Rattle·translate·specs.specs.declared.Shape.{Shape}
-use Rattle·translate·specs.specs.Bytes.{bytes, all_operands, cell_numbers}
-use Rattle·translate·specs.specs.internal.Writing.{leaves}
+use Rattle.std.specs.Prelude.{◌≡◌, Bool, cond, ◌&&◌, List, [], ◌∷◌, ◌++◌, map, ℕ, ◌+◌, ◌*◌, ◌≤◌, eqb, length, get_or, take, drop}
+use Rattle.sets.specs.Lists.{numbers_from, keep}
+use Rattle.sets.specs.Words.{state_limit}
+use Rattle.solver.specs.Cells.{Cell}
+use Rattle.cases.specs.File.{transition_in, node_limit}
+use Rattle.cases.specs.declared.Transition.{Transition}
+use Rattle.translate.specs.declared.Shape.{Shape}
+use Rattle.translate.specs.Bytes.{bytes, all_operands, cell_numbers}
+use Rattle.translate.specs.internal.Writing.{leaves}
 
 -- the numbers xs were written from the byte `at` on, and no other byte changed
 pub record WroteAt (at : ℕ) (xs before after : List ℕ) : Type 0 where
@@ -44,7 +39,7 @@ pub record WroteCells (used : ℕ) (cs : List Cell) (before after : List ℕ) (r
 
 -- whether record j is flagged as the first of its kind
 abbrev pub flagged : List ℕ → ℕ → Bool
-flagged first j = eqb (getD first j 0) 1
+flagged first j = eqb (get_or first j 0) 1
 
 -- the distinct transitions: the flagged ones of the first m records
 unfoldable pub distinct_in : List ℕ → List ℕ → ℕ → List Transition
@@ -60,11 +55,11 @@ leaving part first s labels m = keep (leaves s labels) (distinct_in part first m
 
 -- operands for transitions: the cells of their targets, in the row of cells that starts at `base`
 unfoldable pub target_cells : ℕ → List Transition → List ℕ
-target_cells base ts = map (λ t. base + t .target) ts
+target_cells base ts = map (λ t. base + t.target) ts
 
 -- the operand that record j gives, if it leaves s
 unfoldable pub target_cell : List ℕ → List ℕ → ℕ → ℕ → ℕ → ℕ → List ℕ
-target_cell part first base s labels j = cond (leaves_at part first s labels j) ((base + transition_in part j .target) ∷ []) []
+target_cell part first base s labels j = cond (leaves_at part first s labels j) ((base + (transition_in part j).target) ∷ []) []
 
 -- the first m records are there, each with its flag
 pub record Recorded (part first : List ℕ) (m : ℕ) : Type 0 where
@@ -75,4 +70,4 @@ pub record Recorded (part first : List ℕ) (m : ℕ) : Type 0 where
 pub record Placed (n : ℕ) (x : Shape) (i : ℕ) : Type 0 where
   pub states : n ≤ state_limit
   pub node : i ≤ node_limit + 1
-  pub second : x .second ≤ node_limit + 1
+  pub second : x.second ≤ node_limit + 1

@@ -1,21 +1,17 @@
 -- The shapes of all nodes: of a formula, as a formula table gives them, and what is written of them.
-use mathlib.Core.Bool.{cond, _||_}
-use mathlib.Core.List.{List, [], _∷_, _++_, map}
-use Prim.Native.Nat.{ℕ, _+_, _*_}
-use lib.Dec.{eqb, leb}
-use lib.ListN.{length, take}
-use Rattle·sets.specs.Lists.{numbers_from}
-use Rattle·solver.specs.Cells.{Cell}
-use Rattle·solver.specs.File.{Block}
-use Rattle·cases.specs.Action.{Action}
-use Rattle·cases.specs.Formula.{Formula, False, True, And, Or, Box, Diamond, Variable, Fix, nodes}
-use Rattle·cases.specs.declared.Node.{Node}
-use Rattle·cases.specs.Prefix.{arity_in, formula_arities, end_of}
-use Rattle·cases.specs.Conditions.{node_at, is_binder, binder_count}
-use Rattle·cases.specs.internal.Masks.{mask_of}
-use Rattle·cases.specs.declared.Transition.{Transition}
-use Rattle·translate·specs.specs.declared.Shape.{Shape}
-use Rattle·translate·specs.specs.internal.Writing.{shape_of, shape_cell}
+use Rattle.std.specs.Prelude.{cond, ◌||◌, List, [], ◌∷◌, ◌++◌, map, ℕ, ◌+◌, ◌*◌, eqb, leb, length, take}
+use Rattle.sets.specs.Lists.{numbers_from}
+use Rattle.solver.specs.Cells.{Cell}
+use Rattle.solver.specs.File.{Block}
+use Rattle.cases.specs.Action.{Action}
+use Rattle.cases.specs.Formula.{Formula, False, True, And, Or, Box, Diamond, Variable, Fix, nodes}
+use Rattle.cases.specs.declared.Node.{Node}
+use Rattle.cases.specs.Prefix.{arity_in, formula_arities, end_of}
+use Rattle.cases.specs.Conditions.{node_at, is_binder, binder_count}
+use Rattle.cases.specs.internal.Masks.{mask_of}
+use Rattle.cases.specs.declared.Transition.{Transition}
+use Rattle.translate.specs.declared.Shape.{Shape}
+use Rattle.translate.specs.internal.Writing.{shape_of, shape_cell}
 
 -- the shapes of a formula at node i, node by node in prefix order
 unfoldable pub shapes_from : (ℕ → ℕ) → Formula → ℕ → List Shape
@@ -37,7 +33,7 @@ shape_cells n ts i (x ∷ xs) = map (shape_cell n ts x i) (numbers_from 0 n) ++ 
 unfoldable pub shape_blocks : ℕ → ℕ → List Shape → List Block
 shape_blocks n i [] = []
 shape_blocks n i (x ∷ xs) =
-    cond (leb 7 (x .kind)) (record { sign = eqb (x .kind) 8; first = (i + 1) * n } ∷ shape_blocks n (i + 1) xs) (shape_blocks n (i + 1) xs)
+    cond (leb 7 x.kind) (record { sign = eqb x.kind 8; first = (i + 1) * n } ∷ shape_blocks n (i + 1) xs) (shape_blocks n (i + 1) xs)
 
 -- The shape of node i of a formula table, where `action j` is the action formula at action node j. `added` is 1 where a nu was put before
 -- the root, and 0 otherwise: node numbers and blocks rise by it.
@@ -45,10 +41,10 @@ unfoldable pub shape_in : (ℕ → Action) → List Node → ℕ → ℕ → Sha
 shape_in action table added i =
     let x : Node = node_at table i in
     record {
-      kind = x .kind;
-      second = cond (eqb (x .kind) 2 || eqb (x .kind) 3) (end_of (map (arity_in formula_arities) table) (i + 1) + added) 0;
-      block = cond (eqb (x .kind) 6) (binder_count (take (x .arg) table) + added) (cond (is_binder x) (binder_count (take i table) + added) 0);
-      labels = cond (eqb (x .kind) 4 || eqb (x .kind) 5) (mask_of (action (x .arg))) 0;
+      kind = x.kind;
+      second = cond (eqb x.kind 2 || eqb x.kind 3) (end_of (map (arity_in formula_arities) table) (i + 1) + added) 0;
+      block = cond (eqb x.kind 6) (binder_count (take x.arg table) + added) (cond (is_binder x) (binder_count (take i table) + added) 0);
+      labels = cond (eqb x.kind 4 || eqb x.kind 5) (mask_of (action x.arg)) 0;
     }
 
 -- the shapes of all nodes of a formula table

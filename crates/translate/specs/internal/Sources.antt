@@ -1,28 +1,23 @@
 -- What the writers of a case's equations are handed, and what they leave in the buffer.
-use mathlib.Core.Path.{_≡_}
-use mathlib.Core.Bool.{cond}
-use mathlib.Core.List.{List, _++_}
-use Prim.Native.Nat.{ℕ, _+_, _*_, _≤_, _<_}
-use lib.Dec.{ltb}
-use lib.ListN.{length, getD, take, drop}
-use Rattle·sets.specs.Words.{state_limit}
-use Rattle·solver.specs.File.{blocks_at, operand_limit}
-use Rattle·cases.specs.File.{transition_limit, node_limit}
-use Rattle·cases.specs.declared.Transition.{Transition}
-use Rattle·translate·specs.specs.Bytes.{System, all_operands, bytes, numbers}
-use Rattle·translate·specs.specs.internal.Shapes.{shape_cells, shape_blocks}
-use Rattle·translate·specs.specs.internal.Parts.{Recorded, distinct_in}
-use Rattle·translate·specs.specs.declared.Shape.{Shape}
-use Rattle·translate·specs.specs.declared.Written.{Written}
-use Rattle·translate·specs.specs.declared.Cause.the-variants.{Memory}
-use Rattle·translate·specs.specs.declared.Written.the-variants.{File, Refused}
+use Rattle.std.specs.Prelude.{◌≡◌, cond, List, ◌++◌, ℕ, ◌+◌, ◌*◌, ◌≤◌, ◌<◌, ltb, length, get_or, take, drop}
+use Rattle.sets.specs.Words.{state_limit}
+use Rattle.solver.specs.File.{blocks_at, operand_limit}
+use Rattle.cases.specs.File.{transition_limit, node_limit}
+use Rattle.cases.specs.declared.Transition.{Transition}
+use Rattle.translate.specs.Bytes.{System, all_operands, bytes, numbers}
+use Rattle.translate.specs.internal.Shapes.{shape_cells, shape_blocks}
+use Rattle.translate.specs.internal.Parts.{Recorded, distinct_in}
+use Rattle.translate.specs.declared.Shape.{Shape}
+use Rattle.translate.specs.declared.Written.{Written}
+use Rattle.translate.specs.declared.Cause.TheVariants.{Memory}
+use Rattle.translate.specs.declared.Written.TheVariants.{File, Refused}
 
 -- the equations of nodes with these shapes; ts are the distinct transitions
 unfoldable pub shape_system : ℕ → ℕ → List Transition → List Shape → System
 shape_system n initial ts xs = record { states = n; initial = initial; blocks = shape_blocks n 0 xs; cells = shape_cells n ts 0 xs }
 
 abbrev pub shape_at : List Shape → ℕ → Shape
-shape_at xs i = getD xs i (record { kind = 0; second = 0; block = 0; labels = 0 })
+shape_at xs i = get_or xs i (record { kind = 0; second = 0; block = 0; labels = 0 })
 
 -- m records with their flags, k shapes and n states, as an accepted case has them
 pub record Sources (part first : List ℕ) (m : ℕ) (shapes : List Shape) (k n : ℕ) : Type 0 where
@@ -31,15 +26,15 @@ pub record Sources (part first : List ℕ) (m : ℕ) (shapes : List Shape) (k n 
   pub held : k ≤ length shapes
   pub few_nodes : k ≤ node_limit + 1
   pub few_states : n ≤ state_limit
-  pub known : (i : ℕ) → i < k → shape_at shapes i .kind ≤ 8
-  pub second : (i : ℕ) → i < k → shape_at shapes i .second ≤ node_limit
+  pub known : (i : ℕ) → i < k → (shape_at shapes i).kind ≤ 8
+  pub second : (i : ℕ) → i < k → (shape_at shapes i).second ≤ node_limit
   pub few_operands : length (all_operands (shape_cells n (distinct_in part first m) 0 (take k shapes))) ≤ operand_limit
 
 -- so many cells, blocks and operands, and a buffer of `room` bytes has room for their file
 pub record RoomFor (y : System) (c d p room : ℕ) : Type 0 where
-  pub blocks : d ≡ length (y .blocks)
-  pub cells : c ≡ length (y .cells)
-  pub operands : p ≡ length (all_operands (y .cells))
+  pub blocks : d ≡ length y.blocks
+  pub cells : c ≡ length y.cells
+  pub operands : p ≡ length (all_operands y.cells)
   pub few_blocks : d ≤ node_limit + 1
   pub roomy : blocks_at + 8 * d + 12 * c + 4 * p ≤ room
 

@@ -1,23 +1,23 @@
 -- `node_holds` meets its contract.
 use mathlib.Core.Path.{refl}
-use borrow.Author.Tests.{le-leb, lt-leb, eq-eqb, ne-eqb}
-use Rattle·cases·proofs.proofs.conditions.node_holds.Statement.{statement}
-use Rattle·cases·proofs.proofs.conditions.node_holds.Tie as tie
+use borrow.Author.Tests.{le-leb, lt-leb, eq-eqb, ne_eqb}
+use Rattle.cases.proofs.conditions.node_holds.Statement.{statement}
+use Rattle.cases.proofs.conditions.node_holds.Tie as tie
 
 returns : tie.Need-returns
-returns c = simp (lt-leb _ _ (c .if1 .taken))
+returns c = simp (lt-leb _ _ c.if1.true)
 
 returns-2 : tie.Need-returns-2
-returns-2 c = simp (le-leb _ _ (c .before .before .if1 .left), eq-eqb _ _ (c .if2 .taken))
+returns-2 c = simp (le-leb _ _ c.before.before.if1.false, eq-eqb _ _ c.if2.true)
 
 returns-3 : tie.Need-returns-3
-returns-3 c = simp (le-leb _ _ (c .before .before .before .before .before .if1 .left), ne-eqb _ _ (c .before .before .before .if2 .left), eq-eqb _ _ (c .before .if3 .taken))
+returns-3 c = simp (le-leb _ _ c.before.before.before.before.before.if1.false, ne_eqb _ _ c.before.before.before.if2.false, eq-eqb _ _ c.before.if3.true)
 
 returns-4 : tie.Need-returns-4
-returns-4 c = simp (le-leb _ _ (c .before .before .before .before .before .before .before .if1 .left), ne-eqb _ _ (c .before .before .before .before .before .if2 .left), ne-eqb _ _ (c .before .before .before .if3 .left), eq-eqb _ _ (c .before .if4 .taken))
+returns-4 c = simp (le-leb _ _ c.before.before.before.before.before.before.before.if1.false, ne_eqb _ _ c.before.before.before.before.before.if2.false, ne_eqb _ _ c.before.before.before.if3.false, eq-eqb _ _ c.before.if4.true)
 
 returns-5 : tie.Need-returns-5
-returns-5 c = rw (le-leb _ _ (c .before .before .before .before .before .before .before .if1 .left), ne-eqb _ _ (c .before .before .before .before .before .if2 .left), ne-eqb _ _ (c .before .before .before .if3 .left), ne-eqb _ _ (c .before .if4 .left)) refl
+returns-5 c = rw (le-leb _ _ c.before.before.before.before.before.before.before.if1.false, ne_eqb _ _ c.before.before.before.before.before.if2.false, ne_eqb _ _ c.before.before.before.if3.false, ne_eqb _ _ c.before.if4.false) refl
 
 pub node_holds_spec : {M : Type 1} → statement M
 node_holds_spec = tie.close (tie.spec returns returns-2 returns-3 returns-4 returns-5)

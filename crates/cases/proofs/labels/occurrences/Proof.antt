@@ -1,8 +1,8 @@
 -- `occurrences` meets its contract.
 use native.Mathlib.Omega.{arith}
-use Rattle·cases·specs.specs.Labels.{occurrences}
-use Rattle·cases·proofs.proofs.labels.occurrences.Statement.{statement}
-use Rattle·cases·proofs.proofs.labels.occurrences.Tie as tie
+use Rattle.cases.specs.Labels.{occurrences}
+use Rattle.cases.proofs.labels.occurrences.Statement.{statement}
+use Rattle.cases.proofs.labels.occurrences.Tie as tie
 
 returns : tie.Need-returns
 unfolding occurrences

@@ -1,80 +1,80 @@
 -- `links_of` meets its contract: the records from j on are linked.
-use mathlib.Core.Path.{_≡_}
-use Prim.Native.Nat.{_≤_, _<_}
+use mathlib.Core.Path.{◌≡◌}
+use Prim.Native.Nat.{◌≤◌, ◌<◌}
 use native.Mathlib.Omega.{arith}
-use Rattle·sets.specs.Words.{state_limit}
-use Rattle·cases·specs.specs.internal.Links.{LinkedFrom}
-use Rattle·cases·proofs.proofs.Links.{linked_none, linked_step, source_read}
-use Rattle·cases·proofs.proofs.transitions.links_of.Statement.{statement}
-use Rattle·cases·proofs.proofs.transitions.links_of.Tie as tie
+use Rattle.sets.specs.Words.{state_limit}
+use Rattle.cases.specs.internal.Links.{LinkedFrom}
+use Rattle.cases.proofs.Links.{linked_none, linked_step, source_read}
+use Rattle.cases.proofs.transitions.links_of.Statement.{statement}
+use Rattle.cases.proofs.transitions.links_of.Tie as tie
 
-abbrev Inv-loop : tie.InvT-loop
-Inv-loop part m links₀ j₀ links j = (j ≤ m) × LinkedFrom part m j links
+abbrev invariant-loop : tie.invariant-loop
+invariant-loop part m links₀ j₀ links j = (j ≤ m) × LinkedFrom part m j links
 
-abbrev μ-loop : tie.MeasureT-loop
-μ-loop part m links₀ j₀ links j = j
+abbrev decreases-loop : tie.decreases-loop
+decreases-loop part m links₀ j₀ links j = j
 
 -- the source that is read is a state
-small : (c : tie.After-transition-at Inv-loop μ-loop) → c .transition_at .result .source < state_limit
-small c = source_read (c .before .before .before .before .pre) (omega (arith, c .before .before .loop .inv .0)) _ (c .transition_at .ensures)
+small : (c : tie.After-transition-at invariant-loop decreases-loop) → c.transition_at.result.source < state_limit
+small c = source_read c.before.before.before.before.requires (omega (arith, c.before.before.loop.invariant.0)) _ c.transition_at.ensures
 
-cast-links : tie.Need-cast-links Inv-loop μ-loop
-cast-links c = omega (arith, c .before .pre .few)
+cast-links : tie.Need-overflow-cast-links invariant-loop decreases-loop
+cast-links c = omega (arith, c.before.requires.few)
 
-loop-holds : tie.Need-loop-holds Inv-loop μ-loop
-loop-holds c = (omega arith, linked_none (c .before .args .part .now) (c .before .args .m))
+loop-holds : tie.Need-loop-init invariant-loop decreases-loop
+loop-holds c = (omega arith, linked_none c.before.args.part.now c.before.args.m)
 
-sub-j : tie.Need-sub-j Inv-loop μ-loop
+sub-j : tie.Need-overflow-sub-j invariant-loop decreases-loop
 sub-j c = omega arith
 
-transition-at-requires : tie.Need-transition-at-requires Inv-loop μ-loop
-transition-at-requires c κs = omega (arith, c .before .before .before .pre .inside, c .before .loop .inv .0)
+transition-at-requires : tie.Need-transition-at-requires invariant-loop decreases-loop
+transition-at-requires c κs = omega (arith, c.before.before.before.requires.inside, c.before.loop.invariant.0)
 
-mul-after : tie.Need-mul-after Inv-loop μ-loop
+mul-after : tie.Need-overflow-mul-after invariant-loop decreases-loop
 mul-after c = omega (arith, small c)
 
-array-read-after : tie.Need-array-read-after Inv-loop μ-loop
+array-read-after : tie.Need-array-read-after invariant-loop decreases-loop
 array-read-after c = omega (arith, small c)
 
-add-links : tie.Need-add-links Inv-loop μ-loop
-add-links c = omega (arith, c .before .before .loop .inv .0, c .before .before .before .before .pre .few)
+add-links : tie.Need-overflow-add-links invariant-loop decreases-loop
+add-links c = omega (arith, c.before.before.loop.invariant.0, c.before.before.before.before.requires.few)
 
-mul-links : tie.Need-mul-links Inv-loop μ-loop
-mul-links c = omega (arith, c .before .before .loop .inv .0, c .before .before .before .before .pre .few)
+mul-links : tie.Need-overflow-mul-links invariant-loop decreases-loop
+mul-links c = omega (arith, c.before.before.loop.invariant.0, c.before.before.before.before.requires.few)
 
-array-write-links : tie.Need-array-write-links Inv-loop μ-loop
-array-write-links c = omega (arith, c .before .before .loop .inv .0, c .before .before .before .before .pre .few)
+array-write-links : tie.Need-array-write-links invariant-loop decreases-loop
+array-write-links c = omega (arith, c.before.before.loop.invariant.0, c.before.before.before.before.requires.few)
 
-cast-links-2 : tie.Need-cast-links-2 Inv-loop μ-loop
-cast-links-2 c = omega (arith, c .before .before .loop .inv .0, c .before .before .before .before .pre .few)
+cast-links-2 : tie.Need-overflow-cast-links-2 invariant-loop decreases-loop
+cast-links-2 c = omega (arith, c.before.before.loop.invariant.0, c.before.before.before.before.requires.few)
 
-mul-links-2 : tie.Need-mul-links-2 Inv-loop μ-loop
+mul-links-2 : tie.Need-overflow-mul-links-2 invariant-loop decreases-loop
 mul-links-2 c = omega (arith, small c)
 
-array-write-links-2 : tie.Need-array-write-links-2 Inv-loop μ-loop
+array-write-links-2 : tie.Need-array-write-links-2 invariant-loop decreases-loop
 array-write-links-2 c = omega (arith, small c)
 
-loop-less : tie.Need-loop-less Inv-loop μ-loop
+loop-less : tie.Need-loop-smaller invariant-loop decreases-loop
 loop-less c = omega arith
 
-loop-again : tie.Need-loop-again Inv-loop μ-loop
+loop-again : tie.Need-loop-preserved invariant-loop decreases-loop
 loop-again c =
-    let s = c .before .before .before .before in
-    let l = c .before .before .loop in
-    (omega (arith, l .inv .0), linked_step (s .args .part .now) (s .args .m) (l .j) (l .links) (s .pre) (omega arith) (l .inv .0) (l .inv .1) (c .transition_at .result) (c .transition_at .ensures))
+    let s = c.before.before.before.before in
+    let l = c.before.before.loop in
+    (omega (arith, l.invariant.0), linked_step s.args.part.now s.args.m l.j l.links s.requires (omega arith) l.invariant.0 l.invariant.1 c.transition_at.result c.transition_at.ensures)
 
-returns : tie.Need-returns Inv-loop μ-loop
+returns : tie.Need-returns invariant-loop decreases-loop
 returns c =
-    let s = c .before .before .before in
-    let none : c .before .loop .j ≡ 0 = omega arith in
-    record { sourced = s .pre; filled = rw none at (c .before .loop .inv .1) }
+    let s = c.before.before.before in
+    let none : c.before.loop.j ≡ 0 = omega arith in
+    record { sourced = s.requires; filled = rw none at c.before.loop.invariant.1 }
 
 pub links_of_spec : {M : Type 1} → statement M
 links_of_spec =
     tie.close
     (tie.spec
-    Inv-loop
-    μ-loop
+    invariant-loop
+    decreases-loop
     cast-links
     loop-holds
     sub-j

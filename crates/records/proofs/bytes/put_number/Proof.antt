@@ -2,10 +2,10 @@
 use mathlib.Core.Path.{refl}
 use native.Mathlib.Omega.{arith}
 use lib.ListN.{length-set}
-use borrow.Author.Needs.{needs}
-use Rattle·records·specs.specs.Replaced.{with_number}
-use Rattle·records·proofs.proofs.bytes.put_number.Statement.{statement}
-use Rattle·records·proofs.proofs.bytes.put_number.Tie as tie
+use borrow.Author.Rules.{rules}
+use Rattle.records.specs.Replaced.{with_number}
+use Rattle.records.proofs.bytes.put_number.Statement.{statement}
+use Rattle.records.proofs.bytes.put_number.Tie as tie
 
 returns : tie.Need-returns
 unfolding with_number
@@ -15,10 +15,10 @@ pub put_number_spec : {M : Type 1} → statement M
 put_number_spec =
     tie.close
     (tie.spec
-    (λ c. search needs)
-    (λ c. search needs)
-    (λ c. search needs)
-    (λ c. search needs)
+    (λ c. search rules)
+    (λ c. search rules)
+    (λ c. search rules)
+    (λ c. search rules)
     (λ c. simp length-set (omega arith))
-    (λ c. search needs)
+    (λ c. search rules)
     returns)

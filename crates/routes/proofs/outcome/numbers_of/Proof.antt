@@ -1,19 +1,19 @@
-use Rattle·routes·specs.specs.Route.{route_answer, shown}
-use borrow.Author.Needs.{needs}
-use Rattle·routes·proofs.proofs.outcome.numbers_of.Statement.{statement}
-use Rattle·routes·proofs.proofs.outcome.numbers_of.Tie as tie
+use Rattle.routes.specs.Route.{route_answer, shown}
+use borrow.Author.Rules.{rules}
+use Rattle.routes.proofs.outcome.numbers_of.Statement.{statement}
+use Rattle.routes.proofs.outcome.numbers_of.Tie as tie
 
 enum-known-answer : tie.Need-enum-known-answer
-enum-known-answer c = search needs
+enum-known-answer c = search rules
 
 flag-requires : tie.Need-flag-requires
-flag-requires c κs = search needs
+flag-requires c κs = search rules
 
 enum-known-answer-2 : tie.Need-enum-known-answer-2
-enum-known-answer-2 c = search needs
+enum-known-answer-2 c = search rules
 
 number-of-requires : tie.Need-number-of-requires
-number-of-requires c κs = search needs
+number-of-requires c κs = search rules
 
 returns : tie.Need-returns
 unfolding route_answer shown

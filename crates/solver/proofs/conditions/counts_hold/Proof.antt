@@ -1,19 +1,19 @@
 -- `counts_hold` meets its contract: a test that fails contradicts a part of `Counts`, and the tests passed are its parts.
-use mathlib.Core.Logic.{⊎-elim}
+use mathlib.Core.Logic.{⊎_elim}
 use native.Mathlib.Omega.{arith}
 use borrow.Author.Tests.{ltb-true, ltb-false}
-use Rattle·sets.proofs.Words.{decides_no}
-use Rattle·solver·proofs.proofs.conditions.counts_hold.Statement.{statement}
-use Rattle·solver·proofs.proofs.conditions.counts_hold.Tie as tie
+use Rattle.sets.proofs.Words.{decides_no}
+use Rattle.solver.proofs.conditions.counts_hold.Statement.{statement}
+use Rattle.solver.proofs.conditions.counts_hold.Tie as tie
 
 returns : tie.Need-returns
-returns c = decides_no (λ p. ⊎-elim (λ w. omega arith) (λ w. omega (arith, ltb-true)) (c .if1 .came))
+returns c = decides_no (λ p. ⊎_elim (λ w. omega arith) (λ w. omega (arith, ltb-true)) c.if1.branch)
 
 returns-2 : tie.Need-returns-2
-returns-2 c = decides_no (λ p. ⊎-elim (λ w. omega arith) (λ w. omega (arith, ltb-true)) (c .if3 .came))
+returns-2 c = decides_no (λ p. ⊎_elim (λ w. omega arith) (λ w. omega (arith, ltb-true)) c.if3.branch)
 
 returns-3 : tie.Need-returns-3
-returns-3 c = decides_no (λ p. ⊎-elim (λ w. omega arith) (λ w. omega (arith, ltb-true)) (c .if5 .came))
+returns-3 c = decides_no (λ p. ⊎_elim (λ w. omega arith) (λ w. omega (arith, ltb-true)) c.if5.branch)
 
 returns-4 : tie.Need-returns-4
 returns-4 c = decides_no (λ p. omega arith)

@@ -1,56 +1,56 @@
 -- `solver::rounds::starts` meets its contract. The loop's invariant: the first k blocks are held where they start.
-use mathlib.Core.Path.{_≡_, _∙_}
-use Prim.Native.Nat.{_-_, _≤_}
+use mathlib.Core.Path.{◌≡◌, ◌∙◌}
+use Prim.Native.Nat.{◌-◌, ◌≤◌}
 use native.Mathlib.Omega.{arith}
 use lib.ListN.{length, length-set}
-use Rattle·solver·specs.specs.File.{sizes_of, block_limit}
-use Rattle·solver·specs.specs.internal.Working.{HoldsRows, starting}
-use Rattle·solver·proofs.proofs.Tables.{counted}
-use Rattle·solver·proofs.proofs.Reading.{few_blocks, row_fits}
-use Rattle·solver·proofs.proofs.Runs.{none_started, more_started}
-use Rattle·solver·proofs.proofs.rounds.starts.Statement.{statement}
-use Rattle·solver·proofs.proofs.rounds.starts.Tie as tie
+use Rattle.solver.specs.File.{sizes_of, block_limit}
+use Rattle.solver.specs.internal.Working.{HoldsRows, starting}
+use Rattle.solver.proofs.Tables.{counted}
+use Rattle.solver.proofs.Reading.{few_blocks, row_fits}
+use Rattle.solver.proofs.Runs.{none_started, more_started}
+use Rattle.solver.proofs.rounds.starts.Statement.{statement}
+use Rattle.solver.proofs.rounds.starts.Tie as tie
 
-abbrev Inv-loop : tie.InvT-loop
-Inv-loop file sizes sets₀ k₀ k_end sets k = (k ≤ sizes .blocks) × (k_end ≡ sizes .blocks) × (length sets ≡ block_limit) × HoldsRows (sizes_of file .states) sets (starting file k)
+abbrev invariant-loop : tie.invariant-loop
+invariant-loop file sizes sets₀ k₀ k_end sets k = (k ≤ sizes.blocks) × (k_end ≡ sizes.blocks) × (length sets ≡ block_limit) × HoldsRows (sizes_of file).states sets (starting file k)
 
-abbrev μ-loop : tie.MeasureT-loop
-μ-loop file sizes sets₀ k₀ k_end sets k = k_end - k
+abbrev decreases-loop : tie.decreases-loop
+decreases-loop file sizes sets₀ k₀ k_end sets k = k_end - k
 
-loop-holds : tie.Need-loop-holds Inv-loop μ-loop
+loop-holds : tie.Need-loop-init invariant-loop decreases-loop
 loop-holds c = (omega arith, omega arith, omega arith, none_started _)
 
-start-of-requires : tie.Need-start-of-requires Inv-loop μ-loop
-start-of-requires c κs = (c .before .before .before .pre, omega arith)
+start-of-requires : tie.Need-start-of-requires invariant-loop decreases-loop
+start-of-requires c κs = (c.before.before.before.requires, omega arith)
 
-mul-sets : tie.Need-mul-sets Inv-loop μ-loop
-mul-sets c = row_fits (few_blocks (c .before .before .before .before .pre) (omega arith))
+mul-sets : tie.Need-overflow-mul-sets invariant-loop decreases-loop
+mul-sets c = row_fits (few_blocks c.before.before.before.before.requires (omega arith))
 
-array-set-from-sets : tie.Need-array-set-from-sets Inv-loop μ-loop
-array-set-from-sets c = few_blocks (c .before .before .before .before .pre) (omega arith)
+array-set-from-sets : tie.Need-array-set-from-sets invariant-loop decreases-loop
+array-set-from-sets c = few_blocks c.before.before.before.before.requires (omega arith)
 
-add-k : tie.Need-add-k Inv-loop μ-loop
+add-k : tie.Need-overflow-add-k invariant-loop decreases-loop
 add-k c = omega arith
 
-loop-less : tie.Need-loop-less Inv-loop μ-loop
+loop-less : tie.Need-loop-smaller invariant-loop decreases-loop
 loop-less c = omega arith
 
-loop-again : tie.Need-loop-again Inv-loop μ-loop
+loop-again : tie.Need-loop-preserved invariant-loop decreases-loop
 loop-again c =
-    let i = c .before .before .loop .inv in
-    (omega arith, i .1, length-set (c .before .before .loop .sets) _ _ ∙ i .2, more_started _ (i .3) (rw (i .2) (few_blocks (c .before .before .before .before .pre) (omega arith))) (c .start_of .ensures))
+    let i = c.before.before.loop.invariant in
+    (omega arith, i.1, length-set c.before.before.loop.sets _ _ ∙ i.2, more_started _ i.3 (rw i.2 (few_blocks c.before.before.before.before.requires (omega arith))) c.start_of_lem.ensures)
 
-returns : tie.Need-returns Inv-loop μ-loop
+returns : tie.Need-returns invariant-loop decreases-loop
 returns c =
-    let e : c .before .loop .k ≡ sizes_of (c .before .before .before .args .file .now) .blocks = omega (arith, counted (c .before .before .before .pre .counts) .blocks) in
-    rw e at (c .before .loop .inv .3)
+    let e : c.before.loop.k ≡ (sizes_of c.before.before.before.args.file.now).blocks = omega (arith, (counted c.before.before.before.requires.counts).blocks) in
+    rw e at c.before.loop.invariant.3
 
 pub starts_spec : {M : Type 1} → statement M
 starts_spec =
     tie.close
     (tie.spec
-    Inv-loop
-    μ-loop
+    invariant-loop
+    decreases-loop
     loop-holds
     start-of-requires
     mul-sets

@@ -1,44 +1,44 @@
 -- `translate::bytes::put_two_behind` meets its contract. Assumes nothing.
 use mathlib.Core.Path.{refl}
-use Prim.Native.Nat.{_*_}
-use borrow.Author.Needs.{needs}
-use Rattle·translate·proofs.proofs.Putting.{wrote_lent}
-use Rattle·translate·proofs.proofs.bytes.put_two_behind.Statement.{statement}
-use Rattle·translate·proofs.proofs.bytes.put_two_behind.Tie as tie
+use Prim.Native.Nat.{◌*◌}
+use borrow.Author.Rules.{rules}
+use Rattle.translate.proofs.Putting.{wrote_lent}
+use Rattle.translate.proofs.bytes.put_two_behind.Statement.{statement}
+use Rattle.translate.proofs.bytes.put_two_behind.Tie as tie
 
-mul-at : tie.Need-mul-at
-mul-at c = search needs
+mul_at : tie.Need-overflow-mul-at
+mul_at c = search rules
 
-sub-put-two : tie.Need-sub-put-two
-sub-put-two c = search needs
+sub-put-two : tie.Need-overflow-sub-put-two
+sub-put-two c = search rules
 
-part-put-two-start : tie.Need-part-put-two-start
-part-put-two-start c = search needs
+part-put-two-start : tie.Need-slice-bounds-put-two-start
+part-put-two-start c = search rules
 
-part-put-two-end : tie.Need-part-put-two-end
-part-put-two-end c = search needs
+part-put-two-end : tie.Need-slice-bounds-put-two-end
+part-put-two-end c = search rules
 
 put-two-requires : tie.Need-put-two-requires
-put-two-requires c κs = search needs
+put-two-requires c κs = search rules
 
-add-result : tie.Need-add-result
-add-result c = search needs
+add-result : tie.Need-overflow-add-result
+add-result c = search rules
 
-same-length : tie.Need-same-length
-same-length c = search needs
+same_length : tie.Need-same-length
+same_length c = search rules
 
 returns : tie.Need-returns
-returns c = record { wrote = wrote_lent (4 * c .before .before .before .before .before .args .done) (c .before .before .put_two .ensures); count = refl }
+returns c = record { wrote = wrote_lent (4 * c.before.before.before.before.before.args.done) c.before.before.put_two.ensures; count = refl }
 
 pub put_two_behind_spec : {M : Type 1} → statement M
 put_two_behind_spec =
     tie.close
     (tie.spec
-    mul-at
+    mul_at
     sub-put-two
     part-put-two-start
     part-put-two-end
     put-two-requires
     add-result
-    same-length
+    same_length
     returns)

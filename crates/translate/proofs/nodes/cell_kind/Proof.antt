@@ -1,15 +1,15 @@
 -- `translate::nodes::cell_kind` meets its contract. Assumes nothing.
 use mathlib.Core.Path.{refl}
-use borrow.Author.Needs.{needs}
-use Rattle·translate·specs.specs.internal.Writing.{shape_kind}
-use Rattle·translate·proofs.proofs.nodes.cell_kind.Statement.{statement}
-use Rattle·translate·proofs.proofs.nodes.cell_kind.Tie as tie
+use borrow.Author.Rules.{rules}
+use Rattle.translate.specs.internal.Writing.{shape_kind}
+use Rattle.translate.proofs.nodes.cell_kind.Statement.{statement}
+use Rattle.translate.proofs.nodes.cell_kind.Tie as tie
 
-mul-result : tie.Need-mul-result
-mul-result c = search needs
+mul-result : tie.Need-overflow-mul-result
+mul-result c = search rules
 
 array-read-result : tie.Need-array-read-result
-array-read-result c = search needs
+array-read-result c = search rules
 
 returns : tie.Need-returns
 unfolding shape_kind

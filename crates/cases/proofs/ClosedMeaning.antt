@@ -39,6 +39,7 @@ free_around around (Fix sign j a) h i t =
     outside (eqb i j) (and_left (not (eqb i j)) (free i a) t) (free_around (j ∷ around) a h i (and_right (not (eqb i j)) (free i a) t))
   where
     outside : (x : Bool) → T (not x) → T (x || for_some (eqb i) around) → T (for_some (eqb i) around)
+    outside true n o = elim n [ ]
     outside false n o = o
 
 -- ---- the meaning of a table's formula

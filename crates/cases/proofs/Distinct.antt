@@ -244,6 +244,7 @@ distinct_mem x ts = (
 -- the same where a member is found by testing
 some_copies : (x : Transition) (ts : List Transition) → T (for_some (same_transition x) ts) → ¬ (copies x ts ≡ 0)
 unfolding for_some copies
+some_copies x [] h z = elim h [ ]
 some_copies x (t ∷ ts) h z = go (same_transition x t) refl h (some_copies x ts)
   where
     go : (b : Bool) → same_transition x t ≡ b → T (b || for_some (same_transition x) ts) → (T (for_some (same_transition x) ts) → ¬ (copies x ts ≡ 0)) → ⊥

@@ -35,7 +35,7 @@ header_of b = record {
   nodes = u16 b 12;
   transitions_at = u16 b 14;
   actions_at = u16 b 16;
-  formula_at_lem = u16 b 18;
+  formula_at = u16 b 18;
   labels_at = cond (has_label_table (version b)) (u16 b 20) (header_size (version b));
 }
 

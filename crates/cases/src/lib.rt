@@ -1,4 +1,6 @@
 // Case files: their tables and their conditions.
+#![tactic(auto)]
+
 mod actions;
 mod conditions;
 mod file;

@@ -2,6 +2,8 @@
 // reads calls: 1 adds a transition and 2 drops one, three 16-bit numbers, source, label and target; 3 wants the marks, by a limit of 64 bits.
 // Prints a line for each: `open`, `add`, `drop` or `want`, the refusal number (0 if none), and of `want` the verdict, the count of marked
 // states, the rounds, the records and the distinct ones too. Ends after a refused open, at any other call, and where the stream does.
+#![tactic(auto)]
+
 ghost use Rattle.std.specs.Prelude.{◌≤◌, length};
 
 use cases::{LARGEST, Transition, number_at};

@@ -1,5 +1,7 @@
 // The calls for programs in C or Rust. A slice is a pointer and a length. Translating and solving answer five numbers, a route over a case or
 // a model six, and a change of a model one, its refusal number.
+#![tactic(auto)]
+
 ghost use Rattle.std.specs.Prelude.{◌≡◌};
 ghost use Rattle.sets.specs.Refusals.{refused};
 ghost use Rattle.translate.specs.Translating.{written_number, written_length};

@@ -1,4 +1,6 @@
 // Both routes and solve, as the programs run them: their limit, their memory, and how the numbers are printed.
+#![tactic(auto)]
+
 ghost use Rattle.std.specs.Prelude.{◌≡◌};
 ghost use Rattle.sets.specs.Words.{word_count};
 ghost use Rattle.solver.specs.File.{cell_limit};

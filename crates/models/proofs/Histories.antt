@@ -188,11 +188,11 @@ Told b ts (e ∷ es) = Answers b ts e × Told b (held_after ts (e ∷ [])) es
 pub told : {b : List ℕ} {ts : List Transition} {m m' : List ℕ} {es : List Event} → Holding b ts m → Happened m es m' → Told b ts es × Holding b (held_after ts es) m'
 unfolding held_after Answers
 told h nothing = (tt, h)
-told h (added {t = t} e rest) =
-    let more = told (edit_holding h (λ z. add_made h t (sym (add_number h t) ∙ z)) e) rest in
+told {ts = ts} h (added {t = t} {k = k} e rest) =
+    let more = told {ts = by_refusal k (adding ts t) ts} (edit_holding h (λ z. add_made h t (sym (add_number h t) ∙ z)) e) rest in
     ((e.number ∙ add_number h t, more.0), more.1)
-told h (dropped {t = t} e rest) =
-    let more = told (edit_holding h (λ z. drop_made h t (sym (drop_number h t) ∙ z)) e) rest in
+told {ts = ts} h (dropped {t = t} {k = k} e rest) =
+    let more = told {ts = by_refusal k (dropping ts t) ts} (edit_holding h (λ z. drop_made h t (sym (drop_number h t) ∙ z)) e) rest in
     ((e.number ∙ drop_number h t, more.0), more.1)
 told h (wanted e rest) = let more = told h rest in ((rw (within h) at e, more.0), more.1)
 

@@ -1,4 +1,6 @@
 // Models that are edited: lent bytes that start with a case. A model is opened, transitions are added and dropped, and marks are wanted.
+#![tactic(auto)]
+
 ghost use Rattle.std.specs.Prelude.{◌≡◌, ◌++◌, length};
 ghost use Rattle.sets.specs.Refusals.{first_of};
 ghost use Rattle.cases.specs.File.{header_of, case_within};

@@ -169,7 +169,7 @@ header v n m l i a f at₁ at₂ at₃ at₄ = record {
   labels_at = at₁;
   transitions_at = at₂;
   actions_at = at₃;
-  formula_at_lem = at₄;
+  formula_at = at₄;
 }
 
 -- ---- conditions of the layout that do not hold

@@ -165,6 +165,7 @@ unfolding case_conditions layout_conditions model_conditions formula_conditions 
 own_numbers b k (Memᴰ.head e) m = absent 0 (case_conditions b) tt (rw e at m)
 own_numbers b k (Memᴰ.tail (Memᴰ.head e)) m = absent 13 (case_conditions b) tt (rw e at m)
 own_numbers b k (Memᴰ.tail (Memᴰ.tail (Memᴰ.head e))) m = absent 14 (case_conditions b) tt (rw e at m)
+own_numbers b k (Memᴰ.tail (Memᴰ.tail (Memᴰ.tail h))) m = elim h [ ]
 
 -- a run over a case answers no others
 run_numbers : (R : Route) (c : Case) (l : Lent) (limit : ℕ) → Memᴰ (first_of (run_conditions R c l limit)) (0 ∷ 13 ∷ 14 ∷ [])

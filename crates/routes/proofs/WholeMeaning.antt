@@ -1,5 +1,5 @@
 -- The formula that is translated, with a nu before a root that is no binder, has no free variable and the same meaning.
-use mathlib.Core.Path.{◌≡◌, refl, ap, ap₂, subst, ◌∙◌}
+use mathlib.Core.Path.{◌≡◌, refl, sym, ap, ap₂, subst, ◌∙◌}
 use mathlib.Core.Bool.{Bool, true, false, cond, not, ◌&&◌, ◌||◌}
 use mathlib.Core.List.{List}
 use Prim.Native.Nat.{ℕ, zero, suc, ◌+◌}
@@ -43,7 +43,7 @@ none_free_whole a none = go (binds_first a)
     go : (b : Bool) (i : ℕ) → T (free i (cond b a (Fix true 0 (raise a)))) → ⊥
     go true i t = none i t
     go false zero t = t
-    go false (suc i) t = none i (subst T (free_raise a i) (rw (← add-one) at (and_right (not (eqb (suc i) 0)) _ t)))
+    go false (suc i) t = none i (subst T (free_raise a i) (subst (λ (x : ℕ). T (free x (raise a))) (sym (add-one i)) (and_right (not (eqb (suc i) 0)) _ t)))
 
 -- The root of the formula that is translated has block 0.
 pub root_set : (n : ℕ) (ts : List Transition) (a : Formula) (σ : Valuation) → shallow n ts (block_in (whole a)) (whole a) σ ≡ σ 0

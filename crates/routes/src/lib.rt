@@ -1,4 +1,6 @@
 // The two routes from a case to its marks: directly on sets of states, and by way of its equation file.
+#![tactic(auto)]
+
 mod evaluate;
 mod modal;
 mod outcome;

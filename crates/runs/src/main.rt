@@ -1,5 +1,7 @@
 // Reads a stream of cases from standard input, each as its length, a 16-bit number, low byte first, and then so many bytes. Prints a line
 // for each: its number in the stream, and then what `twosides` prints. A stream that ends inside a case ends there.
+#![tactic(auto)]
+
 use libc::{STDIN_FILENO, STDOUT_FILENO};
 
 // The line of a case.

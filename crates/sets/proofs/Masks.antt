@@ -1,5 +1,5 @@
 -- Laws of the numbers and words of sets that a property picks out of a list: bit by bit, the operations on numbers are those on truth values.
-use mathlib.Core.Path.{◌≡◌, refl, sym, ap, ◌∙◌}
+use mathlib.Core.Path.{◌≡◌, refl, sym, ap, subst, ◌∙◌}
 use mathlib.Core.Bool.{Bool, true, false, not, cond, ◌&&◌, ◌||◌}
 use mathlib.Core.List.{List, [], ◌∷◌, map, map-id}
 use Prim.Native.Nat.{ℕ, zero, suc, ◌+◌, ◌-◌, ◌*◌, ◌/◌, ◌%◌, ◌^◌, ◌<◌, min, max}
@@ -116,7 +116,8 @@ one_from j i zero h = absurd (omega arith)
 one_from zero i (suc m) h = rw (eq-eqb (i + 0) i (omega arith)) (omega (arith, none_before (i + 0) (suc i) m (omega arith)))
 one_from (suc j) i (suc m) h =
     let e : i + suc j ≡ suc i + j = omega arith in
-    rw (ne_eqb (i + suc j) i (λ q. omega arith), e) (omega (arith, one_from j (suc i) m (omega arith), pow-suc 2 j))
+    let later = subst (λ (x : ℕ). from_bits (map (eqb x) (numbers_from (suc i) m)) ≡ 2 ^ j) (sym e) (one_from j (suc i) m (omega arith)) in
+    rw (ne_eqb (i + suc j) i (λ q. omega arith)) (omega (arith, later, pow-suc 2 j))
 
 -- j alone
 pub number_one : (j m : ℕ) → j < m → from_bits (map (eqb j) (numbers_from 0 m)) ≡ 2 ^ j

@@ -28,6 +28,7 @@ unfolding every
 without_rest k n c cs t = and_right (not (eqb n k)) _ t
 
 pub absent : (k : ℕ) (cs : Conditions) → Without k cs → ¬ Memᴰ k (numbers_of cs)
+absent k [] t m = elim m [ ]
 absent k ((n, c) ∷ cs) t (Memᴰ.head e) = without_first k n c cs t (sym e)
 absent k ((n, c) ∷ cs) t (Memᴰ.tail m) = absent k cs (without_rest k n c cs t) m
 

@@ -1,4 +1,6 @@
 // Sets of states in words: state s is bit s mod 64 of word s / 64.
+#![tactic(auto)]
+
 ghost use Rattle.std.specs.Prelude.{◌≡◌, true, false, not, cond, ◌&&◌, ◌||◌, map, ◌++◌, ℕ, ◌-◌, ◌^◌, ◌<◌, ◌≤◌, length, set, take, drop};
 ghost use Rattle.std.specs.Int.Bits.{bit_and, bit_or};
 ghost use Rattle.std.specs.Int.Count.{ones};

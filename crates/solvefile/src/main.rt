@@ -1,5 +1,7 @@
 // Solves an equation file from standard input and prints one line: S, the refusal number (0 if none), the verdict as 1 or 0,
 // the count of marked states and the rounds; the last three are 0 on a refusal.
+#![tactic(auto)]
+
 ghost use Rattle.std.specs.Prelude.{◌≡◌, ◌+◌, length};
 ghost use Rattle.solver.specs.internal.Forms.{largest_file};
 

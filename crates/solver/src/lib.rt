@@ -1,4 +1,6 @@
 // Equation files: their conditions, their standard solution, and the rounds that it takes.
+#![tactic(auto)]
+
 mod cells;
 mod conditions;
 mod file;

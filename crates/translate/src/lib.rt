@@ -1,4 +1,6 @@
 // Writing the equation file of a case.
+#![tactic(auto)]
+
 mod blocks;
 mod bytes;
 mod nodes;

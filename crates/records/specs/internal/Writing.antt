@@ -35,5 +35,5 @@ recounted h k = record {
   labels_at = h.labels_at;
   transitions_at = h.transitions_at;
   actions_at = h.transitions_at + 6 * k;
-  formula_at_lem = h.transitions_at + 6 * k + 4 * h.actions;
+  formula_at = h.transitions_at + 6 * k + 4 * h.actions;
 }

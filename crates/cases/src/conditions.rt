@@ -64,8 +64,8 @@ fn bad_offset(h: Header) -> bool
 
 // Condition 5, where the counts are in range.
 fn bad_length(case: &[u8], h: Header) -> bool
-    requires fact_1 { CountsFit h }
-    requires fact_2 { h ≡ header_of case.now }
+    requires counts_fit { CountsFit h }
+    requires header_read { h ≡ header_of case.now }
     ensures { result ≡ bad_length case.now }
 {
     case.len() != file_end(h)
@@ -292,7 +292,7 @@ fn formula_arity(kind: usize) -> usize
 }
 
 // A subtree: the node after it, and whether it is whole with no node after it.
-#[derive(Drop)]
+#[derive(Clone, Copy)]
 struct Subtree {
     end: usize,
     last: bool,
@@ -356,8 +356,8 @@ pub fn is_binder(x: Node) -> bool
 
 // Whether node i stands in the subtree of its binder, if it is a variable.
 fn variable_bound(part: &[u8], f: usize, i: usize) -> bool
-    requires fact_1 { NodesFit node_limit part.now f }
-    requires fact_2 { i < f }
+    requires nodes_fit { NodesFit node_limit part.now f }
+    requires inside { i < f }
     ensures { result ≡ bound_ok (nodes_in part.now f) i }
 {
     let x = node_at(part, i);
@@ -423,8 +423,8 @@ pub fn binders(part: &[u8], f: usize) -> usize
 
 // Condition 10.
 fn too_deep(part: &[u8], f: usize) -> bool
-    requires fact_1 { NodesFit node_limit part.now f }
-    requires fact_2 { 1 ≤ f }
+    requires nodes_fit { NodesFit node_limit part.now f }
+    requires some_node { 1 ≤ f }
     ensures { result ≡ too_deep (nodes_in part.now f) }
 {
     let count = binders(part, f);
@@ -436,8 +436,8 @@ fn too_deep(part: &[u8], f: usize) -> bool
 
 // The formula part: the header, or the first of conditions 8 to 10 that holds.
 fn check_formula(part: &[u8], h: Header) -> Opened
-    requires fact_1 { NodesFit node_limit part.now h.nodes }
-    requires fact_2 { 1 ≤ h.nodes }
+    requires nodes_fit { NodesFit node_limit part.now h.nodes }
+    requires some_node { 1 ≤ h.nodes }
     ensures { Opens (first_of (formula_conditions h.actions (nodes_in part.now h.nodes))) h result }
 {
     if bad_formula(h.actions, part, h.nodes) {

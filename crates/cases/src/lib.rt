@@ -33,7 +33,7 @@ pub const LARGEST: usize = file::LONGEST_HEADER
     + 4 * NODES;
 
 // The version of a case, its counts, its initial state, and the offsets of its tables.
-#[derive(Drop)]
+#[derive(Clone, Copy)]
 pub struct Header {
     pub version: usize,
     pub states: usize,
@@ -49,7 +49,7 @@ pub struct Header {
 }
 
 // A label: four names, or fewer and a 0 in place of each that is missing.
-#[derive(Drop)]
+#[derive(Clone, Copy)]
 pub struct Label {
     pub first: usize,
     pub second: usize,
@@ -58,7 +58,7 @@ pub struct Label {
 }
 
 // A transition: source, label, target.
-#[derive(Drop)]
+#[derive(Clone, Copy)]
 pub struct Transition {
     pub source: usize,
     pub label: usize,
@@ -66,21 +66,21 @@ pub struct Transition {
 }
 
 // How many records a transition table has, and how many of them are distinct.
-#[derive(Drop)]
+#[derive(Clone, Copy)]
 pub struct Tally {
     pub records: usize,
     pub distinct: usize,
 }
 
 // A node of the action or formula table: kind, argument.
-#[derive(Drop)]
+#[derive(Clone, Copy)]
 pub struct Node {
     pub kind: usize,
     pub arg: usize,
 }
 
 // Why a case is refused.
-#[derive(Drop)]
+#[derive(Clone, Copy)]
 pub enum Cause {
     Small,
     Version,
@@ -96,7 +96,7 @@ pub enum Cause {
 }
 
 // What opening a case finds.
-#[derive(Drop)]
+#[derive(Clone, Copy)]
 pub enum Opened {
     Accepted(Header),
     Refused(Cause),

@@ -18,7 +18,7 @@ use translate::{Written, number_of};
 // The refusal number (0 if none), the verdict as 1 or 0, the count of marked states, the rounds, and the length of the file that was
 // written. What a call does not answer is 0, and so are all but the first after a refusal.
 #[repr(C)]
-#[derive(Drop)]
+#[derive(Clone, Copy)]
 pub struct Numbers {
     pub refusal: u64,
     pub verdict: u64,
@@ -30,7 +30,7 @@ pub struct Numbers {
 // The refusal number (0 if none), the verdict as 1 or 0, the count of marked states and the rounds, which are 0 after a refusal; then how
 // many records the case's transition table has and how many of them are distinct, which are 0 where the case is refused on opening.
 #[repr(C)]
-#[derive(Drop)]
+#[derive(Clone, Copy)]
 pub struct RouteNumbers {
     pub refusal: u64,
     pub verdict: u64,

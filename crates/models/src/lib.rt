@@ -16,7 +16,7 @@ use records::{find, insert, remove, write_distinct};
 use routes::Tallied;
 
 // Why a model is not opened or not changed.
-#[derive(Drop)]
+#[derive(Clone, Copy)]
 pub enum Cause {
     Case(cases::Cause),
     Range,
@@ -26,7 +26,7 @@ pub enum Cause {
 }
 
 // What opening or changing a model answers.
-#[derive(Drop)]
+#[derive(Clone, Copy)]
 pub enum Change {
     Made,
     Refused(Cause),

@@ -24,28 +24,28 @@ use sets::WORDS;
 use translate::{Written, write_case};
 
 // Why a case gets no marks: found on opening it, or on running it.
-#[derive(Drop)]
+#[derive(Clone, Copy)]
 pub enum Cause {
     Open(cases::Cause),
     Run(solver::Cause),
 }
 
 // What is reported of a case with its marks.
-#[derive(Drop)]
+#[derive(Clone, Copy)]
 pub struct Report {
     pub verdict: bool,
     pub count: usize,
     pub rounds: u64,
 }
 
-#[derive(Drop)]
+#[derive(Clone, Copy)]
 pub enum Answer {
     Solved(Report),
     Refused(Cause),
 }
 
 // A route's answer, and the tally of the case's transition table: both its numbers are 0 where the case is refused on opening.
-#[derive(Drop)]
+#[derive(Clone, Copy)]
 pub struct Tallied {
     pub answer: Answer,
     pub tally: Tally,
@@ -53,7 +53,7 @@ pub struct Tallied {
 
 // The numbers of an answer: the refusal number (0 if none), the verdict as 1 or 0, the count and the rounds; the last three are 0 after a
 // refusal.
-#[derive(Drop)]
+#[derive(Clone, Copy)]
 pub struct Numbers {
     pub refusal: u64,
     pub verdict: u64,
@@ -62,7 +62,7 @@ pub struct Numbers {
 }
 
 // The set of a node, the node after its subtree, and the rounds so far; or the rounds are spent.
-#[derive(Drop)]
+#[derive(Clone, Copy)]
 pub struct Value {
     pub set: [u64; WORDS],
     pub next: usize,

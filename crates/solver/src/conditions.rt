@@ -47,8 +47,8 @@ fn operands_from(sizes: Sizes) -> usize
 
 // Whether the version, the offsets and the length are right.
 fn places_hold(file: &[u8], sizes: Sizes) -> bool
-    requires fact_1 { blocks_at ≤ length file.now }
-    requires fact_2 { SizesFit sizes }
+    requires long_enough { blocks_at ≤ length file.now }
+    requires sizes_fit { SizesFit sizes }
     ensures { Decides (Places file.now sizes) result }
 {
     if number_at(file, 0) != 1 {
@@ -69,8 +69,8 @@ fn places_hold(file: &[u8], sizes: Sizes) -> bool
 
 // Whether condition 11 does not hold.
 fn layout_holds(file: &[u8], sizes: Sizes) -> bool
-    requires fact_1 { blocks_at ≤ length file.now }
-    requires fact_2 { sizes ≡ sizes_of file.now }
+    requires long_enough { blocks_at ≤ length file.now }
+    requires sizes_read { sizes ≡ sizes_of file.now }
     ensures { result ≡ layout_ok file.now }
 {
     if counts_hold(sizes) {
@@ -81,8 +81,8 @@ fn layout_holds(file: &[u8], sizes: Sizes) -> bool
 
 // Whether block k keeps its rule.
 fn block_holds(file: &[u8], sizes: Sizes, k: usize) -> bool
-    requires fact_1 { Read file.now sizes }
-    requires fact_2 { k < sizes.blocks }
+    requires layout_read { Read file.now sizes }
+    requires inside { k < sizes.blocks }
     ensures { result ≡ block_ok file.now k }
 {
     let at = HEADER + 8 * k;
@@ -109,8 +109,8 @@ fn blocks_hold(file: &[u8], sizes: Sizes) -> bool
 
 // Whether every operand of a list of cell i is a cell number above i.
 fn operands_hold(file: &[u8], sizes: Sizes, i: usize, from: usize, count: usize) -> bool
-    requires fact_1 { Read file.now sizes }
-    requires fact_2 { from + count ≤ sizes.operands }
+    requires layout_read { Read file.now sizes }
+    requires inside { from + count ≤ sizes.operands }
     ensures { result ≡ operands_ok file.now i from count }
 {
     let cells = sizes.cells;
@@ -137,10 +137,10 @@ fn variable_holds(sizes: Sizes, block: usize, state: usize) -> bool
 
 // Whether cell i keeps its rule, where the lists before it have `used` operands, and how many operands it has.
 fn entry_span(file: &[u8], sizes: Sizes, i: usize, used: usize) -> Span
-    requires fact_1 { Read file.now sizes }
-    requires fact_2 { i < sizes.cells }
-    requires fact_3 { used ≡ operands_before file.now i }
-    requires fact_4 { used ≤ sizes.operands }
+    requires layout_read { Read file.now sizes }
+    requires inside { i < sizes.cells }
+    requires counted { used ≡ operands_before file.now i }
+    requires few { used ≤ sizes.operands }
     ensures { Spans file.now i used result }
 {
     let x = entry_at(file, sizes, i);

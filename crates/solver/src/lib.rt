@@ -25,7 +25,7 @@ pub const OPERANDS: usize = 133_120;
 pub const LARGEST: usize = HEADER + 8 * BLOCKS + 12 * CELLS + 4 * OPERANDS;
 
 // The counts of an equation file, and its initial state.
-#[derive(Drop)]
+#[derive(Clone, Copy)]
 pub struct Sizes {
     pub states: usize,
     pub blocks: usize,
@@ -35,7 +35,7 @@ pub struct Sizes {
 }
 
 // The three numbers of a cell: its kind, and first operand and operand count, or block and state.
-#[derive(Drop)]
+#[derive(Clone, Copy)]
 pub struct Entry {
     pub kind: usize,
     pub one: usize,
@@ -43,7 +43,7 @@ pub struct Entry {
 }
 
 // Why a file is not solved.
-#[derive(Drop)]
+#[derive(Clone, Copy)]
 pub enum Cause {
     Layout,
     Table,
@@ -52,28 +52,28 @@ pub enum Cause {
 }
 
 // What opening a file finds.
-#[derive(Drop)]
+#[derive(Clone, Copy)]
 pub enum Opened {
     File(Sizes),
     Unfit(Cause),
 }
 
 // What is reported of a solved file.
-#[derive(Drop)]
+#[derive(Clone, Copy)]
 pub struct Report {
     pub verdict: bool,
     pub count: usize,
     pub rounds: u64,
 }
 
-#[derive(Drop)]
+#[derive(Clone, Copy)]
 pub enum Answer {
     Solved(Report),
     Refused(Cause),
 }
 
 // Whether a cell keeps its rule, and how many operands it has.
-#[derive(Drop)]
+#[derive(Clone, Copy)]
 pub struct Span {
     pub ok: bool,
     pub count: usize,

@@ -27,14 +27,14 @@ use solver::HEADER;
 use totals::operand_total;
 
 // Why no file is written: found on opening the case, or the buffer is too short.
-#[derive(Drop)]
+#[derive(Clone, Copy)]
 pub enum Cause {
     Open(cases::Cause),
     Memory,
 }
 
 // The length of the file that was written, or why there is none.
-#[derive(Drop)]
+#[derive(Clone, Copy)]
 pub enum Written {
     File(usize),
     Refused(Cause),
@@ -42,7 +42,7 @@ pub enum Written {
 
 // What the writers need of a node: its kind as in the formula table, the node of a second operand, the block of a binder or variable,
 // and the labels that a box or diamond accepts, bit x for label x. What a kind does not have is 0.
-#[derive(Drop)]
+#[derive(Clone, Copy)]
 pub struct Shape {
     pub kind: usize,
     pub second: usize,
@@ -63,8 +63,8 @@ fn fill(
     d: usize,
     p: usize,
 )
-    requires fact_1 { Sources part.now first.now m shapes k n }
-    requires fact_2 { RoomFor (shape_system n initial (distinct_in part.now first.now m) (take k shapes)) (k * n) d p (length out.old) }
+    requires sources { Sources part.now first.now m shapes k n }
+    requires room { RoomFor (shape_system n initial (distinct_in part.now first.now m) (take k shapes)) (k * n) d p (length out.old) }
     ensures { Wrote (numbers (shape_system n initial (distinct_in part.now first.now m) (take k shapes)))
         out.old out.new }
 {

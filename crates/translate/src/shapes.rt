@@ -29,8 +29,8 @@ pub fn is_modal(kind: usize) -> bool
 
 // The node of the second operand of node i; 0 where there is none.
 fn second_of(part: &[u8], f: usize, added: usize, i: usize) -> usize
-    requires fact_1 { NodesFit node_limit part.now f }
-    requires fact_2 { (added ≤ 1) × (i < f) }
+    requires nodes_fit { NodesFit node_limit part.now f }
+    requires inside { (added ≤ 1) × (i < f) }
     ensures { (action : ℕ → Action) → result ≡ (shape_in action (nodes_in part.now f) added i).second }
 {
     let x = cases::node_at(part, i);
@@ -42,8 +42,8 @@ fn second_of(part: &[u8], f: usize, added: usize, i: usize) -> usize
 
 // The block of node i; 0 where there is none.
 fn block_of(part: &[u8], f: usize, added: usize, i: usize) -> usize
-    requires fact_1 { CountableBlocks part.now f }
-    requires fact_2 { (added ≤ 1) × (i < f) }
+    requires countable { CountableBlocks part.now f }
+    requires inside { (added ≤ 1) × (i < f) }
     ensures { (action : ℕ → Action) → result ≡ (shape_in action (nodes_in part.now f) added i).block }
 {
     let x = cases::node_at(part, i);
@@ -58,8 +58,8 @@ fn block_of(part: &[u8], f: usize, added: usize, i: usize) -> usize
 
 // The labels that node i accepts, by the masks of a action formulas; 0 where there are none.
 fn labels_of(masks: &[u64], a: usize, part: &[u8], f: usize, i: usize) -> u64
-    requires fact_1 { Tables masks.now a part.now f }
-    requires fact_2 { i < f }
+    requires tables { Tables masks.now a part.now f }
+    requires inside { i < f }
     ensures { (action : ℕ → Action) (added : ℕ) → ActionMasks action a masks.now
         → result ≡ (shape_in action (nodes_in part.now f) added i).labels }
 {
@@ -73,8 +73,8 @@ fn labels_of(masks: &[u64], a: usize, part: &[u8], f: usize, i: usize) -> u64
 
 // The shape of node i.
 fn shape_at(masks: &[u64], a: usize, part: &[u8], f: usize, added: usize, i: usize) -> Shape
-    requires fact_1 { Tables masks.now a part.now f }
-    requires fact_2 { (added ≤ 1) × (i < f) }
+    requires tables { Tables masks.now a part.now f }
+    requires inside { (added ≤ 1) × (i < f) }
     ensures { (action : ℕ → Action) → ActionMasks action a masks.now → result ≡ shape_in action (nodes_in part.now f) added i }
 {
     let x = cases::node_at(part, i);
@@ -102,8 +102,8 @@ pub fn added_before(part: &[u8], f: usize) -> usize
 
 // The shapes of all nodes. Where a nu is put before the root, it is the first.
 pub fn shapes_of(masks: &[u64], a: usize, part: &[u8], f: usize) -> [Shape; SHAPES]
-    requires fact_1 { Tables masks.now a part.now f }
-    requires fact_2 { 1 ≤ f }
+    requires tables { Tables masks.now a part.now f }
+    requires some_node { 1 ≤ f }
     ensures { (action : ℕ → Action) → ActionMasks action a masks.now → HoldsShapes action part.now f result }
 {
     let added = added_before(part, f);

@@ -1,0 +1,24 @@
+use mathlib.Core.Path.{◌≡◌, ◌∙◌}
+use Prim.Native.Nat.{◌-◌, ◌≤◌}
+use native.Mathlib.Omega.{arith}
+use lib.ListN.{length, length-set}
+use Rattle.solver.specs.File.{sizes_of, block_limit}
+use Rattle.solver.specs.internal.Working.{HoldsRows, starting}
+use Rattle.solver.proofs.Tables.{counted}
+use Rattle.solver.proofs.Reading.{few_blocks, row_fits}
+use Rattle.solver.proofs.Runs.{none_started, more_started}
+use Rattle.solver.proofs.rounds.starts.Goals as goal
+
+pub loop-k-init : goal.loop-k-init
+loop-k-init c = (omega arith, omega arith, omega arith, none_started _)
+
+pub offset_bounds-sets-k : goal.offset_bounds-sets-k
+offset_bounds-sets-k c = row_fits (few_blocks c.requires (omega arith))
+
+pub bounds-sets-k : goal.bounds-sets-k
+bounds-sets-k c = few_blocks c.requires (omega arith)
+
+pub loop-k-preserved : goal.loop-k-preserved
+loop-k-preserved c =
+    let i = c.loop-k.invariant in
+    (omega arith, i.1, length-set c.loop-k.sets _ _ ∙ i.2, more_started _ i.3 (rw i.2 (few_blocks c.requires (omega arith))) c.start_of-row.ensures)

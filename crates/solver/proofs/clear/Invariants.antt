@@ -1,10 +1,7 @@
 use Prim.Native.Nat.{◌≤◌, ◌-◌}
-use mathlib.Core.Path.{◌≡◌, refl, ap, ◌∙◌}
+use mathlib.Core.Path.{◌≡◌}
 use mathlib.Core.List.{◌++◌}
-use native.Mathlib.Omega.{arith}
-use borrow.Author.Fill.{fill_none, fill_more}
-use lib.ListN.{length, set, drop, replicate, length-set}
-use Rattle.sets.proofs.Stores.{cleared}
+use lib.ListN.{length, drop, replicate}
 use Rattle.solver.proofs.clear.Given as goal
 
 abbrev pub invariant-loop-i : goal.invariant-loop-i

@@ -1,7 +1,6 @@
-use Prim.Native.Nat.{ℕ, ◌+◌, ◌-◌, ◌≤◌}
-use mathlib.Core.Path.{◌≡◌, sym, ◌∙◌}
+use Prim.Native.Nat.{ℕ, ◌+◌, ◌-◌}
+use mathlib.Core.Path.{◌≡◌}
 use native.Mathlib.Omega.{arith}
-use Rattle.solver.specs.internal.Working.{CellsValued}
 use Rattle.solver.proofs.Tables.{counted}
 use Rattle.solver.proofs.Shown.{evaluated_none, evaluated_more}
 use Rattle.solver.proofs.cells.evaluate.Goals as goal

@@ -1,9 +1,5 @@
-use Prim.Native.Nat.{ℕ, ◌+◌, ◌-◌, ◌≤◌}
-use mathlib.Core.Path.{◌≡◌, sym, ◌∙◌}
-use native.Mathlib.Omega.{arith}
+use Prim.Native.Nat.{◌≤◌}
 use Rattle.solver.specs.internal.Working.{CellsValued}
-use Rattle.solver.proofs.Tables.{counted}
-use Rattle.solver.proofs.Shown.{evaluated_none, evaluated_more}
 use Rattle.solver.proofs.cells.evaluate.Given as goal
 
 abbrev pub invariant-loop-i : goal.invariant-loop-i

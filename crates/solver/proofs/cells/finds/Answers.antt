@@ -1,9 +1,7 @@
-use Prim.Native.Nat.{◌-◌, ◌≤◌}
-use mathlib.Core.Path.{◌≡◌, refl}
 use native.Mathlib.Omega.{arith}
 use Rattle.solver.proofs.Tables.{counted}
 use Rattle.solver.proofs.Reading.{opens_read, operand_inside}
-use Rattle.solver.proofs.Lookup.{found, operand_low, search_ends, hit, miss}
+use Rattle.solver.proofs.Lookup.{operand_low, search_ends, hit, miss}
 use Rattle.solver.proofs.cells.finds.Goals as goal
 
 pub operand_at-o-requires : goal.operand_at-o-requires

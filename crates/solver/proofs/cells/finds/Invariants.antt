@@ -1,9 +1,6 @@
 use Prim.Native.Nat.{◌-◌, ◌≤◌}
-use mathlib.Core.Path.{◌≡◌, refl}
-use native.Mathlib.Omega.{arith}
-use Rattle.solver.proofs.Tables.{counted}
-use Rattle.solver.proofs.Reading.{opens_read, operand_inside}
-use Rattle.solver.proofs.Lookup.{found, operand_low, search_ends, hit, miss}
+use mathlib.Core.Path.{◌≡◌}
+use Rattle.solver.proofs.Lookup.{found}
 use Rattle.solver.proofs.cells.finds.Given as goal
 
 abbrev pub invariant-loop-j : goal.invariant-loop-j

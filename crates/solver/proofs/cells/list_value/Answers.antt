@@ -1,5 +1,4 @@
 use mathlib.Core.Path.{sym, ◌∙◌}
-use borrow.Author.Rules.{rules}
 use Rattle.solver.proofs.Shown.{and_value, or_value}
 use Rattle.solver.proofs.cells.list_value.Goals as goal
 

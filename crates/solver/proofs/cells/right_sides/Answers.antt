@@ -1,9 +1,9 @@
 use Prim.Native.Nat.{◌+◌, ◌-◌}
-use mathlib.Core.Path.{◌≡◌, sym, ◌∙◌}
+use mathlib.Core.Path.{◌≡◌}
 use native.Mathlib.Omega.{arith}
 use Rattle.solver.proofs.Tables.{counted}
 use Rattle.solver.proofs.Reading.{opens_read, few_blocks, block_inside, row_fits}
-use Rattle.solver.proofs.Sides.{block_fits, Replacing, replacing_none, replacing_ready, replacing_more, replacing_all}
+use Rattle.solver.proofs.Sides.{block_fits, replacing_none, replacing_ready, replacing_more, replacing_all}
 use Rattle.solver.proofs.cells.right_sides.Goals as goal
 
 pub overflow_mul-k : goal.overflow_mul-k

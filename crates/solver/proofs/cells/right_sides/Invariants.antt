@@ -1,9 +1,4 @@
-use Prim.Native.Nat.{◌+◌, ◌-◌}
-use mathlib.Core.Path.{◌≡◌, sym, ◌∙◌}
-use native.Mathlib.Omega.{arith}
-use Rattle.solver.proofs.Tables.{counted}
-use Rattle.solver.proofs.Reading.{opens_read, few_blocks, block_inside, row_fits}
-use Rattle.solver.proofs.Sides.{block_fits, Replacing, replacing_none, replacing_ready, replacing_more, replacing_all}
+use Rattle.solver.proofs.Sides.{Replacing}
 use Rattle.solver.proofs.cells.right_sides.Given as goal
 
 abbrev pub invariant-loop-s : goal.invariant-loop-s

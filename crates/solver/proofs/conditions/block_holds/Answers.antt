@@ -1,6 +1,5 @@
 use native.Mathlib.Omega.{arith}
 use Rattle.solver.proofs.BlockRules.{block_sign_fails, block_cells}
-use borrow.Author.Rules.{rules}
 use Rattle.solver.proofs.conditions.block_holds.Goals as goal
 
 pub returns-then-number_at-gt1 : goal.returns-then-number_at-gt1

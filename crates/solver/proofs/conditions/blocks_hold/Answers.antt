@@ -1,9 +1,6 @@
-use Prim.Native.Nat.{◌≤◌, ◌-◌}
-use mathlib.Core.Path.{◌≡◌, refl, sym, ◌∙◌}
+use mathlib.Core.Path.{sym, ◌∙◌}
 use native.Mathlib.Omega.{arith}
-use borrow.Author.Rules.{rules}
-use borrow.Author.Tests.{not-true, not-false}
-use Rattle.solver.proofs.BlockRules.{blocks_left, blocks_end, block_breaks, block_goes_on}
+use Rattle.solver.proofs.BlockRules.{blocks_end, block_breaks, block_goes_on}
 use Rattle.solver.proofs.conditions.blocks_hold.Goals as goal
 
 pub returns-then-not-block_holds : goal.returns-then-not-block_holds

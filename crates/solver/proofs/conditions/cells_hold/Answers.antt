@@ -1,12 +1,8 @@
-use Prim.Native.Nat.{◌≤◌, ◌-◌}
-use mathlib.Core.Path.{◌≡◌, refl}
+use mathlib.Core.Path.{refl}
 use native.Mathlib.Omega.{arith}
-use borrow.Author.Rules.{rules}
-use borrow.Author.Tests.{not-true, not-false}
-use Rattle.solver.specs.Conditions.{operands_before}
-use Rattle.solver.specs.internal.Checks.{rest_ok}
+use borrow.Author.Tests.{not-false}
 use Rattle.solver.proofs.Tables.{counted}
-use Rattle.solver.proofs.CellRules.{none_before, cells_end, cell_breaks, cell_goes_on}
+use Rattle.solver.proofs.CellRules.{none_before, cells_end, cell_goes_on}
 use Rattle.solver.proofs.conditions.cells_hold.Goals as goal
 
 pub loop-i-init : goal.loop-i-init

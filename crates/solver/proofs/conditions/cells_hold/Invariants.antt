@@ -1,12 +1,7 @@
 use Prim.Native.Nat.{◌≤◌, ◌-◌}
-use mathlib.Core.Path.{◌≡◌, refl}
-use native.Mathlib.Omega.{arith}
-use borrow.Author.Rules.{rules}
-use borrow.Author.Tests.{not-true, not-false}
+use mathlib.Core.Path.{◌≡◌}
 use Rattle.solver.specs.Conditions.{operands_before}
 use Rattle.solver.specs.internal.Checks.{rest_ok}
-use Rattle.solver.proofs.Tables.{counted}
-use Rattle.solver.proofs.CellRules.{none_before, cells_end, cell_breaks, cell_goes_on}
 use Rattle.solver.proofs.conditions.cells_hold.Given as goal
 
 abbrev pub invariant-loop-i : goal.invariant-loop-i

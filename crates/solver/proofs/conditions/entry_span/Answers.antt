@@ -1,6 +1,4 @@
 use native.Mathlib.Omega.{arith}
-use borrow.Author.Rules.{rules}
-use Rattle.solver.proofs.Reading.{cell_inside}
 use Rattle.solver.proofs.CellRules.{found_variable, found_other, found_elsewhere, found_past, found_list}
 use Rattle.solver.proofs.conditions.entry_span.Goals as goal
 

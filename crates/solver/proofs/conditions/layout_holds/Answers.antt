@@ -1,7 +1,5 @@
-use native.Mathlib.Omega.{arith}
 use Rattle.sets.proofs.Words.{decides_no}
 use Rattle.solver.proofs.Reading.{layout_decided}
-use borrow.Author.Rules.{rules}
 use Rattle.solver.proofs.conditions.layout_holds.Goals as goal
 
 pub returns-then-counts_hold : goal.returns-then-counts_hold

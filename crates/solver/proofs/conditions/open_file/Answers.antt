@@ -1,7 +1,5 @@
 use mathlib.Core.Path.{sym, ◌∙◌}
-use borrow.Author.Tests.{not-true, not-false}
 use Rattle.solver.proofs.Reading.{layout_short, layout_read, opened_layout, opened_table, opened_file}
-use borrow.Author.Rules.{rules}
 use Rattle.solver.proofs.conditions.open_file.Goals as goal
 
 pub returns-then-file-lt-HEADER : goal.returns-then-file-lt-HEADER

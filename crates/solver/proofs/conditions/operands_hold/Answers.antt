@@ -1,9 +1,5 @@
-use Prim.Native.Nat.{◌≤◌, ◌-◌}
-use mathlib.Core.Path.{◌≡◌, refl}
 use native.Mathlib.Omega.{arith}
-use Rattle.solver.specs.Conditions.{operands_ok}
-use Rattle.solver.proofs.Reading.{operand_inside}
-use Rattle.solver.proofs.CellRules.{list_left, list_ends, operand_low, operand_high, operand_goes_on}
+use Rattle.solver.proofs.CellRules.{list_ends, operand_low, operand_high, operand_goes_on}
 use Rattle.solver.proofs.conditions.operands_hold.Goals as goal
 
 pub returns-then-operand-i : goal.returns-then-operand-i

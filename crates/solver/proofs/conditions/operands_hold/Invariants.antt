@@ -1,9 +1,7 @@
 use Prim.Native.Nat.{◌≤◌, ◌-◌}
-use mathlib.Core.Path.{◌≡◌, refl}
-use native.Mathlib.Omega.{arith}
+use mathlib.Core.Path.{◌≡◌}
 use Rattle.solver.specs.Conditions.{operands_ok}
-use Rattle.solver.proofs.Reading.{operand_inside}
-use Rattle.solver.proofs.CellRules.{list_left, list_ends, operand_low, operand_high, operand_goes_on}
+use Rattle.solver.proofs.CellRules.{list_left}
 use Rattle.solver.proofs.conditions.operands_hold.Given as goal
 
 abbrev pub invariant-loop-j : goal.invariant-loop-j

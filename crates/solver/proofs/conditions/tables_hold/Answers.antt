@@ -1,5 +1,4 @@
 use Rattle.solver.proofs.BlockRules.{tables_broken, tables_cells}
-use borrow.Author.Rules.{rules}
 use Rattle.solver.proofs.conditions.tables_hold.Goals as goal
 
 pub returns-then-blocks_hold : goal.returns-then-blocks_hold

@@ -1,11 +1,4 @@
-use mathlib.Core.Path.{ap, ap₂, ◌∙◌}
-use mathlib.Core.Bool.{Bool}
-use Prim.Native.Nat.{ℕ}
 use native.Mathlib.Omega.{arith}
-use lib.Dec.{eqb}
-use Rattle.sets.specs.States.{start}
-use Rattle.sets.specs.Words.{words, word_count}
-use Rattle.solver.proofs.Tables.{counted}
 use Rattle.solver.proofs.Reading.{opens_read, few_blocks, block_inside}
 use Rattle.solver.proofs.rounds.start_of.Goals as goal
 

@@ -1,10 +1,6 @@
-use mathlib.Core.Path.{◌≡◌, ◌∙◌}
-use Prim.Native.Nat.{◌-◌, ◌≤◌}
+use mathlib.Core.Path.{◌∙◌}
 use native.Mathlib.Omega.{arith}
-use lib.ListN.{length, length-set}
-use Rattle.solver.specs.File.{sizes_of, block_limit}
-use Rattle.solver.specs.internal.Working.{HoldsRows, starting}
-use Rattle.solver.proofs.Tables.{counted}
+use lib.ListN.{length-set}
 use Rattle.solver.proofs.Reading.{few_blocks, row_fits}
 use Rattle.solver.proofs.Runs.{none_started, more_started}
 use Rattle.solver.proofs.rounds.starts.Goals as goal

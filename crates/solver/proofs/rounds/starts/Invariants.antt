@@ -1,12 +1,8 @@
-use mathlib.Core.Path.{◌≡◌, ◌∙◌}
-use Prim.Native.Nat.{◌-◌, ◌≤◌}
-use native.Mathlib.Omega.{arith}
-use lib.ListN.{length, length-set}
+use mathlib.Core.Path.{◌≡◌}
+use Prim.Native.Nat.{◌≤◌}
+use lib.ListN.{length}
 use Rattle.solver.specs.File.{sizes_of, block_limit}
 use Rattle.solver.specs.internal.Working.{HoldsRows, starting}
-use Rattle.solver.proofs.Tables.{counted}
-use Rattle.solver.proofs.Reading.{few_blocks, row_fits}
-use Rattle.solver.proofs.Runs.{none_started, more_started}
 use Rattle.solver.proofs.rounds.starts.Given as goal
 
 abbrev pub invariant-loop-k : goal.invariant-loop-k

@@ -1,0 +1,24 @@
+-- The number of blocks left falls. The loop's invariant: block k's loop is on its way, and the later blocks are held where they start.
+use Prim.Native.Nat.{◌+◌, ◌-◌, ◌*◌, ◌<◌, ◌≤◌}
+use mathlib.Core.Path.{◌≡◌}
+use lib.ListN.{length}
+use Rattle.solver.specs.File.{sizes_of, block_limit}
+use Rattle.solver.specs.internal.Working.{Ready, Started}
+use Rattle.solver.proofs.Turns.{Going}
+use Rattle.solver.proofs.rounds.+round_solve_last.Given as goal
+
+abbrev pub decreases-round : goal.decreases-round
+decreases-round l = 2 * l.left
+
+abbrev pub decreases-solve_last : goal.decreases-solve_last
+decreases-solve_last l = 2 * l.left + 1
+
+abbrev pub invariant-solve_last-loop-status : goal.invariant-solve_last-loop-status
+invariant-solve_last-loop-status l =
+    (0 < l.left) × (l.left ≤ l.sizes.blocks) × (length l.sets ≡ block_limit) × (length l.initial.work ≡ (sizes_of l.file).cells)
+    × Started l.file (l.sizes.blocks - l.left) l.sets
+    × Ready l.file l.sizes l.work
+    × Going l.file l.sets (l.sizes.blocks - l.left) l.initial.rounds l.limit l.s l.rounds
+
+abbrev pub decreases-solve_last-loop-status : goal.decreases-solve_last-loop-status
+decreases-solve_last-loop-status l = l.limit - l.rounds

@@ -1,0 +1,21 @@
+use native.Mathlib.Omega.{arith}
+use Rattle.solver.proofs.Reading.{opens_read}
+use Rattle.solver.proofs.Answers.{few_bytes, few_words, ended_spent, ended_solved}
+use Rattle.solver.proofs.solve_opened.Goals as goal
+
+pub returns-then-work-c : goal.returns-then-work-c
+returns-then-work-c c = few_bytes c.requires _ _ _ (omega arith)
+
+pub returns-then-marks-lt-WORDS : goal.returns-then-marks-lt-WORDS
+returns-then-marks-lt-WORDS c = few_words c.requires _ _ _ c.if-marks-lt-WORDS.true
+
+pub returns-then-status-eq-SPENT : goal.returns-then-status-eq-SPENT
+returns-then-status-eq-SPENT c = ended_spent c.requires _ _ _ (omega arith) (omega arith) c.run-row.ensures c.if-status-eq-SPENT.true
+
+pub test-verdict-requires : goal.test-verdict-requires
+test-verdict-requires c = let n = (opens_read c.requires).counts in omega arith
+
+pub returns : goal.returns
+returns c =
+    ended_solved c.requires _ _ _ c.if-work-c.false c.if-marks-lt-WORDS.false c.run-row.ensures
+    c.if-status-eq-SPENT.false c.test-verdict.ensures c.count-count.ensures c.store.ensures

@@ -23,13 +23,13 @@ pub round-returns-then-equal : goal.round-returns-then-equal
 round-returns-then-equal t c =
     let a = c.args in
     let q : a.sizes.blocks - (a.left - 1) ≡ a.sizes.blocks - a.left + 1 = omega arith in
-    settled (rw q at c.solve_last-s.ensures) c.if-status-eq-SPENT.false c.if-limit-rounds.false c.requires.0.opens (omega arith) c.right_sides-next.ensures (c.equal.ensures.yes_if c.if-equal.true)
+    settled (rw q at c.solve_last-s.ensures) c.if-status-eq-SPENT.false (omega arith) c.requires.0.opens (omega arith) c.right_sides-next.ensures (c.equal.ensures.yes_if c.if-equal.true)
 
 pub round-returns : goal.round-returns
 round-returns t c =
     let a = c.args in
     let q : a.sizes.blocks - (a.left - 1) ≡ a.sizes.blocks - a.left + 1 = omega arith in
-    moved (rw q at c.solve_last-s.ensures) c.if-status-eq-SPENT.false c.if-limit-rounds.false c.requires.0.opens (omega arith) c.right_sides-next.ensures (c.equal.ensures.no_if c.if-equal.false)
+    moved (rw q at c.solve_last-s.ensures) c.if-status-eq-SPENT.false (omega arith) c.requires.0.opens (omega arith) c.right_sides-next.ensures (c.equal.ensures.no_if c.if-equal.false)
 
 pub solve_last-returns-then-left-eq0 : goal.solve_last-returns-then-left-eq0
 solve_last-returns-then-left-eq0 t c =

@@ -1,0 +1,7 @@
+use mathlib.Core.Path.{◌≡◌}
+use lib.ListN.{length}
+use Rattle.cases.proofs.FirstAppearances.{SetBefore}
+use Rattle.cases.proofs.transitions.flag_appearances.Given as goal
+
+abbrev pub invariant-loop-i : goal.invariant-loop-i
+invariant-loop-i l = (length l.first ≡ length l.initial.first) × SetBefore l.part l.m l.i l.first l.distinct

@@ -1,0 +1,13 @@
+use mathlib.Core.Path.{◌≡◌}
+use mathlib.Core.List.{map}
+use Prim.Native.Nat.{ℕ, ◌+◌, ◌*◌, ◌≤◌}
+use lib.ListN.{length}
+use Rattle.sets.specs.Lists.{numbers_from}
+use Rattle.translate.specs.internal.Writing.{shape_cell}
+use Rattle.cases.specs.File.{transition_limit}
+use Rattle.translate.specs.internal.Parts.{WroteCells, distinct_in}
+use Rattle.translate.proofs.nodes.write_cells.Given as goal
+
+abbrev pub invariant-loop-s : goal.invariant-loop-s
+invariant-loop-s l = (l.s ≤ l.n) × ((i : ℕ) → WroteCells l.used (map (shape_cell l.n (distinct_in l.part l.first l.m) l.x i) (numbers_from 0 l.s)) l.initial.out l.out l.next)
+    × (l.next ≤ l.used + (transition_limit + 2) * l.s) × (length l.out ≡ length l.initial.out)

@@ -26,7 +26,7 @@ use Rattle.routes.specs.internal.Evaluating.{returned, modal_in, Asks, KindAt, R
 use Rattle.routes.specs.declared.Value.{Value}
 use Rattle.routes.proofs.DirectLaws.{direct_sized}
 use Rattle.routes.proofs.TableLaws.{modal_arg}
-use Rattle.routes.proofs.NodeLaws.{by_kind, whole, inside, in_arities, node_read, kind_at, asks, operand, arity, ruled, ruled_by, Binder, binder_of, block_of}
+use Rattle.routes.proofs.NodeLaws.{by_kind, whole, in_arities, node_read, kind_at, asks, operand, arity, ruled, ruled_by, Binder, binder_of, block_of}
 
 -- the answer where the rounds are spent
 pub all_spent : {h : Header} {records formula masks : List ℕ} {rows : List (List ℕ)} {at used limit : ℕ} {o : Value} → o.spent ≡ true

@@ -100,7 +100,7 @@ pub root_answer : {h : Header} {labels records actions formula masks : List ℕ}
     → Evaluated h records formula masks (replicate block_limit (replicate word_count 0)) 0 0 limit o
     → Rooted (run_of direct (case_in h labels records actions formula)) limit o
 unfolding run_of case_in
-root_answer {limit = limit} parts are e = root_worked limit parts.formula_part_lem are e
+root_answer {limit = limit} parts are e = root_worked limit parts.formula_part are e
 
 -- ---- an accepted case
 
@@ -124,10 +124,10 @@ module _ (b : List ℕ) (accepted : Accepted b) where
           few_labels = l.counts.few_labels;
         });
         initial = (model_holds b good.model).0;
-        label_part_lem = rw (part_to_end b (header_of b).labels_at) (labels_inside l);
-        action_part_lem = rw (part_to_end b (header_of b).actions_at) (actions_inside l);
+        label_part = rw (part_to_end b (header_of b).labels_at) (labels_inside l);
+        action_part = rw (part_to_end b (header_of b).actions_at) (actions_inside l);
         whole_actions = rw (part_to_end b (header_of b).actions_at) (whole_actions b good.actions);
-        formula_part_lem = rw (part_to_end b (header_of b).formula_at) (record {
+        formula_part = rw (part_to_end b (header_of b).formula_at) (record {
           holds = nodes_inside l;
           formed = good.formula;
           bound = good.variables;

@@ -54,10 +54,10 @@ case_in h labels records actions formula = record {
 pub record CaseParts (h : Header) (labels records actions formula : List ℕ) : Type 0 where
   pub model : Records records h.transitions h.states h.labels
   pub initial : h.initial < h.states
-  pub label_part_lem : LabelPart labels h
-  pub action_part_lem : NodesFit action_limit actions h.actions
+  pub label_part : LabelPart labels h
+  pub action_part : NodesFit action_limit actions h.actions
   pub whole_actions : WholeActions h.labels (nodes_in actions h.actions)
-  pub formula_part_lem : FormulaPart formula h.nodes h.actions
+  pub formula_part : FormulaPart formula h.nodes h.actions
 
 -- number i is the block of binder i: the binders before it are counted
 pub record BinderBlocks (table : List Node) (blocks : List ℕ) : Type 0 where

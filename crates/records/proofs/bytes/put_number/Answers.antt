@@ -1,0 +1,7 @@
+use mathlib.Core.Path.{refl}
+use Rattle.records.specs.Replaced.{with_number}
+use Rattle.records.proofs.bytes.put_number.Goals as goal
+
+pub returns : goal.returns
+unfolding with_number
+returns c = refl

@@ -1,0 +1,47 @@
+use mathlib.Core.Path.{refl, ap, ◌∙◌}
+use Prim.Native.Nat.{◌+◌, ◌-◌, ◌*◌}
+use native.Mathlib.Omega.{arith}
+use borrow.Author.Rules.{part_to_end, rules}
+use lib.ListN.{length-drop}
+use Rattle.cases.specs.declared.Transition.{Transition}
+use Rattle.records.specs.Replaced.{record_bytes}
+use Rattle.records.specs.internal.Writing.{over}
+use Rattle.records.proofs.Files.{within_behind, within_few, within_bytes, lies_in, removed}
+use Rattle.records.proofs.remove.Goals as goal
+
+pub slice_bounds-transition_at-count : goal.slice_bounds-transition_at-count
+slice_bounds-transition_at-count c = let p = lies_in c.requires.0 c.args.bytes.now (within_few c.args.bytes.now) in omega arith
+
+pub slice_bounds-transition_at-start : goal.slice_bounds-transition_at-start
+slice_bounds-transition_at-start c = let p = lies_in c.requires.0 c.args.bytes.now (within_few c.args.bytes.now) in omega arith
+
+pub transition_at-last-requires : goal.transition_at-last-requires
+transition_at-last-requires c = let p = lies_in c.requires.0 c.args.bytes.now (within_few c.args.bytes.now) in rw (part_to_end c.args.bytes.now c.args.h.transitions_at) (omega (arith, length-drop c.args.h.transitions_at c.args.bytes.now))
+
+pub put_record-requires : goal.put_record-requires
+put_record-requires c = let p = lies_in c.requires.0 c.args.bytes.now (within_few c.args.bytes.now) in omega arith
+
+pub slice_bounds-move_down-count : goal.slice_bounds-move_down-count
+slice_bounds-move_down-count c = let p = lies_in c.requires.0 c.args.bytes.now (within_few c.args.bytes.now) in omega arith
+
+pub slice_bounds-move_down-start : goal.slice_bounds-move_down-start
+slice_bounds-move_down-start c = let p = lies_in c.requires.0 c.args.bytes.now (within_few c.args.bytes.now) in omega arith
+
+pub move_down-requires : goal.move_down-requires
+move_down-requires c =
+    let p = lies_in c.requires.0 c.args.bytes.now (within_few c.args.bytes.now) in
+    let x = c.put_record.new.bytes in
+    rw (part_to_end x (c.args.h.actions_at - 6)) (omega (arith, length-drop (c.args.h.actions_at - 6) x))
+
+pub put_head-requires : goal.put_head-requires
+put_head-requires c =
+    let p = lies_in c.requires.0 c.args.bytes.now (within_few c.args.bytes.now) in
+    let l = c.requires.0 in
+    (omega arith, l.counts, l.transitions, omega (arith, l.counts.few_transitions))
+
+pub returns : goal.returns
+returns c =
+    let m = c.args.bytes.now in
+    c.put_head.ensures
+    ∙ removed c.requires.0 m _ (within_behind m) (within_bytes m (search rules)) c.args.i (c.args.h.transitions - 1) (omega (arith, c.requires.1)) (omega (arith, c.requires.1))
+    refl (c.put_record.ensures ∙ ap (λ (t : Transition). over m (c.args.h.transitions_at + 6 * c.args.i) (record_bytes t)) c.transition_at-last.ensures) c.move_down.ensures

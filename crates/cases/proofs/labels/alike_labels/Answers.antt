@@ -1,14 +1,15 @@
-use mathlib.Core.Path.{sym, ◌∙◌}
+use mathlib.Core.Path.{◌≡◌, sym, ◌∙◌}
+use mathlib.Core.Bool.{true}
 use native.Mathlib.Omega.{arith}
 use Rattle.sets.proofs.Words.{shifted_one}
-use Rattle.cases.specs.File.{label_records}
+use Rattle.cases.specs.File.{label_records, has_label_table}
 use Rattle.cases.proofs.LabelLaws.{alike_names, alike_own}
 use Rattle.cases.proofs.labels.alike_labels.Goals as goal
 
 pub same_labels-requires : goal.same_labels-requires
 unfolding label_records
 same_labels-requires c =
-    let named = sym c.has_label_table.ensures ∙ c.if-has_label_table.true in
+    let named : has_label_table c.args.h.version ≡ true = sym c.has_label_table.ensures ∙ c.if-has_label_table.true in
     (rw named at c.requires.0.inside, c.requires.0.few, c.requires.1)
 
 pub returns-then-has_label_table : goal.returns-then-has_label_table

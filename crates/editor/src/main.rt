@@ -7,34 +7,44 @@
 ghost use Rattle.std.specs.Prelude.{◌≤◌, length};
 
 use cases::{LARGEST, Transition, number_at};
-use libc::{STDIN_FILENO, STDOUT_FILENO};
 use models::change_number;
 use sets::WORDS;
+use std::io;
+use std::io::{Read, Write};
 
 // The line of a change: its name, and its refusal number.
-fn print_change(name: &[u8], refusal: u64) {
-    io::write_all(STDOUT_FILENO, name);
-    lines::print_number(refusal);
-    io::write_all(STDOUT_FILENO, b"\n");
+fn print_change<W: Write>(output: &mut W, name: &[u8], refusal: u64) -> io::Result<()> {
+    output.write_all(name)?;
+    lines::print_number(output, refusal)?;
+    output.write_all(b"\n")
 }
 
 // Reads a case that fills a buffer, as far as the stream goes, and opens it; answers whether it was accepted.
-fn open_whole(case: &mut [u8], model: &mut [u8]) -> bool {
-    let length = io::read_full(STDIN_FILENO, case);
+fn open_whole<R: Read, W: Write>(
+    input: &mut R,
+    output: &mut W,
+    case: &mut [u8],
+    model: &mut [u8],
+) -> io::Result<bool> {
+    let length = lines::read_full(input, case)?;
     let refusal = change_number(models::open(&case[..length], model));
-    print_change(b"open", refusal);
-    refusal == 0
+    print_change(output, b"open", refusal)?;
+    Ok(refusal == 0)
 }
 
 // Reads the length of a case and opens that case; answers whether it was accepted.
-fn open_next(model: &mut [u8]) -> bool {
+fn open_next<R: Read, W: Write>(
+    input: &mut R,
+    output: &mut W,
+    model: &mut [u8],
+) -> io::Result<bool> {
     let mut prefix = [0u8; 2];
-    if io::read_full(STDIN_FILENO, &mut prefix) < 2 {
-        return false;
+    if lines::read_full(input, &mut prefix)? < 2 {
+        return Ok(false);
     }
     let length = number_at(&prefix, 0);
-    let mut space = io::large_buffer();
-    open_whole(&mut space[..length], model)
+    let mut space = [0u8; lines::LONGEST];
+    open_whole(input, output, &mut space[..length], model)
 }
 
 // The transition of three 16-bit numbers.
@@ -49,25 +59,33 @@ fn transition_of(bytes: &[u8]) -> Transition
 }
 
 // Adds the transition that comes next, and answers whether the stream may go on.
-fn add_next(model: &mut [u8]) -> bool {
+fn add_next<R: Read, W: Write>(
+    input: &mut R,
+    output: &mut W,
+    model: &mut [u8],
+) -> io::Result<bool> {
     let mut bytes = [0u8; 6];
-    if io::read_full(STDIN_FILENO, &mut bytes) < 6 {
-        return false;
+    if lines::read_full(input, &mut bytes)? < 6 {
+        return Ok(false);
     }
     let refusal = change_number(models::add(model, transition_of(&bytes)));
-    print_change(b"add", refusal);
-    true
+    print_change(output, b"add", refusal)?;
+    Ok(true)
 }
 
 // Drops the transition that comes next, and answers whether the stream may go on.
-fn drop_next(model: &mut [u8]) -> bool {
+fn drop_next<R: Read, W: Write>(
+    input: &mut R,
+    output: &mut W,
+    model: &mut [u8],
+) -> io::Result<bool> {
     let mut bytes = [0u8; 6];
-    if io::read_full(STDIN_FILENO, &mut bytes) < 6 {
-        return false;
+    if lines::read_full(input, &mut bytes)? < 6 {
+        return Ok(false);
     }
     let refusal = change_number(models::drop(model, transition_of(&bytes)));
-    print_change(b"drop", refusal);
-    true
+    print_change(output, b"drop", refusal)?;
+    Ok(true)
 }
 
 // The 64-bit number of eight bytes, low byte first.
@@ -80,44 +98,53 @@ fn limit_of(bytes: &[u8]) -> u64
 }
 
 // Works out the marks by the limit that comes next, and answers whether the stream may go on.
-fn want_next(model: &[u8]) -> bool {
+fn want_next<R: Read, W: Write>(input: &mut R, output: &mut W, model: &[u8]) -> io::Result<bool> {
     let mut bytes = [0u8; 8];
-    if io::read_full(STDIN_FILENO, &mut bytes) < 8 {
-        return false;
+    if lines::read_full(input, &mut bytes)? < 8 {
+        return Ok(false);
     }
     let mut marks = [0u64; WORDS];
     let run = models::want(model, &mut marks, limit_of(&bytes));
-    lines::print_route(b"want", run);
-    lines::print_records(run);
-    io::write_all(STDOUT_FILENO, b"\n");
-    true
+    lines::print_route(output, b"want", run)?;
+    lines::print_records(output, run)?;
+    output.write_all(b"\n")?;
+    Ok(true)
 }
 
 // Makes the next call, and answers whether the stream may go on.
-fn call_next(model: &mut [u8]) -> bool {
+fn call_next<R: Read, W: Write>(
+    input: &mut R,
+    output: &mut W,
+    model: &mut [u8],
+) -> io::Result<bool> {
     let mut call = [0u8; 1];
-    if io::read_full(STDIN_FILENO, &mut call) < 1 {
-        return false;
+    if lines::read_full(input, &mut call)? < 1 {
+        return Ok(false);
     }
     match call[0] {
-        1 => add_next(model),
-        2 => drop_next(model),
-        3 => want_next(model),
-        _ => false,
+        1 => add_next(input, output, model),
+        2 => drop_next(input, output, model),
+        3 => want_next(input, output, model),
+        _ => Ok(false),
     }
 }
 
 // Makes the calls on an opened model, one after another.
-fn call_all(model: &mut [u8]) {
-    let mut number = 1;
-    while number < u64::MAX && call_next(model) {
-        number += 1;
+fn call_all<R: Read, W: Write>(input: &mut R, output: &mut W, model: &mut [u8]) -> io::Result<()> {
+    for _ in 0..u64::MAX {
+        if !call_next(input, output, model)? {
+            break;
+        }
     }
+    Ok(())
 }
 
-fn main() {
+fn main(rt: HostRuntime) -> io::Result<()> {
+    let mut input = rt.reader();
+    let mut output = io::writer(&rt);
     let mut model = [0u8; LARGEST];
-    if open_next(&mut model) {
-        call_all(&mut model);
+    if open_next(&mut input, &mut output, &mut model)? {
+        call_all(&mut input, &mut output, &mut model)?;
     }
+    Ok(())
 }

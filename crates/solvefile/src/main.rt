@@ -5,8 +5,9 @@
 ghost use Rattle.std.specs.Prelude.{◌≡◌, ◌+◌, length};
 ghost use Rattle.solver.specs.internal.Forms.{largest_file};
 
-use libc::{STDIN_FILENO, STDOUT_FILENO};
 use solver::LARGEST;
+use std::io;
+use std::io::Write;
 
 // Room for the largest file and one byte more, so that a longer input is refused for its length.
 fn room() -> [u8; LARGEST + 1]
@@ -15,9 +16,10 @@ fn room() -> [u8; LARGEST + 1]
     [0u8; LARGEST + 1]
 }
 
-fn main() {
+fn main(rt: HostRuntime) -> io::Result<()> {
     let mut file = room();
-    let length = io::read_full(STDIN_FILENO, &mut file);
-    lines::print(b"S", lines::by_file(&file[..length]));
-    io::write_all(STDOUT_FILENO, b"\n");
+    let length = lines::read_full(&mut rt.reader(), &mut file)?;
+    let mut output = io::writer(&rt);
+    lines::print(&mut output, b"S", lines::by_file(&file[..length]))?;
+    output.write_all(b"\n")
 }

@@ -7,7 +7,8 @@ ghost use Rattle.std.specs.Prelude.{◌≡◌, ◌+◌, length};
 ghost use Rattle.cases.specs.internal.Checks.{largest_case};
 
 use cases::LARGEST;
-use libc::{STDIN_FILENO, STDOUT_FILENO};
+use std::io;
+use std::io::Write;
 
 // Room for the largest case and one byte more, so that a longer input is refused for its length.
 fn room() -> [u8; LARGEST + 1]
@@ -16,15 +17,16 @@ fn room() -> [u8; LARGEST + 1]
     [0u8; LARGEST + 1]
 }
 
-fn main() {
+fn main(rt: HostRuntime) -> io::Result<()> {
     let mut case = room();
-    let length = io::read_full(STDIN_FILENO, &mut case);
+    let length = lines::read_full(&mut rt.reader(), &mut case)?;
     let equation = lines::by_equation(&case[..length]);
     let direct = lines::by_direct(&case[..length]);
-    lines::print_route(b"E", equation);
-    io::write_all(STDOUT_FILENO, b"\n");
-    lines::print_route(b"D", direct);
-    io::write_all(STDOUT_FILENO, b"\n");
-    lines::print_tally(direct);
-    io::write_all(STDOUT_FILENO, b"\n");
+    let mut output = io::writer(&rt);
+    lines::print_route(&mut output, b"E", equation)?;
+    output.write_all(b"\n")?;
+    lines::print_route(&mut output, b"D", direct)?;
+    output.write_all(b"\n")?;
+    lines::print_tally(&mut output, direct)?;
+    output.write_all(b"\n")
 }

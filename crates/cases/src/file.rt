@@ -1,6 +1,6 @@
 // Reading a case. Each table is read as the part of the file that starts at its offset.
 ghost use Rattle.std.specs.Prelude.{◌≡◌, ◌+◌, ◌*◌, ◌^◌, ◌<◌, ◌≤◌, length, take};
-ghost use Rattle.cases.specs.File.{u16, version as File·version, has_label_table, header_size, header_of, label_records, transitions_start, actions_start, formula_start, file_end, case_within, label_in, transition_in, node_in, label_limit, transition_limit, action_limit};
+ghost use Rattle.cases.specs.File.{u16, version as file_version, has_label_table, header_size, header_of, label_records, transitions_start, actions_start, formula_start, file_end, case_within, label_in, transition_in, node_in, label_limit, transition_limit, action_limit};
 ghost use Rattle.cases.specs.internal.Checks.{common_header, longest_header, CountsFit};
 
 use crate::{Header, Label, Node, Transition};
@@ -27,7 +27,7 @@ pub fn number_at(part: &[u8], at: usize) -> usize
 // The version.
 pub fn version(case: &[u8]) -> usize
     requires { 2 ≤ length case.now }
-    ensures { result ≡ File·version case.now }
+    ensures { result ≡ file_version case.now }
 {
     number_at(case, 0)
 }
@@ -51,7 +51,7 @@ pub fn header_size(version: usize) -> usize
 
 // The offset of the label records; the header's end in a version that has none.
 fn labels_offset(case: &[u8], version: usize) -> usize
-    requires { (version ≡ File·version case.now) × (header_size version ≤ length case.now) }
+    requires { (version ≡ file_version case.now) × (header_size version ≤ length case.now) }
     ensures { result ≡ (header_of case.now).labels_at }
 {
     if has_label_table(version) {
@@ -62,7 +62,7 @@ fn labels_offset(case: &[u8], version: usize) -> usize
 
 // The numbers of the header.
 pub fn header(case: &[u8], version: usize) -> Header
-    requires { (version ≡ File·version case.now) × (common_header ≤ length case.now) × (header_size version ≤ length case.now) }
+    requires { (version ≡ file_version case.now) × (common_header ≤ length case.now) × (header_size version ≤ length case.now) }
     ensures { result ≡ header_of case.now }
 {
     Header {
@@ -92,7 +92,7 @@ pub fn label_records(h: Header) -> usize
 
 // How many bytes a case has by its header, whatever its counts.
 fn told_length(case: &[u8], version: usize) -> usize
-    requires { (version ≡ File·version case.now) × (common_header ≤ length case.now) }
+    requires { (version ≡ file_version case.now) × (common_header ≤ length case.now) }
     ensures { result ≡ file_end (header_of case.now) }
 {
     let tables = 6 * number_at(case, 4) + 4 * number_at(case, 10) + 4 * number_at(case, 12);

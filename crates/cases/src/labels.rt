@@ -3,7 +3,7 @@ ghost use Rattle.std.specs.Prelude.{◌≡◌, cond, map, ◌*◌, ◌<◌, ◌�
 ghost use Rattle.sets.specs.Lists.{numbers_from, every};
 ghost use Rattle.sets.specs.Words.{from_bits};
 ghost use Rattle.cases.specs.File.{label_records, label_limit};
-ghost use Rattle.cases.specs.Labels.{record_numbers, names_of, occurrences as List·occurrences, same_names, alike_labels};
+ghost use Rattle.cases.specs.Labels.{record_numbers, names_of, occurrences as list_occurrences, same_names, alike_labels};
 ghost use Rattle.cases.specs.Conditions.{label_ok, bad_labels};
 ghost use Rattle.cases.specs.internal.Checks.{labels_in, LabelPart, Laid};
 ghost use Rattle.cases.specs.internal.Names.{follows, equally_many, same_as};
@@ -73,7 +73,7 @@ fn one_if(same: bool) -> usize
 
 // How many of the four numbers of a label are k.
 fn occurrences(x: Label, k: usize) -> usize
-    ensures { result ≡ List·occurrences k (record_numbers x) }
+    ensures { result ≡ list_occurrences k (record_numbers x) }
 {
     one_if(x.first == k) + one_if(x.second == k) + one_if(x.third == k) + one_if(x.fourth == k)
 }

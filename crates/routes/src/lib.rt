@@ -8,12 +8,12 @@ mod tables;
 
 ghost use Rattle.std.specs.Prelude.{◌≡◌, ◌<◌, ◌≤◌};
 ghost use Rattle.sets.specs.Words.{state_limit};
-ghost use Rattle.sets.specs.Refusals.{refused as Outcome·refused};
+ghost use Rattle.sets.specs.Refusals.{refused as refused_outcome};
 ghost use Rattle.cases.specs.File.{header_of};
 ghost use Rattle.cases.specs.Conditions.{Accepted};
 ghost use Rattle.cases.specs.Opening.{case_number};
 ghost use Rattle.cases.specs.Tally.{no_tally};
-ghost use Rattle.routes.specs.Route.{route_answer, direct as Route·direct, lent, marks_only, run_conditions, RanBy, Ran, EquationRan};
+ghost use Rattle.routes.specs.Route.{route_answer, direct as direct_route, lent, marks_only, run_conditions, RanBy, Ran, EquationRan};
 ghost use Rattle.routes.specs.internal.Answering.{Reported};
 ghost use Rattle.routes.specs.internal.Evaluating.{case_in, CaseParts};
 
@@ -94,8 +94,8 @@ pub fn direct_parts(
 ) -> Answer
     requires { CaseParts h labels.now records.now actions.now formula.now }
     ensures { RanBy
-        (run_conditions Route·direct (case_in h labels.now records.now actions.now formula.now) (marks_only marks.old) limit)
-        Route·direct (case_in h labels.now records.now actions.now formula.now) marks.old (route_answer result) marks.new }
+        (run_conditions direct_route (case_in h labels.now records.now actions.now formula.now) (marks_only marks.old) limit)
+        direct_route (case_in h labels.now records.now actions.now formula.now) marks.old (route_answer result) marks.new }
 {
     if marks.len() < WORDS {
         return Answer::Refused(Cause::Run(solver::Cause::Memory));
@@ -112,7 +112,7 @@ pub fn direct_parts(
 // Direct on an accepted case and its header.
 fn direct_opened(case: &[u8], h: Header, marks: &mut [u64], limit: u64) -> Tallied
     requires { Accepted case.now × (h ≡ header_of case.now) }
-    ensures { Ran Route·direct case.now (marks_only marks.old) limit (route_answer result.answer) result.tally marks.new }
+    ensures { Ran direct_route case.now (marks_only marks.old) limit (route_answer result.answer) result.tally marks.new }
 {
     let mut first = [0u8; TRANSITIONS];
     let tally = first_appearances(case, h, &mut first);
@@ -137,7 +137,7 @@ fn direct_opened(case: &[u8], h: Header, marks: &mut [u64], limit: u64) -> Talli
 
 // The answer to a case that is refused on opening.
 fn unopened(cause: cases::Cause) -> Tallied
-    ensures { (route_answer result.answer ≡ Outcome·refused (case_number cause)) × (result.tally ≡ no_tally) }
+    ensures { (route_answer result.answer ≡ refused_outcome (case_number cause)) × (result.tally ≡ no_tally) }
 {
     Tallied {
         answer: Answer::Refused(Cause::Open(cause)),
@@ -150,7 +150,7 @@ fn unopened(cause: cases::Cause) -> Tallied
 
 // Evaluates the formula of a case on sets of states. Is lent the words of a set for the marks.
 pub fn direct(case: &[u8], marks: &mut [u64], limit: u64) -> Tallied
-    ensures { Ran Route·direct case.now (marks_only marks.old) limit (route_answer result.answer) result.tally marks.new }
+    ensures { Ran direct_route case.now (marks_only marks.old) limit (route_answer result.answer) result.tally marks.new }
 {
     match cases::open(case) {
         Opened::Accepted(h) => direct_opened(case, h, marks, limit),

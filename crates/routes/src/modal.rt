@@ -1,5 +1,5 @@
 // Boxes and diamonds on sets of states.
-ghost use Rattle.std.specs.Prelude.{◌≡◌, true, cond, ◌&&◌, ◌<◌, ◌≤◌, length, set as ListN·set};
+ghost use Rattle.std.specs.Prelude.{◌≡◌, true, cond, ◌&&◌, ◌<◌, ◌≤◌, length, set as list_set};
 ghost use Rattle.std.specs.Bool.{beq};
 ghost use Rattle.sets.specs.States.{States, has};
 ghost use Rattle.sets.specs.Lists.{for_some};
@@ -38,7 +38,7 @@ fn with_source(
     ensures { (α : Action) (v w : States) → labels ≡ mask_of α → length v ≤ state_limit → set.now ≡ words word_count v
         → t.source < length w → found.old ≡ words word_count w
         → found.new ≡ words word_count (cond (accepts α t.label && beq (has v t.target) inside)
-        (ListN·set w t.source true) w) }
+        (list_set w t.source true) w) }
 {
     if leads(t, labels, set, inside) {
         sets::add(found, t.source);

@@ -23,7 +23,7 @@ use Rattle.translate.specs.Bytes.{system_of, all_operands, block_numbers, cell_n
 use Rattle.translate.specs.Translating.{file}
 use Rattle.translate.specs.examples.Translations.{halves, case_file, still, p1, p1_equations, p2, p3, p4, p5, p6, p7, p8}
 use Rattle.routes.specs.computed.Worked.{worked}
-use Rattle.routes.specs.Route.{Route, direct, equation, run_of, too_short as Route·too_short, exceeds as Route·exceeds, run_conditions, route_conditions, route_outcome, outcome_of, program_limit, program_memory}
+use Rattle.routes.specs.Route.{Route, direct, equation, run_of, too_short as route_too_short, exceeds as route_exceeds, run_conditions, route_conditions, route_outcome, outcome_of, program_limit, program_memory}
 
 -- a case, a limit, what the equation route and direct answer, and the tally of both
 abbrev pub Example : Type 0
@@ -54,7 +54,7 @@ paper =
 
 -- what a route answers, with all that this computes with
 unfoldable pub answer : Route → Example → Outcome
-unfolding route_outcome outcome_by route_conditions run_conditions Route·too_short Route·exceeds run_of worked repeated update
+unfolding route_outcome outcome_by route_conditions run_conditions route_too_short route_exceeds run_of worked repeated update
     same size numbers_from every for_some accepts nodes u16 header_size label_records label_table alike_labels alike same_names occurrences names_of transition_table action_table formula_table trees action_at formula_at case_of
     same_transition copies copies_before keep distinct case_conditions first_of layout_conditions model_conditions formula_conditions
     too_small other_version bad_count bad_offset bad_length bad_model bad_labels padded bad_actions bad_formula bound_ok bad_variable binder_count block_total

@@ -1,5 +1,5 @@
-//! Runs all tests of the built library and program: `cargo run --release --manifest-path tests/Cargo.toml`, after
-//! `rt staticlib exports` and with the programs `twosides`, `solvefile` and `editor` built. The first failure ends it with a non-zero status.
+//! Runs all tests of the built library and programs: `cargo run --release --manifest-path tests/Cargo.toml`, after `bash tools/build`, which
+//! builds them. The first failure ends it with a non-zero status.
 //! An argument is another seed to start from.
 
 mod edited;

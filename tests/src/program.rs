@@ -143,7 +143,7 @@ fn solved(bytes: &[u8]) -> String {
 /// Compares what a program prints with the reference; answers how many runs were compared.
 fn compare(binary: &Path, inputs: Inputs, expected: fn(&[u8]) -> String) -> Result<u64, String> {
     if !binary.exists() {
-        return Err(format!("{} is missing: build it with `rt check` first", binary.display()));
+        return Err(format!("{} is missing: run tools/build first", binary.display()));
     }
     let mut compared = 0;
     for (name, input) in inputs {

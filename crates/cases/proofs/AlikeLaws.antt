@@ -122,11 +122,11 @@ case_by : {n n' l l' i i' : ℕ} {ts ts' : List Transition} {a a' : Formula} →
 case_by n l i t a = rw (n, l, i, t, a)
 
 module _ (b b' : List ℕ) (accepted : Accepted b) (tables : SameTables b b')
-    (Alike_same : (j x : ℕ) → j < (header_of b).labels → x < (header_of b).labels → alike (header_of b) (label_table b) j x ≡ alike (header_of b') (label_table b') j x) where
+    (alike_same : (j x : ℕ) → j < (header_of b).labels → x < (header_of b).labels → alike (header_of b) (label_table b) j x ≡ alike (header_of b') (label_table b') j x) where
   labels_same : (j : ℕ) → j < (header_of b).labels → alike_labels (header_of b) (label_table b) j ≡ alike_labels (header_of b') (label_table b') j
   unfolding alike_labels
   labels_same j h =
-      map_below _ _ 0 (header_of b).labels (λ x k. Alike_same j x h (omega arith))
+      map_below _ _ 0 (header_of b).labels (λ x k. alike_same j x h (omega arith))
       ∙ ap (λ (l : ℕ). map (alike (header_of b') (label_table b') j) (numbers_from 0 l)) tables.labels
 
   actions_fit : T (every (action_ok (header_of b).labels) (action_table b))

@@ -12,7 +12,7 @@ use lib.Dec.{eqb, leb}
 use lib.ListN.{length, get_or}
 use lib.Pow.{pow_mono}
 use Rattle.sets.specs.Lists.{numbers_from, every, keep}
-use Rattle.sets.specs.Words.{from_bits, bit}
+use Rattle.sets.specs.Words.{number_of_bits, bit}
 use Rattle.sets.proofs.Lists.{length_table, table_at, all_true, all_of_both, all_of_kept, kept_equal, all_kept}
 use Rattle.sets.proofs.Masks.{number_one}
 use Rattle.cases.specs.File.{Header, Label, has_label_table, label_records, label_in, label_limit, name_limit}
@@ -102,15 +102,15 @@ names_by_numbers x y = all_of_both equal (names_of x) (names_of y) ∙ ap₂ ◌
 -- ---- masks
 
 -- no label from i on
-none_from : (f : ℕ → Bool) (i m : ℕ) → ((x : ℕ) → f (i + x) ≡ false) → from_bits (map f (numbers_from i m)) ≡ 0
-unfolding from_bits numbers_from
+none_from : (f : ℕ → Bool) (i m : ℕ) → ((x : ℕ) → f (i + x) ≡ false) → number_of_bits (map f (numbers_from i m)) ≡ 0
+unfolding number_of_bits numbers_from
 none_from f i zero h = refl
 none_from f i (suc m) h =
     let z : i + 0 ≡ i = omega arith in
     rw (rw z at (h 0)) (omega (arith, none_from f (suc i) m (λ x. let e : suc i + x ≡ i + suc x = omega arith in rw e (h (suc x)))))
 
-number_from : (v : List Bool) (f : ℕ → Bool) (i m : ℕ) → ((x : ℕ) → f (i + x) ≡ get_or v x false) → length v ≤ m → from_bits (map f (numbers_from i m)) ≡ from_bits v
-unfolding from_bits numbers_from
+number_from : (v : List Bool) (f : ℕ → Bool) (i m : ℕ) → ((x : ℕ) → f (i + x) ≡ get_or v x false) → length v ≤ m → number_of_bits (map f (numbers_from i m)) ≡ number_of_bits v
+unfolding number_of_bits numbers_from
 number_from [] f i m h l = none_from f i m h
 number_from (b ∷ v) f i zero h l = absurd (omega arith)
 number_from (b ∷ v) f i (suc m) h l =
@@ -119,16 +119,16 @@ number_from (b ∷ v) f i (suc m) h l =
     rw (rw z at (h 0), rest) refl
 
 -- A set has the number of its members among the numbers below m, if it has no others.
-pub number_has : (v : List Bool) (m : ℕ) → length v ≤ m → from_bits (map (λ x. get_or v x false) (numbers_from 0 m)) ≡ from_bits v
+pub number_has : (v : List Bool) (m : ℕ) → length v ≤ m → number_of_bits (map (λ x. get_or v x false) (numbers_from 0 m)) ≡ number_of_bits v
 number_has v m l = number_from v (λ x. get_or v x false) 0 m (λ x. let e : 0 + x ≡ x = omega arith in rw e refl) l
 
 -- one bit more, below the others
-pub mask_more : (f : ℕ → Bool) (x l m k : ℕ) → x < l → m ≡ from_bits (map f (numbers_from (suc x) (l - suc x))) → k ≡ cond (f x) 1 0
-    → 2 * m + k ≡ from_bits (map f (numbers_from x (l - x)))
-unfolding from_bits numbers_from
+pub mask_more : (f : ℕ → Bool) (x l m k : ℕ) → x < l → m ≡ number_of_bits (map f (numbers_from (suc x) (l - suc x))) → k ≡ cond (f x) 1 0
+    → 2 * m + k ≡ number_of_bits (map f (numbers_from x (l - x)))
+unfolding number_of_bits numbers_from
 mask_more f x l m k h e q =
     let z : l - x ≡ suc (l - suc x) = omega arith in
-    rw (z, q, e) (ends (f x) (from_bits (map f (numbers_from (suc x) (l - suc x)))))
+    rw (z, q, e) (ends (f x) (number_of_bits (map f (numbers_from (suc x) (l - suc x)))))
   where
     ends : (b : Bool) (n : ℕ) → 2 * n + cond b 1 0 ≡ bit b + 2 * n
     ends true n = omega arith
@@ -150,10 +150,10 @@ same_read part l j x hj hx e f = rw (e, f, names_read part l j hj, names_read pa
 pub record Masking (part : List ℕ) (l j x mask : ℕ) : Type 0 where
   pub within : x ≤ l
   pub small : mask < 2 ^ (l - x)
-  pub bits : mask ≡ from_bits (map (same_as part l j) (numbers_from x (l - x)))
+  pub bits : mask ≡ number_of_bits (map (same_as part l j) (numbers_from x (l - x)))
 
 pub masking_none : (part : List ℕ) (l j : ℕ) → Masking part l j l 0
-unfolding from_bits numbers_from
+unfolding number_of_bits numbers_from
 masking_none part l j =
     let z : l - l ≡ 0 = omega arith in
     record { within = omega arith; small = rw (z, pow-zero 2) (omega arith); bits = rw z refl }
@@ -168,7 +168,7 @@ masking_more part l j x mask k h m e few =
       bits = mask_more (same_as part l j) x l mask k h m.bits e;
     }
 
-pub masking_done : (part : List ℕ) (l j x mask : ℕ) → x ≤ 0 → Masking part l j x mask → mask ≡ from_bits (map (same_as part l j) (numbers_from 0 l))
+pub masking_done : (part : List ℕ) (l j x mask : ℕ) → x ≤ 0 → Masking part l j x mask → mask ≡ number_of_bits (map (same_as part l j) (numbers_from 0 l))
 masking_done part l j x mask h m =
     let z : x ≡ 0 = omega arith in
     let e : l - 0 ≡ l = omega arith in
@@ -189,16 +189,16 @@ length_alike h table j = length_table (alike h table j) h.labels
 abbrev alike_by : Header → List ℕ → ℕ → Bool → ℕ
 alike_by h part j r =
     let table : List Label = labels_in part (cond r h.labels 0) in
-    from_bits (map (λ x. cond r (same_names (label_names table j) (label_names table x)) (eqb j x)) (numbers_from 0 h.labels))
+    number_of_bits (map (λ x. cond r (same_names (label_names table j) (label_names table x)) (eqb j x)) (numbers_from 0 h.labels))
 
 -- with label records, those with the same names
 pub alike_names : (h : Header) (part : List ℕ) (j : ℕ) → has_label_table h.version ≡ true
-    → from_bits (map (same_as part h.labels j) (numbers_from 0 h.labels)) ≡ from_bits (alike_labels h (labels_in part (label_records h)) j)
+    → number_of_bits (map (same_as part h.labels j) (numbers_from 0 h.labels)) ≡ number_of_bits (alike_labels h (labels_in part (label_records h)) j)
 unfolding alike_labels alike label_records
 alike_names h part j e = ap (alike_by h part j) (sym e)
 
 -- without, the label itself
 pub alike_own : (h : Header) (part : List ℕ) (j : ℕ) → has_label_table h.version ≡ false → j < h.labels
-    → 2 ^ j ≡ from_bits (alike_labels h (labels_in part (label_records h)) j)
+    → 2 ^ j ≡ number_of_bits (alike_labels h (labels_in part (label_records h)) j)
 unfolding alike_labels alike label_records
 alike_own h part j e k = sym (number_one j h.labels k) ∙ ap (alike_by h part j) (sym e)

@@ -14,7 +14,7 @@ use lib.Dec.{T, eqb, ltb, leb, ltb→lt}
 use lib.ListN.{length, get_or, set, drop, length-set, length-drop, length-map, drop_of_length-le, get_or-map}
 use lib.Seq.{drop-cons, drop-drop, drop-length, get_or-drop, get_or-set_same, get_or-set_other, drop-set-lt}
 use Rattle.sets.specs.Lists.{numbers_from, every}
-use Rattle.sets.specs.Words.{from_bits}
+use Rattle.sets.specs.Words.{number_of_bits}
 use Rattle.sets.proofs.Lists.{drop_map, length_range, length_table, table_at, and_left, and_right, all_at}
 use Rattle.sets.proofs.Masks.{bitwise_and, bitwise_or, number_false, number_true, number_bitwise, number_not}
 use Rattle.cases.specs.Action.{Action, accepts}
@@ -42,7 +42,7 @@ unfolding accepts
 mask_true = sym (rw (length_range 0 label_limit) at (number_true labels))
 
 -- a label node has as its mask the number of its set
-pub mask_label : (v : List Bool) → length v ≤ label_limit → from_bits v ≡ mask_of (Action.Label v)
+pub mask_label : (v : List Bool) → length v ≤ label_limit → number_of_bits v ≡ mask_of (Action.Label v)
 unfolding accepts
 mask_label v h = sym (number_has v label_limit h)
 

@@ -10,7 +10,7 @@ use native.Mathlib.Omega.{arith}
 use borrow.Author.Tests.{eqb-true}
 use lib.ListN.{length, get_or, drop, length-drop, length-map}
 use lib.Seq.{drop-cons, drop-drop, drop-nil, get_or-drop}
-use Rattle.sets.proofs.Lists.{get_d_map, drop_map}
+use Rattle.sets.proofs.Lists.{get_or_map, drop_map}
 use Rattle.cases.specs.Prefix.{Node, arity_in, whole_formulas, exactly, span, end_of, leaf, unary_op, binary_op, onto, top_or, trees}
 use Rattle.cases.specs.Conditions.{node_at}
 use Rattle.cases.specs.internal.Tables.{Operator, constant, unary, binary, made, KindsTo}
@@ -18,7 +18,7 @@ use Rattle.cases.proofs.Spans.{operands_due}
 
 -- the arity of node i
 pub arity_at : (arities : List ℕ) (t : List Node) (i : ℕ) → i < length t → get_or (map (arity_in arities) t) i 0 ≡ arity_in arities (node_at t i)
-arity_at arities t i h = get_d_map (arity_in arities) t i (record { kind = 0; arg = 0 }) 0 h
+arity_at arities t i h = get_or_map (arity_in arities) t i (record { kind = 0; arg = 0 }) 0 h
 
 module _ {A : Type 0} where
   -- how many trees it takes

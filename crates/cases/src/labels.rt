@@ -1,7 +1,7 @@
 // The label part: condition 15, and the labels that are alike to a label, as a mask with a bit for each label.
 ghost use Rattle.std.specs.Prelude.{◌≡◌, cond, map, ◌*◌, ◌<◌, ◌≤◌, length};
 ghost use Rattle.sets.specs.Lists.{numbers_from, every};
-ghost use Rattle.sets.specs.Words.{from_bits};
+ghost use Rattle.sets.specs.Words.{number_of_bits};
 ghost use Rattle.cases.specs.File.{label_records, label_limit};
 ghost use Rattle.cases.specs.Labels.{record_numbers, names_of, occurrences as list_occurrences, same_names, alike_labels};
 ghost use Rattle.cases.specs.Conditions.{label_ok, bad_labels};
@@ -118,7 +118,7 @@ fn same_names(x: Label, y: Label) -> bool
 // down, and each makes the mask one bit longer.
 fn same_labels(part: &[u8], l: usize, j: usize) -> u64
     requires { (8 * l ≤ length part.now) × (l ≤ label_limit) × (j < l) }
-    ensures { result ≡ from_bits (map (same_as part.now l j) (numbers_from 0 l)) }
+    ensures { result ≡ number_of_bits (map (same_as part.now l j) (numbers_from 0 l)) }
 {
     let own = label_at(part, j);
     let mut mask = 0u64;
@@ -133,7 +133,7 @@ fn same_labels(part: &[u8], l: usize, j: usize) -> u64
 // The labels that are alike to label j.
 pub fn alike_labels(part: &[u8], h: Header, j: usize) -> u64
     requires { LabelPart part.now h × (j < h.labels) }
-    ensures { result ≡ from_bits (alike_labels h (labels_in part.now (label_records h)) j) }
+    ensures { result ≡ number_of_bits (alike_labels h (labels_in part.now (label_records h)) j) }
 {
     if has_label_table(h.version) {
         return same_labels(part, h.labels, j);

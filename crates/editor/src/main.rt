@@ -131,7 +131,7 @@ fn call_next<R: Read, W: Write>(
 
 // Makes the calls on an opened model, one after another.
 fn call_all<R: Read, W: Write>(input: &mut R, output: &mut W, model: &mut [u8]) -> io::Result<()> {
-    for _ in 0..u64::MAX {
+    for _ in 1..u64::MAX {
         if !call_next(input, output, model)? {
             break;
         }

@@ -1,1 +1,2 @@
+-- What the programs print.
 pub mod Printed

@@ -16,7 +16,7 @@ use Rattle.cases.specs.declared.Header.{Header}
 use Rattle.cases.specs.declared.Transition.{Transition}
 use Rattle.cases.specs.declared.Cause.{Cause}
 use Rattle.cases.specs.declared.Opened.{Opened}
-use Rattle.cases.specs.declared.Opened.TheVariants.{Accepted as Header_as_Accepted, Refused}
+use Rattle.cases.specs.declared.Opened.TheVariants.{Accepted as accepted_header, Refused}
 use Rattle.cases.specs.File.{header_of, transition_table, case_within, label_limit, transition_limit, action_limit, node_limit}
 use Rattle.cases.specs.Conditions.{transition_ok, layout_conditions, model_conditions, formula_conditions, case_conditions, case_refusal, Accepted}
 use Rattle.cases.specs.Opening.{case_number, Opens}
@@ -176,7 +176,7 @@ module _ (model : List ℕ) (e : ℕ) (cut : take e model ≡ case_within model)
   same : first_of (layout_conditions (take e model)) ≡ first_of (layout_conditions (case_within model))
   same = ap (λ (b : List ℕ). first_of (layout_conditions b)) cut
 
-  pub laid_out : {h : Header} → answer ≡ Header_as_Accepted h → (first_of (layout_conditions (case_within model)) ≡ 0) × (h ≡ header_of (case_within model))
+  pub laid_out : {h : Header} → answer ≡ accepted_header h → (first_of (layout_conditions (case_within model)) ≡ 0) × (h ≡ header_of (case_within model))
   laid_out is = let a = accepted o is in (sym same ∙ a.0, a.1 ∙ ap header_of cut)
 
   pub not_laid_out : {cause : Cause} → answer ≡ Refused cause → (case_number cause ≡ first_of (layout_conditions (case_within model))) × ¬ (first_of (layout_conditions (case_within model)) ≡ 0)

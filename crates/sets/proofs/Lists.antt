@@ -28,10 +28,10 @@ pub range_at : (k j d : ℕ) → j < k → get_or (numbers_from 0 k) j d ≡ j
 range_at k j d h = get_or_range 0 k j d h ∙ zero-add j
 
 -- an element of a mapped list, whatever stands for an element past the end
-pub get_d_map : {A B : Type 0} (f : A → B) (xs : List A) (i : ℕ) (a : A) (b : B) → i < length xs → get_or (map f xs) i b ≡ f (get_or xs i a)
-get_d_map f [] i a b h = absurd (omega arith)
-get_d_map f (x ∷ xs) zero a b h = refl
-get_d_map f (x ∷ xs) (suc i) a b h = get_d_map f xs i a b (omega arith)
+pub get_or_map : {A B : Type 0} (f : A → B) (xs : List A) (i : ℕ) (a : A) (b : B) → i < length xs → get_or (map f xs) i b ≡ f (get_or xs i a)
+get_or_map f [] i a b h = absurd (omega arith)
+get_or_map f (x ∷ xs) zero a b h = refl
+get_or_map f (x ∷ xs) (suc i) a b h = get_or_map f xs i a b (omega arith)
 
 -- the first i elements of a mapped list, and those after them
 pub take_map : {A B : Type 0} (f : A → B) (xs : List A) (i : ℕ) → take i (map f xs) ≡ map f (take i xs)
@@ -49,7 +49,7 @@ pub length_map_range : {B : Type 0} (f : ℕ → B) (i k : ℕ) → length (map 
 length_map_range f i k = length-map (numbers_from i k) f ∙ length_range i k
 
 pub get_or_map_range : {B : Type 0} (f : ℕ → B) (i k j : ℕ) (b : B) → j < k → get_or (map f (numbers_from i k)) j b ≡ f (i + j)
-get_or_map_range f i k j b h = get_d_map f (numbers_from i k) j 0 b (omega (arith, length_range i k)) ∙ ap f (get_or_range i k j 0 h)
+get_or_map_range f i k j b h = get_or_map f (numbers_from i k) j 0 b (omega (arith, length_range i k)) ∙ ap f (get_or_range i k j 0 h)
 
 -- the table of f at the first k numbers
 pub length_table : {B : Type 0} (f : ℕ → B) (k : ℕ) → length (map f (numbers_from 0 k)) ≡ k

@@ -13,7 +13,7 @@ use lib.Pow.{pow_pos}
 use borrow.Author.Tests.{eq-eqb, ne_eqb}
 use Rattle.sets.specs.Lists.{numbers_from}
 use Rattle.sets.specs.States.{States, has, start}
-use Rattle.sets.specs.Words.{words, from_bits, bit}
+use Rattle.sets.specs.Words.{words, number_of_bits, bit}
 use Rattle.sets.proofs.Lists.{length_table, table_at, take_map, drop_map}
 use Rattle.sets.proofs.Words.{half, odd, number_fits, part, word_at}
 
@@ -76,51 +76,51 @@ bitwise_either false = bitwise_and
 
 module _ {A : Type 0} where
   -- none, and each one
-  pub number_false : (xs : List A) → from_bits (map (λ x. false) xs) ≡ 0
-  unfolding from_bits
+  pub number_false : (xs : List A) → number_of_bits (map (λ x. false) xs) ≡ 0
+  unfolding number_of_bits
   number_false [] = refl
   number_false (x ∷ xs) = omega (arith, number_false xs)
 
-  pub number_true : (xs : List A) → from_bits (map (λ x. true) xs) ≡ 2 ^ length xs - 1
-  unfolding from_bits
+  pub number_true : (xs : List A) → number_of_bits (map (λ x. true) xs) ≡ 2 ^ length xs - 1
+  unfolding number_of_bits
   number_true [] = refl
   number_true (x ∷ xs) = omega (arith, number_true xs, pow-suc 2 (length xs), pow_pos (length xs))
 
   -- those that an operation picks
   pub number_bitwise : {op : ℕ → ℕ → ℕ} {f : Bool → Bool → Bool} → Bitwise op f
-      → (p q : A → Bool) (xs : List A) → op (from_bits (map p xs)) (from_bits (map q xs)) ≡ from_bits (map (λ x. f (p x) (q x)) xs)
-  unfolding from_bits
+      → (p q : A → Bool) (xs : List A) → op (number_of_bits (map p xs)) (number_of_bits (map q xs)) ≡ number_of_bits (map (λ x. f (p x) (q x)) xs)
+  unfolding number_of_bits
   number_bitwise o p q [] = o.none
   number_bitwise o p q (x ∷ xs) =
-      o.more (p x) (q x) (from_bits (map p xs)) (from_bits (map q xs)) ∙ rw (number_bitwise o p q xs)
+      o.more (p x) (q x) (number_of_bits (map p xs)) (number_of_bits (map q xs)) ∙ rw (number_bitwise o p q xs)
 
   -- the others
-  pub number_not : (p : A → Bool) (xs : List A) → (2 ^ length xs - 1) - from_bits (map p xs) ≡ from_bits (map (λ x. not (p x)) xs)
-  unfolding from_bits
+  pub number_not : (p : A → Bool) (xs : List A) → (2 ^ length xs - 1) - number_of_bits (map p xs) ≡ number_of_bits (map (λ x. not (p x)) xs)
+  unfolding number_of_bits
   number_not p [] = refl
   number_not p (x ∷ xs) = omega (arith, number_not p xs, fits, pow-suc 2 (length xs), bit_not (p x))
     where
-      fits : from_bits (map p xs) < 2 ^ length xs
+      fits : number_of_bits (map p xs) < 2 ^ length xs
       fits = rw (length-map xs p) at (number_fits (map p xs))
 
 -- no number of the range is j
-none_before : (j i m : ℕ) → j < i → from_bits (map (eqb j) (numbers_from i m)) ≡ 0
-unfolding from_bits numbers_from
+none_before : (j i m : ℕ) → j < i → number_of_bits (map (eqb j) (numbers_from i m)) ≡ 0
+unfolding number_of_bits numbers_from
 none_before j i zero h = refl
 none_before j i (suc m) h = rw (ne_eqb j i (λ e. omega arith)) (omega (arith, none_before j (suc i) m (omega arith)))
 
 -- the number j of the range from i on, alone
-one_from : (j i m : ℕ) → i + j < i + m → from_bits (map (eqb (i + j)) (numbers_from i m)) ≡ 2 ^ j
-unfolding from_bits numbers_from
+one_from : (j i m : ℕ) → i + j < i + m → number_of_bits (map (eqb (i + j)) (numbers_from i m)) ≡ 2 ^ j
+unfolding number_of_bits numbers_from
 one_from j i zero h = absurd (omega arith)
 one_from zero i (suc m) h = rw (eq-eqb (i + 0) i (omega arith)) (omega (arith, none_before (i + 0) (suc i) m (omega arith)))
 one_from (suc j) i (suc m) h =
     let e : i + suc j ≡ suc i + j = omega arith in
-    let later = subst (λ (x : ℕ). from_bits (map (eqb x) (numbers_from (suc i) m)) ≡ 2 ^ j) (sym e) (one_from j (suc i) m (omega arith)) in
+    let later = subst (λ (x : ℕ). number_of_bits (map (eqb x) (numbers_from (suc i) m)) ≡ 2 ^ j) (sym e) (one_from j (suc i) m (omega arith)) in
     rw (ne_eqb (i + suc j) i (λ q. omega arith)) (omega (arith, later, pow-suc 2 j))
 
 -- j alone
-pub number_one : (j m : ℕ) → j < m → from_bits (map (eqb j) (numbers_from 0 m)) ≡ 2 ^ j
+pub number_one : (j m : ℕ) → j < m → number_of_bits (map (eqb j) (numbers_from 0 m)) ≡ 2 ^ j
 number_one j m h =
     let e : 0 + j ≡ j = omega arith in
     rw e at (one_from j 0 m (omega arith))
@@ -130,12 +130,12 @@ number_one j m h =
 module _ {op : ℕ → ℕ → ℕ} {f : Bool → Bool → Bool} (o : Bitwise op f) where
   -- word j of the set that an operation picks
   word_bitwise : {A : Type 0} (p q : A → Bool) (xs : List A) (j : ℕ)
-      → op (from_bits (part (map p xs) j)) (from_bits (part (map q xs) j)) ≡ from_bits (part (map (λ x. f (p x) (q x)) xs) j)
+      → op (number_of_bits (part (map p xs) j)) (number_of_bits (part (map q xs) j)) ≡ number_of_bits (part (map (λ x. f (p x) (q x)) xs) j)
   word_bitwise p q xs j = simp (drop_map, take_map) (number_bitwise o p q (take 64 (drop (64 * j) xs)))
 
   -- from the words of two sets of n states
   pub word_combined : (k n : ℕ) (v w : States) → length v ≡ n → length w ≡ n → (j : ℕ) → j < k
-      → op (get_or (words k v) j 0) (get_or (words k w) j 0) ≡ from_bits (part (map (λ s. f (has v s) (has w s)) (numbers_from 0 n)) j)
+      → op (get_or (words k v) j 0) (get_or (words k w) j 0) ≡ number_of_bits (part (map (λ s. f (has v s) (has w s)) (numbers_from 0 n)) j)
   word_combined k n v w d e j h =
       rw (word_at k v j h, word_at k w j h) (rw (table n v d, table n w e) at (word_bitwise (has v) (has w) (numbers_from 0 n) j))
     where
@@ -146,7 +146,7 @@ module _ {op : ℕ → ℕ → ℕ} {f : Bool → Bool → Bool} (o : Bitwise op
 
 -- word j of the states that are not in a set of n states
 pub word_complement : (k n : ℕ) (v : States) → length v ≡ n → (j : ℕ) → j < k
-    → bit_xor (from_bits (part (start n true) j)) (get_or (words k v) j 0) ≡ from_bits (part (map not v) j)
+    → bit_xor (number_of_bits (part (start n true) j)) (get_or (words k v) j 0) ≡ number_of_bits (part (map not v) j)
 word_complement k n v d j h =
     rw (word_at k v j h, ← d, ← full v) (rw (map-id v) at (word_bitwise bitwise_xor (λ b. true) (λ b. b) v j))
   where

@@ -12,17 +12,17 @@ use lib.Seq.{drop-drop, get_or-take}
 use lib.Count.{ones, ones_step}
 use Rattle.sets.specs.Lists.{numbers_from, keep, sum}
 use Rattle.sets.specs.States.{States, has, size}
-use Rattle.sets.specs.Words.{words, from_bits, bit, marked, ones_of, marked_below, Marks, word_count, state_limit}
+use Rattle.sets.specs.Words.{words, number_of_bits, bit, marked, ones_of, marked_below, Marks, word_count, state_limit}
 use Rattle.sets.proofs.Lists.{length_table, table_at}
 use Rattle.sets.proofs.Words.{half, odd, words_length, marked_words, take_words}
 
 -- ---- one word, then all
 
 -- the ones of a set's number are its states
-number_ones : (v : States) → ones (from_bits v) ≡ size v
-unfolding from_bits size ones
+number_ones : (v : States) → ones (number_of_bits v) ≡ size v
+unfolding number_of_bits size ones
 number_ones [] = refl
-number_ones (b ∷ v) = ones_step (bit b + 2 * from_bits v) ∙ rw (half b (from_bits v), odd b (from_bits v), number_ones v) refl
+number_ones (b ∷ v) = ones_step (bit b + 2 * number_of_bits v) ∙ rw (half b (number_of_bits v), odd b (number_of_bits v), number_ones v) refl
 
 -- the first states and the others
 size_parts : (m : ℕ) (v : States) → size (take m v) + size (drop m v) ≡ size v

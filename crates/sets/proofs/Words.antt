@@ -14,8 +14,8 @@ use lib.Dec.{eqb, lit<}
 use lib.Bits.{bit_and, bit_or, and_step, or_step, and_zero_l, or_zero_r}
 use lib.Pow.{pow_mono, pow_pos, shl_exact, shr-shr}
 use Rattle.sets.specs.States.{States, has, start}
-use Rattle.sets.specs.Words.{words, from_bits, marked, bit, Marks, word_count, state_limit}
-use Rattle.sets.specs.internal.Decides.{Decides}
+use Rattle.sets.specs.Words.{words, number_of_bits, marked, bit, Marks, word_count, state_limit}
+use Rattle.sets.specs.internal.DecidedBy.{DecidedBy}
 use Rattle.sets.proofs.Lists.{false_true}
 
 -- ---- the number of a set
@@ -36,28 +36,28 @@ bit_small true = omega arith
 bit_small false = omega arith
 
 -- bit s of a set's number says whether state s is in the set
-pub number_bit : (v : States) (s : ℕ) → from_bits v / 2 ^ s % 2 ≡ bit (has v s)
-unfolding from_bits
+pub number_bit : (v : States) (s : ℕ) → number_of_bits v / 2 ^ s % 2 ≡ bit (has v s)
+unfolding number_of_bits
 number_bit [] s = rw (zero-div (2 ^ s)) refl
-number_bit (b ∷ v) zero = rw (pow-zero 2, div-one) (odd b (from_bits v))
-number_bit (b ∷ v) (suc s) = rw (← one-add s, ← shr-shr (bit b + 2 * from_bits v) 1 s, half b (from_bits v)) (number_bit v s)
+number_bit (b ∷ v) zero = rw (pow-zero 2, div-one) (odd b (number_of_bits v))
+number_bit (b ∷ v) (suc s) = rw (← one-add s, ← shr-shr (bit b + 2 * number_of_bits v) 1 s, half b (number_of_bits v)) (number_bit v s)
 
 -- a set of n states has a number of n bits
-pub number_fits : (v : States) → from_bits v < 2 ^ length v
-unfolding from_bits
+pub number_fits : (v : States) → number_of_bits v < 2 ^ length v
+unfolding number_of_bits
 number_fits [] = omega arith
 number_fits (b ∷ v) = omega (arith, number_fits v, pow-suc 2 (length v), bit_small b)
 
 -- one state more is one bit more
-number_add : (v : States) (s : ℕ) → s < length v → bit_or (from_bits v) (2 ^ s) ≡ from_bits (set v s true)
-unfolding from_bits
+number_add : (v : States) (s : ℕ) → s < length v → bit_or (number_of_bits v) (2 ^ s) ≡ number_of_bits (set v s true)
+unfolding number_of_bits
 number_add [] s h = absurd (omega arith)
 number_add (b ∷ v) zero h =
-    or_step (bit b + 2 * from_bits v) 1 ∙ rw (half b (from_bits v), odd b (from_bits v), or_zero_r (from_bits v)) (omega (arith, bit_small b))
+    or_step (bit b + 2 * number_of_bits v) 1 ∙ rw (half b (number_of_bits v), odd b (number_of_bits v), or_zero_r (number_of_bits v)) (omega (arith, bit_small b))
 number_add (b ∷ v) (suc s) h =
     rw (pow-suc 2 s)
-    (or_step (bit b + 2 * from_bits v) (2 ^ s * 2)
-    ∙ rw (half b (from_bits v), odd b (from_bits v), double (2 ^ s), even (2 ^ s), number_add v s (omega arith)) (omega (arith, bit_small b)))
+    (or_step (bit b + 2 * number_of_bits v) (2 ^ s * 2)
+    ∙ rw (half b (number_of_bits v), odd b (number_of_bits v), double (2 ^ s), even (2 ^ s), number_add v s (omega arith)) (omega (arith, bit_small b)))
   where
     double : (x : ℕ) → x * 2 / 2 ≡ x
     double x = omega arith
@@ -66,50 +66,50 @@ number_add (b ∷ v) (suc s) h =
     even x = omega arith
 
 -- a number of m bits, and a mask of all m
-mask_all : (v : States) (m : ℕ) → length v ≤ m → bit_and (from_bits v) (2 ^ m - 1) ≡ from_bits v
-unfolding from_bits
+mask_all : (v : States) (m : ℕ) → length v ≤ m → bit_and (number_of_bits v) (2 ^ m - 1) ≡ number_of_bits v
+unfolding number_of_bits
 mask_all [] m h = and_zero_l (2 ^ m - 1)
 mask_all (b ∷ v) zero h = absurd (omega arith)
 mask_all (b ∷ v) (suc m) h =
     let l : (2 ^ suc m - 1) / 2 ≡ 2 ^ m - 1 = omega (arith, pow-suc 2 m, pow_pos m) in
     let o : (2 ^ suc m - 1) % 2 ≡ 1 = omega (arith, pow-suc 2 m, pow_pos m) in
-    and_step (bit b + 2 * from_bits v) (2 ^ suc m - 1)
-    ∙ rw (half b (from_bits v), odd b (from_bits v), l, o, mask_all v m (omega arith)) (omega (arith, bit_small b))
+    and_step (bit b + 2 * number_of_bits v) (2 ^ suc m - 1)
+    ∙ rw (half b (number_of_bits v), odd b (number_of_bits v), l, o, mask_all v m (omega arith)) (omega (arith, bit_small b))
 
 -- one state less is one bit less, in words of m bits
-number_remove : (v : States) (s m : ℕ) → s < length v → length v ≤ m → bit_and (from_bits v) (2 ^ m - 1 - 2 ^ s) ≡ from_bits (set v s false)
-unfolding from_bits
+number_remove : (v : States) (s m : ℕ) → s < length v → length v ≤ m → bit_and (number_of_bits v) (2 ^ m - 1 - 2 ^ s) ≡ number_of_bits (set v s false)
+unfolding number_of_bits
 number_remove [] s m h g = absurd (omega arith)
 number_remove (b ∷ v) s zero h g = absurd (omega arith)
 number_remove (b ∷ v) zero (suc m) h g =
     let l : (2 ^ suc m - 1 - 2 ^ 0) / 2 ≡ 2 ^ m - 1 = omega (arith, pow-suc 2 m, pow_pos m, pow-zero 2) in
     let o : (2 ^ suc m - 1 - 2 ^ 0) % 2 ≡ 0 = omega (arith, pow-suc 2 m, pow_pos m, pow-zero 2) in
-    and_step (bit b + 2 * from_bits v) (2 ^ suc m - 1 - 2 ^ 0)
-    ∙ rw (half b (from_bits v), odd b (from_bits v), l, o, mask_all v m (omega arith)) (omega (arith, bit_small b))
+    and_step (bit b + 2 * number_of_bits v) (2 ^ suc m - 1 - 2 ^ 0)
+    ∙ rw (half b (number_of_bits v), odd b (number_of_bits v), l, o, mask_all v m (omega arith)) (omega (arith, bit_small b))
 number_remove (b ∷ v) (suc s) (suc m) h g =
     let wide : 2 ^ suc s ≤ 2 ^ m = pow_mono {i = suc s} {j = m} (omega arith) in
     let l : (2 ^ suc m - 1 - 2 ^ suc s) / 2 ≡ 2 ^ m - 1 - 2 ^ s = omega (arith, pow-suc 2 m, pow-suc 2 s, pow_pos s) in
     let o : (2 ^ suc m - 1 - 2 ^ suc s) % 2 ≡ 1 = omega (arith, pow-suc 2 m, pow-suc 2 s, pow_pos s) in
-    and_step (bit b + 2 * from_bits v) (2 ^ suc m - 1 - 2 ^ suc s)
-    ∙ rw (half b (from_bits v), odd b (from_bits v), l, o, number_remove v s m (omega arith) (omega arith)) (omega (arith, bit_small b))
+    and_step (bit b + 2 * number_of_bits v) (2 ^ suc m - 1 - 2 ^ suc s)
+    ∙ rw (half b (number_of_bits v), odd b (number_of_bits v), l, o, number_remove v s m (omega arith) (omega arith)) (omega (arith, bit_small b))
 
 -- a 64-bit word with the bits of a mask, or without them
 abbrev pub with_bits : ℕ → ℕ → Bool → ℕ
 with_bits word mask there = cond there (bit_or word mask) (bit_and word (2 ^ 64 - 1 - mask))
 
-number_put : (v : States) (s : ℕ) (there : Bool) → s < length v → length v ≤ 64 → with_bits (from_bits v) (2 ^ s) there ≡ from_bits (set v s there)
+number_put : (v : States) (s : ℕ) (there : Bool) → s < length v → length v ≤ 64 → with_bits (number_of_bits v) (2 ^ s) there ≡ number_of_bits (set v s there)
 number_put v s true h g = number_add v s h
 number_put v s false h g = number_remove v s 64 h g
 
 -- no state has the number 0
-pub number_none : (m : ℕ) → from_bits (replicate m false) ≡ 0
-unfolding from_bits
+pub number_none : (m : ℕ) → number_of_bits (replicate m false) ≡ 0
+unfolding number_of_bits
 number_none zero = refl
 number_none (suc m) = omega (arith, number_none m)
 
 -- m states, each of them, have the number of m ones
-pub number_full : (m : ℕ) → from_bits (replicate m true) ≡ 2 ^ m - 1
-unfolding from_bits
+pub number_full : (m : ℕ) → number_of_bits (replicate m true) ≡ 2 ^ m - 1
+unfolding number_of_bits
 number_full zero = refl
 number_full (suc m) = omega (arith, number_full m, pow-suc 2 m, pow_pos m)
 
@@ -130,7 +130,7 @@ words_length zero v = refl
 words_length (suc k) v = ap suc (words_length k (drop 64 v))
 
 -- word j of a set
-pub word_at : (k : ℕ) (v : States) (j : ℕ) → j < k → get_or (words k v) j 0 ≡ from_bits (part v j)
+pub word_at : (k : ℕ) (v : States) (j : ℕ) → j < k → get_or (words k v) j 0 ≡ number_of_bits (part v j)
 unfolding words
 word_at zero v j h = absurd (omega arith)
 word_at (suc k) v zero h = refl
@@ -149,7 +149,7 @@ word_fits (suc k) v zero = omega (arith, number_fits (take 64 v), pow_mono {j = 
 word_fits (suc k) v (suc j) = word_fits k (drop 64 v) j
 
 -- words that are, one by one, those of a set
-pub words_by : (k : ℕ) (v : States) (ws : List ℕ) → length ws ≡ k → ((j : ℕ) → j < k → get_or ws j 0 ≡ from_bits (part v j)) → ws ≡ words k v
+pub words_by : (k : ℕ) (v : States) (ws : List ℕ) → length ws ≡ k → ((j : ℕ) → j < k → get_or ws j 0 ≡ number_of_bits (part v j)) → ws ≡ words k v
 words_by k v ws l f =
     ext_get_or 0 ws (words k v) (l ∙ sym (words_length k v)) λ j h.
     let b : j < k = omega arith in
@@ -221,7 +221,7 @@ words_none k n =
     get_or-replicate k j 0 0 h ∙ sym (rw (part_start n (64 * j) false) (number_none (min 64 (n - 64 * j))))
 
 -- the word of the 64 states from `from` on, m of which are below n: its first m bits
-pub word_full : (n from m : ℕ) → min 64 (n - from) ≡ m → 2 ^ m - 1 ≡ from_bits (take 64 (drop from (start n true)))
+pub word_full : (n from m : ℕ) → min 64 (n - from) ≡ m → 2 ^ m - 1 ≡ number_of_bits (take 64 (drop from (start n true)))
 word_full n from m e = sym (rw (part_start n from true, e) (number_full m))
 
 -- ---- words that are worked out one after the other
@@ -253,7 +253,7 @@ filled_all {ws = ws} w h us l is = ext_get_or 0 ws us (w.long ∙ sym l) λ j b.
 
 -- the words of a set
 pub words_filled : {f : ℕ → ℕ} {k i : ℕ} {ws : List ℕ} → Filled f k ws i → k ≤ i
-    → (v : States) → ((j : ℕ) → j < k → f j ≡ from_bits (part v j)) → ws ≡ words k v
+    → (v : States) → ((j : ℕ) → j < k → f j ≡ number_of_bits (part v j)) → ws ≡ words k v
 words_filled {k = k} w h v is = filled_all w h (words k v) (words_length k v) λ j b. is j b ∙ sym (word_at k v j b)
 
 -- ---- one state more
@@ -280,11 +280,11 @@ part_same v s b =
     rw (drop_set v (64 * (s / 64)) s b (omega arith), e) (take-set-lt 64 (drop (64 * (s / 64)) v) (s % 64) b (omega arith))
 
 -- a store of one word, where the other words stay
-pub words_store : (k : ℕ) (v w : States) (q x : ℕ) → q < k → x ≡ from_bits (part w q) → ((j : ℕ) → j ≢ q → part w j ≡ part v j) → set (words k v) q x ≡ words k w
+pub words_store : (k : ℕ) (v w : States) (q x : ℕ) → q < k → x ≡ number_of_bits (part w q) → ((j : ℕ) → j ≢ q → part w j ≡ part v j) → set (words k v) q x ≡ words k w
 words_store k v w q x h e f =
     words_by k w (set (words k v) q x) (length-set (words k v) q x ∙ words_length k v) λ j l. go j l (ℕ_discrete j q)
   where
-    go : (j : ℕ) → j < k → Dec (j ≡ q) → get_or (set (words k v) q x) j 0 ≡ from_bits (part w j)
+    go : (j : ℕ) → j < k → Dec (j ≡ q) → get_or (set (words k v) q x) j 0 ≡ number_of_bits (part w j)
     go j l (yes d) = rw (d, get_or-set_same (words k v) q x 0 (omega (arith, words_length k v))) e
     go j l (no n) = rw (get_or-set_other (words k v) q j x 0 n, f j n) (word_at k v j l)
 
@@ -302,8 +302,8 @@ words_put k v s there h b =
 
 -- `true` decides what holds, `false` what does not.
 module _ {P : Type 0} where
-  pub decides_yes : P → Decides P true
+  pub decides_yes : P → DecidedBy P true
   decides_yes p = record { yes_if = λ e. p; no_if = λ e. absurd (false_true (sym e)) }
 
-  pub decides_no : ¬ P → Decides P false
+  pub decides_no : ¬ P → DecidedBy P false
   decides_no n = record { yes_if = λ e. absurd (false_true e); no_if = λ e. n }

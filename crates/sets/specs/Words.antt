@@ -28,14 +28,14 @@ abbrev pub bit : Bool → ℕ
 bit b = cond b 1 0
 
 -- the number whose bit s is state s
-unfoldable pub from_bits : States → ℕ
-from_bits [] = 0
-from_bits (b ∷ v) = bit b + 2 * from_bits v
+unfoldable pub number_of_bits : States → ℕ
+number_of_bits [] = 0
+number_of_bits (b ∷ v) = bit b + 2 * number_of_bits v
 
 -- a set in k words
 unfoldable pub words : ℕ → States → List ℕ
 words zero v = []
-words (suc k) v = from_bits (take 64 v) ∷ words k (drop 64 v)
+words (suc k) v = number_of_bits (take 64 v) ∷ words k (drop 64 v)
 
 -- The words `after` show a set of n states: bit s says whether state s is in it, no bit from n up is 1, and the words behind are as lent.
 pub record Marks (n : ℕ) (v : States) (lent after : List ℕ) : Type 0 where

@@ -6,8 +6,8 @@ ghost use Rattle.std.specs.Int.Bits.{bit_and, bit_or};
 ghost use Rattle.std.specs.Int.Count.{ones};
 ghost use Rattle.sets.specs.Lists.{numbers_from};
 ghost use Rattle.sets.specs.States.{States, has, start};
-ghost use Rattle.sets.specs.Words.{words, from_bits, marked, word_count, state_limit};
-ghost use Rattle.sets.specs.internal.Decides.{Decides};
+ghost use Rattle.sets.specs.Words.{words, number_of_bits, marked, word_count, state_limit};
+ghost use Rattle.sets.specs.internal.DecidedBy.{DecidedBy};
 ghost use Rattle.sets.specs.internal.Size.{SizeIs};
 
 pub const WORDS: usize = 4;
@@ -23,7 +23,7 @@ pub fn empty() -> [u64; WORDS]
 
 // The word of the 64 states from `from` on: those below n.
 fn word_below(n: usize, from: usize) -> u64
-    ensures { result ≡ from_bits (take 64 (drop from (start n true))) }
+    ensures { result ≡ number_of_bits (take 64 (drop from (start n true))) }
 {
     if n <= from {
         return 0;
@@ -92,14 +92,14 @@ pub fn add(held: &mut [u64; WORDS], s: usize)
 
 // Whether two sets hold the same words.
 pub fn equal(a: &[u64; WORDS], b: &[u64; WORDS]) -> bool
-    ensures { Decides (a.now ≡ b.now) result }
+    ensures { DecidedBy (a.now ≡ b.now) result }
 {
     equal_words(*a, *b)
 }
 
 // The same of arrays by value, whose length a proof may use.
 fn equal_words(a: [u64; WORDS], b: [u64; WORDS]) -> bool
-    ensures { Decides (a ≡ b) result }
+    ensures { DecidedBy (a ≡ b) result }
 {
     for i in 0..WORDS {
         if a[i] != b[i] {

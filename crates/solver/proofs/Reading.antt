@@ -12,7 +12,7 @@ use lib.ListN.{length}
 use Rattle.sets.proofs.Refusals.{bounds}
 use Rattle.sets.specs.Lists.{every}
 use Rattle.sets.specs.Words.{state_limit}
-use Rattle.sets.specs.internal.Decides.{Decides}
+use Rattle.sets.specs.internal.DecidedBy.{DecidedBy}
 use Rattle.sets.proofs.Lists.{test}
 use Rattle.solver.specs.declared.Cause.TheVariants.{Layout, Table}
 use Rattle.solver.specs.declared.Opened.TheVariants.{File, Unfit}
@@ -80,7 +80,7 @@ pub layout_read : (e : List ℕ) (s : Sizes) → s ≡ sizes_of e → layout_ok 
 layout_read e s are h = rw are (layout_facts e h)
 
 -- an answer to whether the file can be read is the test of condition 11
-pub layout_decided : (e : List ℕ) (s : Sizes) → s ≡ sizes_of e → (answer : Bool) → Decides (Read e s) answer → answer ≡ layout_ok e
+pub layout_decided : (e : List ℕ) (s : Sizes) → s ≡ sizes_of e → (answer : Bool) → DecidedBy (Read e s) answer → answer ≡ layout_ok e
 layout_decided e s are true d = sym (layout_from e (rw are at (d.yes_if refl)))
 layout_decided e s are false d = go (layout_ok e) refl
   where

@@ -5,7 +5,7 @@ use Prim.Native.Nat.{ℕ, ◌+◌, ◌*◌, ◌≤◌, ◌<◌}
 use native.Mathlib.Omega.{arith}
 use lib.ListN.{length, get_or, drop, length-map, length-take, length-drop}
 use lib.Seq.{get_or-take, get_or-drop}
-use Rattle.sets.proofs.Lists.{get_d_map, length_table, table_at, drop_next, sum_next, sum_grows}
+use Rattle.sets.proofs.Lists.{get_or_map, length_table, table_at, drop_next, sum_next, sum_grows}
 use Rattle.solver.specs.Cells.{And}
 use Rattle.solver.specs.File.{u32, sizes_of, cells_at, operands_at, Block, block_at, blocks, operands, Entry, entry_at, entries, list_of, entry_cell, cells}
 use Rattle.solver.specs.Conditions.{arity, operands_before}
@@ -75,7 +75,7 @@ module _ (e : List ℕ) where
       get_or (cells e) i (And []) ≡ entry_cell (operands e) (entry_at e i).kind (entry_at e i).one (entry_at e i).two
   unfolding cells
   cell_at_lem i h =
-      get_d_map _ (entries e) i (entry_at e i) (And []) (omega (arith, length_entries))
+      get_or_map _ (entries e) i (entry_at e i) (And []) (omega (arith, length_entries))
       ∙ ap (λ (x : Entry). entry_cell (operands e) x.kind x.one x.two) (entry_at_lem i (entry_at e i) h)
 
   -- the cells from cell i on

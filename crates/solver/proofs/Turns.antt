@@ -10,7 +10,7 @@ use lib.Seq.{drop-cons, get_or-set_same, get_or-set_other}
 use Rattle.sets.specs.States.{States, start, Valuation, update}
 use Rattle.sets.specs.Loop.{Step, Loop}
 use Rattle.sets.specs.Words.{words, word_count}
-use Rattle.sets.proofs.Turns.{Left, turn, stops_here, goes_on as Goes_Further}
+use Rattle.sets.proofs.Turns.{Left, turn, stops_here, goes_on as goes_further}
 use Rattle.sets.proofs.Words.{words_inj}
 use Rattle.solver.specs.File.{Block, sizes_of, blocks, block_at, cells, block_limit}
 use Rattle.solver.specs.Solution.{Solves}
@@ -200,7 +200,7 @@ module _ {e : List ℕ} {sizes : Sizes} {rows now : List (List ℕ)} {k used₀ 
           let y = g.left ρ σ r h run in
           let other : (τ : Valuation) (w : States) (q : ℕ) → Turn e k ρ y.now τ w q → (get_or after k [] ≡ words word_count w) × ¬ (w ≡ update ρ k y.now k) =
           λ τ w q f. t.differs go z (update ρ k y.now) τ q w y.known f.0 f.1 in
-          let x = Goes_Further (λ τ w q f d. (other τ w q f).1 (d ∙ sym (update_same ρ k y.now))) y.run in
+          let x = goes_further (λ τ w q f d. (other τ w q f).1 (d ∙ sym (update_same ρ k y.now))) y.run in
           record {
             now = x.next;
             known = holds_update h k x.next (sides_sized e k o.formed (own_block o b) x.step.1)

@@ -1,7 +1,7 @@
 // Conditions 11 and 12.
 ghost use Rattle.std.specs.Prelude.{◌≡◌, ◌&&◌, ◌+◌, ◌<◌, ◌≤◌, ltb, length};
 ghost use Rattle.sets.specs.Lists.{numbers_from, every};
-ghost use Rattle.sets.specs.internal.Decides.{Decides};
+ghost use Rattle.sets.specs.internal.DecidedBy.{DecidedBy};
 ghost use Rattle.solver.specs.File.{sizes_of, cells_at, operands_at, blocks_at};
 ghost use Rattle.solver.specs.Conditions.{layout_ok, block_ok, operands_before, operands_ok, tables_ok};
 ghost use Rattle.solver.specs.internal.Forms.{opened};
@@ -12,7 +12,7 @@ use crate::{Cause, Opened, Sizes, Span};
 
 // Whether each count is in its range, and the initial state is a state.
 fn counts_hold(sizes: Sizes) -> bool
-    ensures { Decides (SizesFit sizes) result }
+    ensures { DecidedBy (SizesFit sizes) result }
 {
     if sizes.states < 1 || sets::STATES < sizes.states {
         return false;
@@ -49,7 +49,7 @@ fn operands_from(sizes: Sizes) -> usize
 fn places_hold(file: &[u8], sizes: Sizes) -> bool
     requires long_enough { blocks_at ≤ length file.now }
     requires sizes_fit { SizesFit sizes }
-    ensures { Decides (Places file.now sizes) result }
+    ensures { DecidedBy (Places file.now sizes) result }
 {
     if number_at(file, 0) != 1 {
         return false;

@@ -12,7 +12,7 @@ use lib.ListN.{length, take, get_or, length-append, length-map, get_or-eq_defaul
 use lib.Seq.{take_all}
 use Rattle.sets.specs.Lists.{numbers_from, every, keep}
 use Rattle.sets.specs.States.{States}
-use Rattle.sets.specs.Words.{from_bits, words, marked, bit}
+use Rattle.sets.specs.Words.{number_of_bits, words, marked, bit}
 use Rattle.sets.proofs.Lists.{and_left, and_right, length_table, table_at}
 use Rattle.sets.proofs.Words.{marked_words}
 use Rattle.solver.specs.Cells.{Cell, operands_of}
@@ -37,7 +37,7 @@ unfolding words
 mask_bit α x h =
     let v : States = map (accepts α) (numbers_from 0 label_limit) in
     let e : take label_limit v ≡ v = take_all label_limit v (omega (arith, length_table (accepts α) label_limit)) in
-    ap (λ (u : States). marked (from_bits u ∷ []) x) (sym e) ∙ marked_words 1 v x (omega arith) ∙ table_at (accepts α) label_limit x false h
+    ap (λ (u : States). marked (number_of_bits u ∷ []) x) (sym e) ∙ marked_words 1 v x (omega arith) ∙ table_at (accepts α) label_limit x false h
 
 -- tests that agree on the elements of a list keep the same ones
 pub keep_same : {A : Type 0} (u p q : A → Bool) → ((x : A) → T (u x) → p x ≡ q x) → (xs : List A) → T (every u xs) → keep p xs ≡ keep q xs

@@ -1,7 +1,7 @@
 -- The labels that an action formula accepts, as one number, and the action tables that can be read.
 use Rattle.std.specs.Prelude.{◌≡◌, Bool, true, List, [], ◌∷◌, map, ℕ, ◌<◌, ◌≤◌, length, get_or}
 use Rattle.sets.specs.Lists.{numbers_from}
-use Rattle.sets.specs.Words.{from_bits}
+use Rattle.sets.specs.Words.{number_of_bits}
 use Rattle.cases.specs.File.{Header, label_records, label_limit}
 use Rattle.cases.specs.Labels.{alike_labels}
 use Rattle.cases.specs.Action.{Action, accepts}
@@ -11,7 +11,7 @@ use Rattle.cases.specs.internal.Checks.{labels_in, nodes_in}
 
 -- the number whose bit x says whether label x is accepted
 abbrev pub mask_of : Action → ℕ
-mask_of a = from_bits (map (accepts a) (numbers_from 0 label_limit))
+mask_of a = number_of_bits (map (accepts a) (numbers_from 0 label_limit))
 
 -- The action of a node by its kind and argument, where a and b are the actions that stand next after it: its operands, as far as it takes any.
 unfoldable pub action_of : (ℕ → List Bool) → ℕ → ℕ → Action → Action → Action

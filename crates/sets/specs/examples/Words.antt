@@ -3,7 +3,7 @@ use Rattle.std.specs.Prelude.{◌≡◌, refl, true, false, [], ◌∷◌, ◌++
 use Rattle.std.specs.Int.Count.{ones}
 use Rattle.sets.specs.Lists.{numbers_from, keep, sum}
 use Rattle.sets.specs.States.{States, size}
-use Rattle.sets.specs.Words.{words, from_bits, marked, ones_of, marked_below}
+use Rattle.sets.specs.Words.{words, number_of_bits, marked, ones_of, marked_below}
 
 -- of 70 states those with the numbers 0, 2 and 65
 abbrev spread : States
@@ -11,7 +11,7 @@ spread = true ∷ false ∷ true ∷ (replicate 62 false ++ (true ∷ replicate 
 
 -- two words hold it; one word has no room for 65
 pub held : words 2 spread ∷ words 1 spread ∷ [] ≡ (5 ∷ 2 ∷ []) ∷ (5 ∷ []) ∷ []
-unfolding words from_bits
+unfolding words number_of_bits
 held = refl
 
 -- its size; the ones of its words; of two words the states below 70, 66, 65, 3 and 2 whose bit is 1, and below 70 of one word. So below 65 not all ones count.

@@ -4,7 +4,7 @@ use mathlib.Core.List.{List, [], ◌∷◌, ◌++◌, map, flat_map}
 use Rattle.sets.specs.Lists.{numbers_from, every, for_some, sum}
 use Rattle.sets.specs.States.{size, update}
 use Rattle.sets.specs.computed.Iteration.{repeated, same}
-use Rattle.sets.specs.Words.{words, from_bits, word_count, state_limit}
+use Rattle.sets.specs.Words.{words, number_of_bits, word_count, state_limit}
 use Rattle.solver.specs.Cells.{value}
 use Rattle.solver.specs.computed.Solved.{evaluate, work_out, solved, run}
 use Rattle.solver.specs.File.{u32, blocks_at, blocks, operands, entries, entry_cell, cells, block_limit, cell_limit, operand_limit}
@@ -220,7 +220,7 @@ pub after : places ≡
     ∷ nines (word_count + 1)
     ∷ nines 8
     ∷ []
-unfolding answer places solve_marks solve_work words from_bits
+unfolding answer places solve_marks solve_work words number_of_bits
 after = refl
 
 -- the limits as the paper has them

@@ -14,9 +14,9 @@ use Rattle.cases.specs.Conditions.{node_at, is_binder, Accepted}
 use Rattle.cases.specs.internal.Checks.{labels_in, nodes_in, transition_part, LabelPart, NodesFit}
 use Rattle.cases.specs.internal.Masks.{WholeActions, action_in, ActionMasks}
 use Rattle.translate.specs.declared.Shape.{Shape}
-use Rattle.translate.specs.declared.Written.{Written}
+use Rattle.translate.specs.declared.Cause.{Cause}
 use Rattle.translate.specs.declared.Cause.TheVariants.{Memory}
-use Rattle.translate.specs.declared.Written.TheVariants.{File, Refused}
+use Rattle.std.specs.Prelude.{Result, Ok, Err}
 use Rattle.translate.specs.Bytes.{System, system_of, file_of}
 use Rattle.translate.specs.internal.Parts.{distinct_in}
 use Rattle.cases.specs.internal.Links.{FirstFlags}
@@ -30,15 +30,15 @@ use Rattle.translate.proofs.CaseSources as of_case
 use Rattle.translate.proofs.Translations.{too_short_lem, file_written}
 
 -- the equations of an accepted case, written or not
-module _ (b before : List ℕ) (accepted : Accepted b) {w : Written} {after : List ℕ} (emitted : Emitted (system_of (case_of b)) before w after) where
+module _ (b before : List ℕ) (accepted : Accepted b) {w : Result ℕ Cause} {after : List ℕ} (emitted : Emitted (system_of (case_of b)) before w after) where
   ends_by : (r : Bool) → ltb (length before) (length (file b)) ≡ r → Translated b before (written_number w) (written_length w) after
   unfolding file_of written_number written_length translate_number
   ends_by true e =
-      let is : w ≡ Refused Memory = emitted.answer ∙ ap (λ (x : Bool). cond x (Refused Memory) (File (length (file b)))) e in
+      let is : w ≡ Err Memory = emitted.answer ∙ ap (λ (x : Bool). cond x (Err Memory) (Ok (length (file b)))) e in
       let same : after ≡ before = emitted.written ∙ ap (λ (x : Bool). cond x before (file b ++ drop (length (file b)) before)) e in
       rw (is, same) (too_short_lem b before accepted (length (file b)) refl (ltb-true (length before) (length (file b)) e))
   ends_by false e =
-      let is : w ≡ File (length (file b)) = emitted.answer ∙ ap (λ (x : Bool). cond x (Refused Memory) (File (length (file b)))) e in
+      let is : w ≡ Ok (length (file b)) = emitted.answer ∙ ap (λ (x : Bool). cond x (Err Memory) (Ok (length (file b)))) e in
       rw is
       (file_written b before accepted (length (file b)) refl (ltb-false (length before) (length (file b)) e)
       (emitted.written ∙ ap (λ (x : Bool). cond x before (file b ++ drop (length (file b)) before)) e))
@@ -118,7 +118,7 @@ module _ (b : List ℕ) (accepted : Accepted b) where
           (sources_header (subst (Held b first shapes added) e held))
 
       -- what follows from what they leave
-      pub left_as : {before : List ℕ} {w : Written} {after : List ℕ}
+      pub left_as : {before : List ℕ} {w : Result ℕ Cause} {after : List ℕ}
           → Emitted (shape_system h.states h.initial (distinct_in (part_at b h.transitions_at) first h.transitions) (take (added + h.nodes) shapes)) before w after
           → Translated b before (written_number w) (written_length w) after
       left_as {before} {w} {after} emitted =

@@ -11,7 +11,7 @@ use borrow.Author.Tests.{lt-ltb, le-ltb}
 use Rattle.cases.specs.declared.Transition.{Transition}
 use Rattle.translate.specs.declared.Shape.{Shape}
 use Rattle.translate.specs.declared.Cause.TheVariants.{Memory}
-use Rattle.translate.specs.declared.Written.TheVariants.{File, Refused}
+use Rattle.std.specs.Prelude.{Ok, Err}
 use Rattle.translate.specs.Bytes.{System, all_operands, block_numbers, cell_numbers, numbers, bytes}
 use Rattle.translate.specs.internal.Shapes.{shape_blocks, shape_cells}
 use Rattle.translate.specs.internal.Parts.{Wrote, WroteAt, WroteAll, WroteCells, distinct_in}
@@ -49,12 +49,12 @@ module _ (y : System) {c d p room : ℕ} (sized : RoomFor y c d p room) where
   file_length = rw (sized.blocks, sized.cells, sized.operands) (length_file y)
 
   -- there is no room for the file, or it is written
-  pub short : {s t : List ℕ} → length s < blocks_at + 8 * d + 12 * c + 4 * p → t ≡ s → Emitted y s (Refused Memory) t
+  pub short : {s t : List ℕ} → length s < blocks_at + 8 * d + 12 * c + 4 * p → t ≡ s → Emitted y s (Err Memory) t
   short {s} h e =
       let no : ltb (length s) (length (bytes (numbers y))) ≡ true = lt-ltb (length s) (length (bytes (numbers y))) (rw file_length h) in
       record { answer = rw no; written = e ∙ rw no }
 
-  pub done : {s t : List ℕ} → blocks_at + 8 * d + 12 * c + 4 * p ≤ length s → Wrote (numbers y) s t → Emitted y s (File (blocks_at + 8 * d + 12 * c + 4 * p)) t
+  pub done : {s t : List ℕ} → blocks_at + 8 * d + 12 * c + 4 * p ≤ length s → Wrote (numbers y) s t → Emitted y s (Ok (blocks_at + 8 * d + 12 * c + 4 * p)) t
   done {s} {t} h w =
       let yes : ltb (length s) (length (bytes (numbers y))) ≡ false = le-ltb (length s) (length (bytes (numbers y))) (rw file_length h) in
       record { answer = rw (yes, file_length); written = w.exact ∙ rw (yes, length_bytes (numbers y)) }

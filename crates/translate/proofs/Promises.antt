@@ -19,8 +19,8 @@ use Rattle.cases.specs.Case.{case_of, copies, distinct, fresh}
 use Rattle.cases.specs.Meaning.{from}
 use Rattle.cases.specs.Conditions.{layout_conditions, model_conditions, formula_conditions, case_conditions, case_refusal, Accepted}
 use Rattle.cases.proofs.TableTrees.{formula_table_lem}
-use Rattle.translate.specs.declared.Written.{Written}
-use Rattle.translate.specs.declared.Written.TheVariants.{File, Refused}
+use Rattle.translate.specs.declared.Cause.{Cause}
+use Rattle.std.specs.Prelude.{Result, Ok, Err}
 use Rattle.translate.specs.Whole.{binder_nodes, formula_of, block_of, steps_of}
 use Rattle.translate.specs.Tables.{RHS, Equation}
 use Rattle.translate.specs.Cells.{targets, cells_from}
@@ -41,10 +41,10 @@ use Rattle.translate.proofs.AcceptedCases.{fit}
 -- ---- the answer
 
 -- An answer with no number is a file, of the length answered.
-pub is_file : (w : Written) → written_number w ≡ 0 → w ≡ File (written_length w)
+pub is_file : (w : Result ℕ Cause) → written_number w ≡ 0 → w ≡ Ok (written_length w)
 unfolding written_number written_length
-is_file (File k) z = refl
-is_file (Refused cause) z = absurd (some_number cause z)
+is_file (Ok k) z = refl
+is_file (Err cause) z = absurd (some_number cause z)
 
 -- Of what translate answers and leaves:
 module _ {b before after : List ℕ} {number long : ℕ} (t : Translated b before number long after) where

@@ -1,5 +1,5 @@
 -- What `translate` answers, and what it leaves in the buffer.
-use Rattle.std.specs.Prelude.{◌≡◌, List, [], ◌∷◌, ◌++◌, ℕ, ltb, length, drop}
+use Rattle.std.specs.Prelude.{◌≡◌, List, [], ◌∷◌, ◌++◌, ℕ, ltb, length, drop, Result, Ok, Err}
 use Rattle.sets.specs.Refusals.{Conditions, first_of, by_refusal}
 use Rattle.cases.specs.Case.{case_of}
 use Rattle.cases.specs.Conditions.{case_conditions}
@@ -7,8 +7,6 @@ use Rattle.cases.specs.Opening.{case_number}
 use Rattle.translate.specs.Bytes.{file_of}
 use Rattle.translate.specs.declared.Cause.{Cause}
 use Rattle.translate.specs.declared.Cause.TheVariants.{Open, Memory}
-use Rattle.translate.specs.declared.Written.{Written}
-use Rattle.translate.specs.declared.Written.TheVariants.{File, Refused}
 
 -- the equation file of the case that any bytes are read as
 abbrev pub file : List ℕ → List ℕ
@@ -28,13 +26,13 @@ translate_number (Open cause) = case_number cause
 translate_number Memory = 13
 
 -- an answer's refusal number, 0 if there is none, and its file's length, 0 if there is none
-unfoldable pub written_number : Written → ℕ
-written_number (File k) = 0
-written_number (Refused cause) = translate_number cause
+unfoldable pub written_number : Result ℕ Cause → ℕ
+written_number (Ok k) = 0
+written_number (Err cause) = translate_number cause
 
-unfoldable pub written_length : Written → ℕ
-written_length (File k) = k
-written_length (Refused cause) = 0
+unfoldable pub written_length : Result ℕ Cause → ℕ
+written_length (Ok k) = k
+written_length (Err cause) = 0
 
 -- The buffer afterwards starts with the file, and all beyond it is unchanged; after a refusal nothing changed.
 unfoldable pub file_after : List ℕ → List ℕ → List ℕ

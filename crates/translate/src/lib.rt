@@ -16,6 +16,7 @@ ghost use Rattle.cases.specs.internal.Links.{FirstFlags};
 ghost use Rattle.translate.specs.Bytes.{numbers};
 ghost use Rattle.translate.specs.internal.Parts.{Wrote, distinct_in};
 ghost use Rattle.translate.specs.internal.Sources.{Sources, RoomFor, shape_system, Emitted};
+ghost use Rattle.translate.specs.declared.Cause.TheVariants.{Open};
 ghost use Rattle.translate.specs.Translating.{translate_number, written_number, written_length, Translated};
 
 use blocks::{block_count, write_blocks};
@@ -33,12 +34,29 @@ pub enum Cause {
     Memory,
 }
 
-// The length of the file that was written, or why there is none.
-#[derive(Clone, Copy)]
-pub enum Written {
-    File(usize),
-    Refused(Cause),
+// What is found on opening the case.
+impl From<cases::Cause> for Cause {
+    ghost from_gives = { λ cause e. e ≡ Open cause };
+
+    fn from(cause: cases::Cause) -> Cause {
+        Cause::Open(cause)
+    }
 }
+
+// The number of a cause.
+impl From<Cause> for u64 {
+    ghost from_gives = { λ cause n. n ≡ translate_number cause };
+
+    fn from(cause: Cause) -> u64 {
+        match cause {
+            Cause::Open(cause) => cases::number_of(cause) as u64,
+            Cause::Memory => 13,
+        }
+    }
+}
+
+// The length of the file that was written, or why there is none.
+pub type Written = Result<usize, Cause>;
 
 // What the writers need of a node: its kind as in the formula table, the node of a second operand, the block of a binder or variable,
 // and the labels that a box or diamond accepts, bit x for label x. What a kind does not have is 0.
@@ -97,10 +115,10 @@ fn emit(
     let p = operand_total(part, first, m, n, shapes, k);
     let size = HEADER + 8 * d + 12 * (k * n) + 4 * p;
     if out.len() < size {
-        return Written::Refused(Cause::Memory);
+        return Err(Cause::Memory);
     }
     fill(out, part, first, m, shapes, k, n, initial, d, p);
-    Written::File(size)
+    Ok(size)
 }
 
 // The equation file of an accepted case, with its header and the flags of first appearances. The labels that an action formula accepts are
@@ -144,7 +162,7 @@ pub fn translate(case: &[u8], out: &mut [u8]) -> Written
 {
     match cases::open(case) {
         Opened::Accepted(h) => translate_opened(case, h, out),
-        Opened::Refused(cause) => Written::Refused(Cause::Open(cause)),
+        Opened::Refused(cause) => Err(Cause::from(cause)),
     }
 }
 

@@ -9,4 +9,4 @@ translate_opened-requires c = accepted c.in-Accepted.ensures refl
 
 pub returns-in-Refused : goal.returns-in-Refused
 unfolding written_number written_length translate_number
-returns-in-Refused c = case_refused _ _ (refused c.in-Refused.ensures refl)
+returns-in-Refused c = rw c.from.ensures (case_refused _ _ (refused c.in-Refused.ensures refl))

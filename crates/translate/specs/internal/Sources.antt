@@ -1,5 +1,5 @@
 -- What the writers of a case's equations are handed, and what they leave in the buffer.
-use Rattle.std.specs.Prelude.{◌≡◌, cond, List, ◌++◌, ℕ, ◌+◌, ◌*◌, ◌≤◌, ◌<◌, ltb, length, get_or, take, drop}
+use Rattle.std.specs.Prelude.{◌≡◌, cond, List, ◌++◌, ℕ, ◌+◌, ◌*◌, ◌≤◌, ◌<◌, ltb, length, get_or, take, drop, Result, Ok, Err}
 use Rattle.sets.specs.Words.{state_limit}
 use Rattle.solver.specs.File.{blocks_at, operand_limit}
 use Rattle.cases.specs.File.{transition_limit, node_limit}
@@ -8,9 +8,8 @@ use Rattle.translate.specs.Bytes.{System, all_operands, bytes, numbers}
 use Rattle.translate.specs.internal.Shapes.{shape_cells, shape_blocks}
 use Rattle.translate.specs.internal.Parts.{Recorded, distinct_in}
 use Rattle.translate.specs.declared.Shape.{Shape}
-use Rattle.translate.specs.declared.Written.{Written}
+use Rattle.translate.specs.declared.Cause.{Cause}
 use Rattle.translate.specs.declared.Cause.TheVariants.{Memory}
-use Rattle.translate.specs.declared.Written.TheVariants.{File, Refused}
 
 -- the equations of nodes with these shapes; ts are the distinct transitions
 unfoldable pub shape_system : ℕ → ℕ → List Transition → List Shape → System
@@ -39,6 +38,6 @@ pub record RoomFor (y : System) (c d p room : ℕ) : Type 0 where
   pub roomy : blocks_at + 8 * d + 12 * c + 4 * p ≤ room
 
 -- The file of some equations is written to the start of a buffer, and all beyond it unchanged; where there is no room for it nothing changed.
-pub record Emitted (y : System) (before : List ℕ) (w : Written) (after : List ℕ) : Type 0 where
-  pub answer : w ≡ cond (ltb (length before) (length (bytes (numbers y)))) (Refused Memory) (File (length (bytes (numbers y))))
+pub record Emitted (y : System) (before : List ℕ) (w : Result ℕ Cause) (after : List ℕ) : Type 0 where
+  pub answer : w ≡ cond (ltb (length before) (length (bytes (numbers y)))) (Err Memory) (Ok (length (bytes (numbers y))))
   pub written : after ≡ cond (ltb (length before) (length (bytes (numbers y)))) before (bytes (numbers y) ++ drop (length (bytes (numbers y))) before)

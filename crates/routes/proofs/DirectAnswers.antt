@@ -6,6 +6,7 @@ use Prim.Native.Nat.{ℕ, ◌<◌, ◌≤◌}
 use native.Mathlib.Omega.{arith}
 use borrow.Author.Tests.{lt-ltb, le-ltb}
 use lib.ListN.{length, drop, length-replicate}
+use Rattle.std.specs.Prelude.{Ok, Err}
 use Rattle.sets.specs.States.{all_empty}
 use Rattle.sets.specs.Words.{words, marked, word_count, state_limit}
 use Rattle.sets.specs.internal.Size.{SizeIs}
@@ -17,20 +18,19 @@ use Rattle.cases.specs.Case.{Case}
 use Rattle.solver.specs.declared.Cause.TheVariants.{Memory, Spent}
 use Rattle.solver.specs.Outcome.{solve_number}
 use Rattle.routes.specs.declared.Cause.TheVariants.{Run}
-use Rattle.routes.specs.declared.Report.{Report}
+use Rattle.solver.specs.declared.Report.{Report}
 use Rattle.routes.specs.declared.Value.{Value}
-use Rattle.routes.specs.declared.Answer.TheVariants.{Solved, Refused}
 use Rattle.routes.specs.Route.{route_number, route_answer, Route, direct, run_of, marks_only, too_short, exceeds, run_conditions, route_outcome, marks_after, RanBy}
 use Rattle.routes.specs.internal.Answering.{Reported, Rooted}
 use Rattle.routes.specs.internal.Evaluating.{case_in, CaseParts}
 use Rattle.routes.proofs.DirectLaws.{worked_sized}
 
 -- the two causes that a run has beside those of its case
-pub memory_is : route_answer (Refused (Run Memory)) ≡ refused 13
+pub memory_is : route_answer (Err (Run Memory)) ≡ refused 13
 unfolding route_answer route_number solve_number
 memory_is = refl
 
-pub spent_is : route_answer (Refused (Run Spent)) ≡ refused 14
+pub spent_is : route_answer (Err (Run Spent)) ≡ refused 14
 unfolding route_answer route_number solve_number
 spent_is = refl
 
@@ -115,7 +115,7 @@ module _ {h : Header} {labels records actions formula : List ℕ} (parts : CaseP
 
     -- success
     pub solved : o.spent ≡ false → {report : Report} → Reported h o.set o.rounds report → {after : List ℕ} → after ≡ o.set ++ drop word_count marks
-        → RanBy (conditions c marks limit) direct c marks (route_answer (Solved report)) after
+        → RanBy (conditions c marks limit) direct c marks (route_answer (Ok report)) after
     unfolding case_in
     solved z f is = ran_solved (number_0 c marks limit room (r.within z))
         (f.are c refl (run_of direct c).0 (run_sized c) (r.set z) ∙ ap (report_of c.initial (run_of direct c).0) (r.rounds z))

@@ -8,6 +8,7 @@ use borrow.Author.Tests.{ltb-true, ltb-false}
 use lib.Dec.{ltb}
 use lib.ListN.{length, take, length-append}
 use lib.Seq.{take-append_seam}
+use Rattle.std.specs.Prelude.{Result, Ok, Err}
 use Rattle.sets.specs.Refusals.{Outcome, first_of, refused, outcome_by, report_of}
 use Rattle.sets.proofs.Refusals.{refusing}
 use Rattle.solver.specs.Outcome.{report, solve_refusal, solve_outcome, solve_marks, solve_work, Answered}
@@ -16,9 +17,7 @@ use Rattle.cases.specs.Conditions.{Accepted}
 use Rattle.cases.specs.declared.Tally.{Tally}
 use Rattle.cases.specs.Tally.{tally_of}
 use Rattle.translate.specs.Translating.{file, file_after, translate_refusal, written_number, written_length, Translated}
-use Rattle.translate.specs.declared.Written.{Written}
 use Rattle.translate.specs.declared.Cause.{Cause}
-use Rattle.translate.specs.declared.Written.TheVariants.{File, Refused}
 use Rattle.translate.proofs.Promises.{writes, read_back}
 use Rattle.translate.proofs.Translations.{some_number, unrefused, lacks_room}
 use Rattle.routes.specs.Route.{equation, Lent, run_of, route_conditions, route_outcome, marks_after, work_after, EquationRan}
@@ -26,11 +25,11 @@ use Rattle.routes.proofs.RouteLaws.{translate_then_solve, translate_never_14}
 use Rattle.routes.proofs.DirectAnswers.{ran_refused}
 
 -- A file has no number, and its length is answered.
-pub file_number : {w : Written} {k : ℕ} → w ≡ File k → written_number w ≡ 0
+pub file_number : {w : Result ℕ Cause} {k : ℕ} → w ≡ Ok k → written_number w ≡ 0
 unfolding written_number
 file_number e = ap written_number e
 
-pub file_long : {w : Written} {k : ℕ} → w ≡ File k → written_length w ≡ k
+pub file_long : {w : Result ℕ Cause} {k : ℕ} → w ≡ Ok k → written_length w ≡ k
 unfolding written_length
 file_long e = ap written_length e
 
@@ -56,7 +55,7 @@ module _ {b : List ℕ} (l : Lent) {file' : List ℕ} {number long : ℕ} (t : T
     }
 
   -- of an accepted case it is 13
-  pub short_refused : {w : Written} {cause : Cause} → w ≡ Refused cause → number ≡ written_number w → Accepted b
+  pub short_refused : {w : Result ℕ Cause} {cause : Cause} → w ≡ Err cause → number ≡ written_number w → Accepted b
       → {o : Outcome} {tally : Tally} → o ≡ refused 13 → tally ≡ tally_of b → EquationRan b l limit o tally file' l.work l.marks
   unfolding written_number
   short_refused {cause = cause} e is ok said tally_is =

@@ -1,13 +1,14 @@
 -- What is worked out once for each node: numbers stored one after the other, and the blocks of the binders.
 use mathlib.Core.Path.{◌≡◌, refl, ap, ◌∙◌}
 use mathlib.Core.Logic.{◌⊎◌, inl, inr}
-use mathlib.Core.Bool.{Bool, true, cond}
+use mathlib.Core.Bool.{Bool, true, false, cond}
 use mathlib.Core.List.{List, [], ◌∷◌}
 use Prim.Native.Nat.{ℕ, zero, suc, ◌+◌, ◌<◌, ◌≤◌}
 use native.Mathlib.Nat.{eq-or-lt_of_le}
 use native.Mathlib.Numerals.{add-one}
 use native.Mathlib.Omega.{arith}
 use lib.Dec.{T, ltb→lt}
+use mir.Val.{bool_byte}
 use lib.ListN.{length, get_or, set, take, length-set}
 use lib.Seq.{get_or-set_same, get_or-set_other, take-length}
 use Rattle.cases.specs.declared.Node.{Node}
@@ -61,9 +62,13 @@ module _ (part : List ℕ) {f i : ℕ} (h : i < f) {x : Node} (e : x ≡ node_in
       go (inl k) = ltb→lt x.arg a (rw (← k) at ok)
       go (inr k) = let five : 5 ≡ x.kind = omega arith in ltb→lt x.arg a (rw (← five) at ok)
 
-  -- whether it is a binder
-  pub binder_read : (b : Bool) → b ≡ is_binder x → ◌≡◌ {A = ℕ} (cond b 1 0) (cond (is_binder (node_at (nodes_in part f) i)) 1 0)
-  binder_read b is = rw (node_read part f i h x e) (ap (λ (t : Bool). cond {A = ℕ} t 1 0) is)
+  -- whether it is a binder, as a number
+  pub binder_read : (b : Bool) → b ≡ is_binder x → (bool_byte b ≡ cond (is_binder (node_at (nodes_in part f) i)) 1 0) × (bool_byte b ≤ 1)
+  binder_read b is = rw (node_read part f i h x e, ← is) (by b)
+    where
+      by : (b : Bool) → (bool_byte b ≡ cond b 1 0) × (bool_byte b ≤ 1)
+      by true = (refl, omega arith)
+      by false = (refl, omega arith)
 
 -- ---- blocks
 

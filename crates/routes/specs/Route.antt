@@ -1,11 +1,12 @@
 -- The two routes: what each works out, its own rounds, what it answers, and what it leaves in lent memory; and what the programs lend.
-use Rattle.std.specs.Prelude.{◌≡◌, Bool, false, ◌||◌, List, [], ◌∷◌, ◌++◌, map, ℕ, ltb, length, drop, replicate}
+use Rattle.std.specs.Prelude.{◌≡◌, Bool, false, ◌||◌, List, [], ◌∷◌, ◌++◌, map, ℕ, ltb, length, drop, replicate, Result, Ok, Err}
 use Rattle.sets.specs.States.{States, all_empty}
 use Rattle.sets.specs.Words.{words, bit, word_count}
 use Rattle.sets.specs.computed.Iteration.{Worked}
 use Rattle.sets.specs.Refusals.{Conditions, first_of, Outcome, Spent, refused, report_of, by_refusal, outcome_by}
 use Rattle.solver.specs.computed.Solved.{evaluate, run}
 use Rattle.solver.specs.File.{sizes_of, cells, cell_limit}
+use Rattle.solver.specs.declared.Report.{Report}
 use Rattle.solver.specs.Outcome.{Scratch, solve_number, FileRounds, solve_too_short}
 use Rattle.cases.specs.Case.{Case, case_of}
 use Rattle.cases.specs.Tally.{tally_of}
@@ -16,8 +17,6 @@ use Rattle.cases.specs.Opening.{case_number}
 use Rattle.translate.specs.Translating.{file, file_after}
 use Rattle.routes.specs.declared.Cause.{Cause}
 use Rattle.routes.specs.declared.Cause.TheVariants.{Open, Run}
-use Rattle.routes.specs.declared.Answer.{Answer}
-use Rattle.routes.specs.declared.Answer.TheVariants.{Solved, Refused}
 use Rattle.routes.specs.declared.Numbers.{Numbers}
 use Rattle.routes.specs.Direct.{Direct}
 use Rattle.routes.specs.computed.Worked.{worked}
@@ -28,9 +27,9 @@ route_number (Open cause) = case_number cause
 route_number (Run cause) = solve_number cause
 
 -- the outcome that an answer stands for
-unfoldable pub route_answer : Answer → Outcome
-route_answer (Solved r) = record { refusal = 0; verdict = bit r.verdict; count = r.count; rounds = r.rounds }
-route_answer (Refused cause) = refused (route_number cause)
+unfoldable pub route_answer : Result Report Cause → Outcome
+route_answer (Ok r) = record { refusal = 0; verdict = bit r.verdict; count = r.count; rounds = r.rounds }
+route_answer (Err cause) = refused (route_number cause)
 
 -- the outcome that numbers stand for
 unfoldable pub shown : Numbers → Outcome

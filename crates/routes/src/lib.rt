@@ -21,7 +21,8 @@ use cases::{Header, Opened, TRANSITIONS, Tally, first_appearances};
 use evaluate::evaluate_root;
 pub use outcome::{numbers_of, solving_answer};
 use sets::WORDS;
-use translate::{Written, write_case};
+pub use solver::Report;
+use translate::write_case;
 
 // Why a case gets no marks: found on opening it, or on running it.
 #[derive(Clone, Copy)]
@@ -30,19 +31,8 @@ pub enum Cause {
     Run(solver::Cause),
 }
 
-// What is reported of a case with its marks.
-#[derive(Clone, Copy)]
-pub struct Report {
-    pub verdict: bool,
-    pub count: usize,
-    pub rounds: u64,
-}
-
-#[derive(Clone, Copy)]
-pub enum Answer {
-    Solved(Report),
-    Refused(Cause),
-}
+// What is reported of a case with its marks, or why it gets none.
+pub type Answer = Result<Report, Cause>;
 
 // A route's answer, and the tally of the case's transition table: both its numbers are 0 where the case is refused on opening.
 #[derive(Clone, Copy)]
@@ -98,15 +88,15 @@ pub fn direct_parts(
         direct_route (case_in h labels.now records.now actions.now formula.now) marks.old (route_answer result) marks.new }
 {
     if marks.len() < WORDS {
-        return Answer::Refused(Cause::Run(solver::Cause::Memory));
+        return Err(Cause::Run(solver::Cause::Memory));
     }
     let value = evaluate_root(h, labels, records, actions, formula, limit);
     if value.spent {
-        return Answer::Refused(Cause::Run(solver::Cause::Spent));
+        return Err(Cause::Run(solver::Cause::Spent));
     }
     let set = value.set;
     sets::store(marks, set);
-    Answer::Solved(report_of(h, set, value.rounds))
+    Ok(report_of(h, set, value.rounds))
 }
 
 // Direct on an accepted case and its header.
@@ -140,7 +130,7 @@ fn unopened(cause: cases::Cause) -> Tallied
     ensures { (route_answer result.answer ≡ refused_outcome (case_number cause)) × (result.tally ≡ no_tally) }
 {
     Tallied {
-        answer: Answer::Refused(Cause::Open(cause)),
+        answer: Err(Cause::Open(cause)),
         tally: Tally {
             records: 0,
             distinct: 0,
@@ -175,9 +165,9 @@ fn equation_opened(
     let mut first = [0u8; TRANSITIONS];
     let tally = first_appearances(case, h, &mut first);
     let written = write_case(case, h, &first, file);
-    let Written::File(length) = written else {
+    let Ok(length) = written else {
         return Tallied {
-            answer: Answer::Refused(Cause::Run(solver::Cause::Memory)),
+            answer: Err(Cause::Run(solver::Cause::Memory)),
             tally: tally,
         };
     };

@@ -60,10 +60,8 @@ fn sources(
         → result ≡ words word_count (set_of n (λ s. for_some (λ t. from s α t && beq (has v t.target) inside) (transitions_in records.now m))) }
 {
     let mut found = sets::empty();
-    let mut i = 0;
-    while i < m {
+    for i in 0..m {
         with_source(&mut found, transition_at(records, i), labels, &set, inside);
-        i += 1;
     }
     found
 }

@@ -1,22 +1,36 @@
 // Answers of solve's as answers of a route, and answers as numbers.
 ghost use Rattle.std.specs.Prelude.{◌≡◌};
-ghost use Rattle.sets.specs.Words.{bit};
-ghost use Rattle.solver.specs.Outcome.{solve_number, solve_answer};
+ghost use Rattle.solver.specs.Outcome.{solve_answer, solve_number};
 ghost use Rattle.routes.specs.Route.{route_number, route_answer, shown};
+ghost use Rattle.routes.specs.declared.Cause.TheVariants.{Open, Run};
 
-use crate::{Answer, Cause, Numbers, Report};
+use crate::{Answer, Cause, Numbers};
+
+// What is found on opening a case.
+impl From<cases::Cause> for Cause {
+    ghost from_gives = { λ cause given. given ≡ Open cause };
+
+    fn from(cause: cases::Cause) -> Cause {
+        Cause::Open(cause)
+    }
+}
+
+// What is found on running a case.
+impl From<solver::Cause> for Cause {
+    ghost from_gives = { λ cause given. given ≡ Run cause };
+
+    fn from(cause: solver::Cause) -> Cause {
+        Cause::Run(cause)
+    }
+}
 
 // An answer of solve's.
 pub fn solving_answer(answer: solver::Answer) -> Answer
     ensures { route_answer result ≡ solve_answer answer }
 {
     match answer {
-        solver::Answer::Solved(report) => Answer::Solved(Report {
-            verdict: report.verdict,
-            count: report.count,
-            rounds: report.rounds,
-        }),
-        solver::Answer::Refused(cause) => Answer::Refused(Cause::Run(cause)),
+        solver::Answer::Solved(report) => Ok(report),
+        solver::Answer::Refused(cause) => Err(Cause::from(cause)),
     }
 }
 
@@ -33,37 +47,44 @@ fn running_number(cause: solver::Cause) -> u64
 }
 
 // The number of a cause.
-fn number_of(cause: Cause) -> u64
-    ensures { result ≡ route_number cause }
-{
-    match cause {
-        Cause::Open(cause) => cases::number_of(cause) as u64,
-        Cause::Run(cause) => running_number(cause),
-    }
-}
+impl From<Cause> for u64 {
+    ghost from_gives = { λ cause number. number ≡ route_number cause };
 
-fn flag(b: bool) -> u64
-    ensures { result ≡ bit b }
-{
-    if b { 1 } else { 0 }
+    #[tactic(auto, unfolding(crate::specs::Route::route_number))]
+    fn from(cause: Cause) -> u64 {
+        match cause {
+            Cause::Open(cause) => u64::from(cases::number_of(cause)),
+            Cause::Run(cause) => running_number(cause),
+        }
+    }
 }
 
 // The numbers of an answer.
+impl From<Answer> for Numbers {
+    ghost from_gives = { λ answer numbers. shown numbers ≡ route_answer answer };
+
+    #[tactic(auto, unfolding(crate::specs::Route::route_answer, crate::specs::Route::shown))]
+    fn from(answer: Answer) -> Numbers {
+        match answer {
+            Ok(report) => Numbers {
+                refusal: 0,
+                verdict: u64::from(report.verdict),
+                count: report.count as u64,
+                rounds: report.rounds,
+            },
+            Err(cause) => Numbers {
+                refusal: u64::from(cause),
+                verdict: 0,
+                count: 0,
+                rounds: 0,
+            },
+        }
+    }
+}
+
+// The same.
 pub fn numbers_of(answer: Answer) -> Numbers
     ensures { shown result ≡ route_answer answer }
 {
-    match answer {
-        Answer::Solved(report) => Numbers {
-            refusal: 0,
-            verdict: flag(report.verdict),
-            count: report.count as u64,
-            rounds: report.rounds,
-        },
-        Answer::Refused(cause) => Numbers {
-            refusal: number_of(cause),
-            verdict: 0,
-            count: 0,
-            rounds: 0,
-        },
-    }
+    Numbers::from(answer)
 }

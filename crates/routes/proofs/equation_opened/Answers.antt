@@ -12,12 +12,12 @@ returns-in_default c =
     short_refused (lent _ _ _) c.write_case-written.ensures _ c.in_default.is refl c.requires.0 memory_is c.first_appearances-tally.ensures.1
 
 pub slice_bounds-solve-end : goal.slice_bounds-solve-end
-slice_bounds-solve-end c = omega (arith, written_fits (lent _ [] []) c.write_case-written.ensures 0 (file_number c.in-File.is) (file_long c.in-File.is))
+slice_bounds-solve-end c = omega (arith, written_fits (lent _ [] []) c.write_case-written.ensures 0 (file_number c.in-Ok.is) (file_long c.in-Ok.is))
 
 pub slice_bounds-solve-end-2 : goal.slice_bounds-solve-end-2
 slice_bounds-solve-end-2 c =
-    sym (length-take-le _ _ (omega (arith, written_fits (lent _ [] []) c.write_case-written.ensures 0 (file_number c.in-File.is) (file_long c.in-File.is))))
+    sym (length-take-le _ _ (omega (arith, written_fits (lent _ [] []) c.write_case-written.ensures 0 (file_number c.in-Ok.is) (file_long c.in-Ok.is))))
 
 pub returns : goal.returns
 returns c =
-    route_solved (lent _ _ _) c.write_case-written.ensures _ (file_number c.in-File.is) (file_long c.in-File.is) c.solve.ensures c.solving_answer-answer.ensures c.first_appearances-tally.ensures.1
+    route_solved (lent _ _ _) c.write_case-written.ensures _ (file_number c.in-Ok.is) (file_long c.in-Ok.is) c.solve.ensures c.solving_answer-answer.ensures c.first_appearances-tally.ensures.1

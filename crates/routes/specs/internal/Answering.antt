@@ -1,5 +1,5 @@
 -- What the parts of the two calls answer.
-use Rattle.std.specs.Prelude.{◌≡◌, true, false, List, ℕ, ◌<◌, ◌≤◌, length}
+use Rattle.std.specs.Prelude.{◌≡◌, true, false, List, ℕ, ◌<◌, ◌≤◌, length, Ok}
 use Rattle.sets.specs.States.{States}
 use Rattle.sets.specs.Words.{words, word_count}
 use Rattle.sets.specs.computed.Iteration.{Worked}
@@ -7,14 +7,13 @@ use Rattle.cases.specs.Case.{Case}
 use Rattle.cases.specs.declared.Header.{Header}
 use Rattle.routes.specs.Route.{route_answer}
 use Rattle.sets.specs.Refusals.{report_of}
-use Rattle.routes.specs.declared.Answer.TheVariants.{Solved}
-use Rattle.routes.specs.declared.Report.{Report}
+use Rattle.solver.specs.declared.Report.{Report}
 use Rattle.routes.specs.declared.Value.{Value}
 
 -- the report of a set that is held in words, of a case with the header's states and initial state
 pub record Reported (h : Header) (set : List ℕ) (rounds : ℕ) (report : Report) : Type 0 where
   pub are : (c : Case) → c.initial ≡ h.initial → (v : States) → length v ≡ h.states → set ≡ words word_count v
-      → route_answer (Solved report) ≡ report_of c.initial v rounds
+      → route_answer (Ok report) ≡ report_of c.initial v rounds
 
 -- the root's set and rounds, if they are within the limit
 pub record Rooted (w : Worked) (limit : ℕ) (o : Value) : Type 0 where

@@ -8,7 +8,7 @@ use Rattle.routes.proofs.modal.sources.Goals as goal
 pub loop-i-init : goal.loop-i-init
 loop-i-init c =
     let p = c.args in
-    (omega arith, λ α v e l q. c.empty-found.ensures p.n ∙ ap (words word_count) (sources_none p.n α v p.inside p.records.now))
+    λ α v e l q. c.empty-found.ensures p.n ∙ ap (words word_count) (sources_none p.n α v p.inside p.records.now)
 
 pub with_source-requires : goal.with_source-requires
 with_source-requires c =
@@ -21,15 +21,13 @@ loop-i-preserved c =
     let s = c.loop-i in
     let t = c.transition_at in
     let r = in_range c.requires s.i (omega arith) t.result t.ensures in
-    let ts = transitions_in p.records.now s.i in (
-      omega arith,
-      λ α v e l q.
-          rw (sources_next p.n α v p.inside p.records.now s.i t.result t.ensures r.0)
-          (c.with_source.ensures α v (sources_of p.n α v p.inside ts) e (omega (arith, c.requires.few_states)) q
-          (omega (arith, r.0, sources_length p.n α v p.inside ts)) (s.invariant.1 α v e l q)),
-    )
+    let ts = transitions_in p.records.now s.i in
+    λ α v e l q.
+    rw (sources_next p.n α v p.inside p.records.now s.i t.result t.ensures r.0)
+    (c.with_source.ensures α v (sources_of p.n α v p.inside ts) e (omega (arith, c.requires.few_states)) q
+    (omega (arith, r.0, sources_length p.n α v p.inside ts)) (s.invariant α v e l q))
 
 pub returns : goal.returns
 returns c α v e l q =
     let all : c.loop-i.i ≡ c.args.m = omega arith in
-    rw all at (c.loop-i.invariant.1 α v e l q)
+    rw all at (c.loop-i.invariant α v e l q)

@@ -1,5 +1,4 @@
 use mathlib.Core.Path.{◌≡◌}
-use Prim.Native.Nat.{◌-◌, ◌≤◌}
 use lib.ListN.{length}
 use Rattle.sets.specs.States.{States}
 use Rattle.sets.specs.Words.{words, word_count}
@@ -10,9 +9,5 @@ use Rattle.routes.proofs.ModalLaws.{sources_of}
 use Rattle.routes.proofs.modal.sources.Given as goal
 
 abbrev pub invariant-loop-i : goal.invariant-loop-i
-invariant-loop-i l = (l.i ≤ l.m)
-    × ((α : Action) (v : States) → l.labels ≡ mask_of α → length v ≡ l.n → l.set ≡ words word_count v
-    → l.found ≡ words word_count (sources_of l.n α v l.inside (transitions_in l.records l.i)))
-
-abbrev pub decreases-loop-i : goal.decreases-loop-i
-decreases-loop-i l = l.m - l.i
+invariant-loop-i l = (α : Action) (v : States) → l.labels ≡ mask_of α → length v ≡ l.n → l.set ≡ words word_count v
+    → l.found ≡ words word_count (sources_of l.n α v l.inside (transitions_in l.records l.i))

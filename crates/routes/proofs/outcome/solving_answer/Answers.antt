@@ -9,4 +9,4 @@ returns-in-Solved c = sym (ap solve_answer c.in-Solved.is)
 
 pub returns-in-Refused : goal.returns-in-Refused
 unfolding route_number route_answer solve_answer
-returns-in-Refused c = sym (ap solve_answer c.in-Refused.is)
+returns-in-Refused c = rw c.from.ensures (sym (ap solve_answer c.in-Refused.is))

@@ -1,7 +1,7 @@
 use mathlib.Core.Path.{refl}
 use native.Mathlib.Omega.{arith}
 use Rattle.cases.proofs.FormulaRules.{length_nodes}
-use Rattle.routes.proofs.TableLaws.{counted_none, counted_next, blocks_done}
+use Rattle.routes.proofs.TableLaws.{binder_read, counted_none, counted_next, blocks_done}
 use Rattle.routes.proofs.tables.blocks_of.Goals as goal
 
 pub loop-i-init : goal.loop-i-init
@@ -11,8 +11,10 @@ pub loop-i-preserved : goal.loop-i-preserved
 loop-i-preserved c =
     let p = c.args in
     let l = c.loop-i in
-    let o = c.one_if_binder-count.ensures in
-    counted_next l.invariant (rw (length_nodes p.formula.now p.f) c.loop-i-test.true) (omega arith) o.0 o.1
+    let h = c.loop-i-test.true in
+    let one = binder_read p.formula.now h c.node_at.ensures c.is_binder.result c.is_binder.ensures in
+    rw c.from-count.ensures
+    (counted_next l.invariant (rw (length_nodes p.formula.now p.f) h) (omega (arith, c.requires.few)) one.0 one.1)
 
 pub returns : goal.returns
 returns c =

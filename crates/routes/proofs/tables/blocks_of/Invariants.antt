@@ -1,10 +1,6 @@
-use Prim.Native.Nat.{◌-◌}
 use Rattle.cases.specs.internal.Checks.{nodes_in}
 use Rattle.routes.proofs.TableLaws.{Counted}
 use Rattle.routes.proofs.tables.blocks_of.Given as goal
 
 abbrev pub invariant-loop-i : goal.invariant-loop-i
 invariant-loop-i l = Counted (nodes_in l.formula l.f) l.blocks l.count l.i
-
-abbrev pub decreases-loop-i : goal.decreases-loop-i
-decreases-loop-i l = l.f - l.i

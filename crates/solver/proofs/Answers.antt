@@ -5,6 +5,7 @@ use mathlib.Core.List.{List, ◌++◌, map}
 use Prim.Native.Nat.{ℕ, ◌<◌, ◌≤◌}
 use native.Mathlib.Omega.{arith}
 use borrow.Author.Tests.{lt-ltb}
+use Rattle.std.specs.Prelude.{Ok, Err}
 use lib.Dec.{ltb}
 use lib.ListN.{length, drop, length-replicate}
 use Rattle.sets.specs.States.{States, has, size, all_empty}
@@ -22,9 +23,7 @@ use Rattle.solver.specs.internal.Working.{OpenFile, AllSolved, spent}
 use Rattle.solver.specs.declared.Sizes.{Sizes}
 use Rattle.solver.specs.declared.Cause.{Cause}
 use Rattle.solver.specs.declared.Cause.TheVariants.{Layout, Table, Memory, Spent}
-use Rattle.solver.specs.declared.Opened.TheVariants.{File, Unfit}
 use Rattle.solver.specs.declared.Report.{Report}
-use Rattle.solver.specs.declared.Answer.TheVariants.{Solved, Refused}
 use Rattle.solver.proofs.Tables.{counted, length_cells}
 use Rattle.solver.proofs.Reading.{layout_facts}
 use Rattle.solver.proofs.WellFormed.{ordered, inside}
@@ -54,7 +53,7 @@ module _ (e work marks : List ℕ) (limit : ℕ) where
 
   -- a refusal but 14 changes nothing
   pub answered_refused : (cause : Cause) → solve_refusal e (length work) (length marks) limit ≡ solve_number cause → ¬ (solve_number cause ≡ 0) → ¬ (solve_number cause ≡ 14) →
-      Answered e work marks limit (solve_answer (Refused cause)) work marks
+      Answered e work marks limit (solve_answer (Err cause)) work marks
   unfolding solve_answer solve_outcome solve_refusal
   answered_refused cause h n m = record {
     answers = sym (refuses conditions (report e) (λ z. n (sym h ∙ z)) ∙ ap refused h);
@@ -64,7 +63,7 @@ module _ (e work marks : List ℕ) (limit : ℕ) where
   }
 
   -- 14 leaves the marks, and bits in the working bytes
-  pub answered_spent : {after : List ℕ} → solve_refusal e (length work) (length marks) limit ≡ 14 → Scratch (sizes_of e).cells work after → Answered e work marks limit (solve_answer (Refused Spent)) after marks
+  pub answered_spent : {after : List ℕ} → solve_refusal e (length work) (length marks) limit ≡ 14 → Scratch (sizes_of e).cells work after → Answered e work marks limit (solve_answer (Err Spent)) after marks
   unfolding solve_answer solve_number solve_outcome solve_refusal
   answered_spent h s = record {
     answers = sym (refuses conditions (report e) (λ z. omega arith) ∙ ap refused h);
@@ -77,7 +76,7 @@ module _ (e work marks : List ℕ) (limit : ℕ) where
   pub answered_solved : {r : Report} {work_after marks_after : List ℕ} → solve_refusal e (length work) (length marks) limit ≡ 0 →
       r.verdict ≡ has ((run e).0 0) (sizes_of e).initial → r.count ≡ size ((run e).0 0) → r.rounds ≡ (run e).1 →
       marks_after ≡ words word_count ((run e).0 0) ++ drop word_count marks → work_after ≡ map bit (evaluate (cells e) (run e).0) ++ drop (sizes_of e).cells work →
-      Answered e work marks limit (solve_answer (Solved r)) work_after marks_after
+      Answered e work marks limit (solve_answer (Ok r)) work_after marks_after
   unfolding solve_answer report solve_outcome solve_refusal
   answered_solved h v c k m w = record {
     answers = rw (v, c, k) refl ∙ sym (reports conditions (report e) h);
@@ -89,15 +88,15 @@ module _ (e work marks : List ℕ) (limit : ℕ) where
 -- ---- an opened file
 module _ {e : List ℕ} {sizes : Sizes} (o : OpenFile e sizes) (work marks : List ℕ) (limit : ℕ) where
   -- lent memory that is too short, one way or the other
-  short : solve_too_short e (length work) (length marks) ≡ true → Answered e work marks limit (solve_answer (Refused Memory)) work marks
+  short : solve_too_short e (length work) (length marks) ≡ true → Answered e work marks limit (solve_answer (Err Memory)) work marks
   unfolding solve_number
   short h = answered_refused e work marks limit Memory (refusal_13 e (length work) (length marks) limit o.formed h) (λ z. omega arith) (λ z. omega arith)
 
-  pub few_bytes : length work < sizes.cells → Answered e work marks limit (solve_answer (Refused Memory)) work marks
+  pub few_bytes : length work < sizes.cells → Answered e work marks limit (solve_answer (Err Memory)) work marks
   unfolding solve_too_short
   few_bytes h = short (rw (lt-ltb (length work) (sizes_of e).cells (omega (arith, (counted o.counts).cells))) refl)
 
-  pub few_words : length marks < word_count → Answered e work marks limit (solve_answer (Refused Memory)) work marks
+  pub few_words : length marks < word_count → Answered e work marks limit (solve_answer (Err Memory)) work marks
   unfolding solve_too_short
   few_words h = short (rw (lt-ltb (length marks) word_count h) (or-true (ltb (length work) (sizes_of e).cells)))
 
@@ -113,14 +112,14 @@ module _ {e : List ℕ} {sizes : Sizes} (o : OpenFile e sizes) (work marks : Lis
     rest : drop sizes.cells work ≡ drop (sizes_of e).cells work
     rest = ap (λ (k : ℕ). drop k work) (counted o.counts).cells
 
-    pub ended_spent : status ≡ spent → Answered e work marks limit (solve_answer (Refused Spent)) whole marks
+    pub ended_spent : status ≡ spent → Answered e work marks limit (solve_answer (Err Spent)) whole marks
     ended_spent z = answered_spent e work marks limit
         ((is_14 e (length work) (length marks) limit).1 (lent, r.over z))
         (record { bytes = after; sized = r.room; bits = r.bits; are = ap (λ (l : List ℕ). after ++ l) rest })
 
     pub ended_solved : ¬ (status ≡ spent) → {verdict : Bool} → verdict ≡ marked row sizes.initial → {count : ℕ} → SizeIs row count →
         {marks_after : List ℕ} → marks_after ≡ row ++ drop word_count marks →
-        Answered e work marks limit (solve_answer (Solved (record { verdict = verdict; count = count; rounds = rounds }))) whole marks_after
+        Answered e work marks limit (solve_answer (Ok (record { verdict = verdict; count = count; rounds = rounds }))) whole marks_after
     unfolding run
     ended_solved n v k m =
         let s = (layout_facts e o.formed.layout).counts in
@@ -137,37 +136,37 @@ module _ {e : List ℕ} {sizes : Sizes} (o : OpenFile e sizes) (work marks : Lis
         (ap₂ (λ (x y : List ℕ). x ++ y) (r.values n) rest)
 
 -- ---- opening a file: its counts, or the condition that holds
-pub opens_file : {e : List ℕ} {sizes : Sizes} → File sizes ≡ opened e → OpenFile e sizes
+pub opens_file : {e : List ℕ} {sizes : Sizes} → Ok sizes ≡ opened e → OpenFile e sizes
 unfolding opened
 opens_file {e} {sizes} h = go (layout_ok e) (tables_ok e) refl refl
   where
     go : (a b : Bool) → layout_ok e ≡ a → tables_ok e ≡ b → OpenFile e sizes
     go true true p q =
-        let z : opened e ≡ File (sizes_of e) = rw (p, q, opened) refl in
+        let z : opened e ≡ Ok (sizes_of e) = rw (p, q, opened) refl in
         record { formed = record { layout = p; tables = q }; counts = cc }
     go true false p q =
-        let z : opened e ≡ Unfit Table = rw (p, q, opened) refl in
+        let z : opened e ≡ Err Table = rw (p, q, opened) refl in
         let n : ◌≡◌ {A = ℕ} 0 1 = cc in
         absurd (omega arith)
     go false b p q =
-        let z : opened e ≡ Unfit Layout = rw (p, opened) refl in
+        let z : opened e ≡ Err Layout = rw (p, opened) refl in
         let n : ◌≡◌ {A = ℕ} 0 1 = cc in
         absurd (omega arith)
 
-pub unfit : {e : List ℕ} {cause : Cause} → Unfit cause ≡ opened e → (work marks : List ℕ) (limit : ℕ) → Answered e work marks limit (solve_answer (Refused cause)) work marks
+pub unfit : {e : List ℕ} {cause : Cause} → Err cause ≡ opened e → (work marks : List ℕ) (limit : ℕ) → Answered e work marks limit (solve_answer (Err cause)) work marks
 unfolding opened solve_number
 unfit {e} {cause} h work marks limit = go (layout_ok e) (tables_ok e) refl refl
   where
-    go : (a b : Bool) → layout_ok e ≡ a → tables_ok e ≡ b → Answered e work marks limit (solve_answer (Refused cause)) work marks
+    go : (a b : Bool) → layout_ok e ≡ a → tables_ok e ≡ b → Answered e work marks limit (solve_answer (Err cause)) work marks
     go true true p q =
-        let z : opened e ≡ File (sizes_of e) = rw (p, q, opened) refl in
+        let z : opened e ≡ Ok (sizes_of e) = rw (p, q, opened) refl in
         let n : ◌≡◌ {A = ℕ} 0 1 = cc in
         absurd (omega arith)
     go true false p q =
-        let z : opened e ≡ Unfit Table = rw (p, q, opened) refl in
+        let z : opened e ≡ Err Table = rw (p, q, opened) refl in
         let is : cause ≡ Table = cc in
         rw is (answered_refused e work marks limit Table (refusal_12 e (length work) (length marks) limit p q) (λ z. omega arith) (λ z. omega arith))
     go false b p q =
-        let z : opened e ≡ Unfit Layout = rw (p, opened) refl in
+        let z : opened e ≡ Err Layout = rw (p, opened) refl in
         let is : cause ≡ Layout = cc in
         rw is (answered_refused e work marks limit Layout (refusal_11 e (length work) (length marks) limit p) (λ z. omega arith) (λ z. omega arith))

@@ -8,6 +8,7 @@ use mir.Syntax.{w64}
 use mir.Val.{Fits}
 use borrow.Author.Tests.{le-leb, lt-leb, lt-ltb, eq-eqb}
 use lib.Dec.{T, leb-zero, ltb→lt, eqb→eq}
+use Rattle.std.specs.Prelude.{Ok, Err}
 use lib.ListN.{length}
 use Rattle.sets.proofs.Refusals.{bounds}
 use Rattle.sets.specs.Lists.{every}
@@ -15,7 +16,7 @@ use Rattle.sets.specs.Words.{state_limit}
 use Rattle.sets.specs.internal.DecidedBy.{DecidedBy}
 use Rattle.sets.proofs.Lists.{test}
 use Rattle.solver.specs.declared.Cause.TheVariants.{Layout, Table}
-use Rattle.solver.specs.declared.Opened.TheVariants.{File, Unfit}
+use Rattle.solver.specs.declared.Cause.{Cause}
 use Rattle.solver.specs.declared.Sizes.{Sizes}
 use Rattle.solver.specs.File.{sizes_of, blocks_at, cells_at, operands_at, block_limit, cell_limit, operand_limit}
 use Rattle.solver.specs.Conditions.{layout_ok, tables_ok}
@@ -122,17 +123,17 @@ module _ {e : List ℕ} {s : Sizes} (r : Read e s) where
 -- what opening a file answers
 module _ (e : List ℕ) where
   -- condition 11 holds
-  pub opened_layout : layout_ok e ≡ false → Unfit Layout ≡ opened e
+  pub opened_layout : layout_ok e ≡ false → Err Layout ≡ opened e
   unfolding opened
   opened_layout f = rw (opened, f) refl
 
   module _ (layout : layout_ok e ≡ true) where
     -- condition 12 holds
-    pub opened_table : tables_ok e ≡ false → Unfit Table ≡ opened e
+    pub opened_table : tables_ok e ≡ false → Err Table ≡ opened e
     unfolding opened
     opened_table f = rw (opened, layout, f) refl
 
     -- neither holds
-    pub opened_file : tables_ok e ≡ true → (s : Sizes) → s ≡ sizes_of e → File s ≡ opened e
+    pub opened_file : tables_ok e ≡ true → (s : Sizes) → s ≡ sizes_of e → Ok s ≡ opened e
     unfolding opened
     opened_file t s are = rw (opened, layout, t, are) refl

@@ -1,5 +1,5 @@
 -- What solve answers, and what marks and working bytes are afterwards.
-use Rattle.std.specs.Prelude.{◌≡◌, Bool, false, not, ◌||◌, List, [], ◌∷◌, ◌++◌, map, ℕ, ◌≤◌, ltb, length, get_or, drop}
+use Rattle.std.specs.Prelude.{◌≡◌, Bool, false, not, ◌||◌, List, [], ◌∷◌, ◌++◌, map, ℕ, ◌≤◌, ltb, length, get_or, drop, Result, Ok, Err}
 use Rattle.sets.specs.States.{Valuation, all_empty}
 use Rattle.sets.specs.Words.{words, bit, word_count}
 use Rattle.sets.specs.Refusals.{Conditions, first_of, Outcome, Spent, refused, report_of, by_refusal, outcome_by}
@@ -9,8 +9,7 @@ use Rattle.solver.specs.Conditions.{layout_ok, tables_ok}
 use Rattle.solver.specs.Solution.{Solves}
 use Rattle.solver.specs.declared.Cause.{Cause}
 use Rattle.solver.specs.declared.Cause.TheVariants.{Layout, Table, Memory, Spent as Exceeded}
-use Rattle.solver.specs.declared.Answer.{Answer}
-use Rattle.solver.specs.declared.Answer.TheVariants.{Solved, Refused}
+use Rattle.solver.specs.declared.Report.{Report}
 
 -- the paper's number of each cause
 unfoldable pub solve_number : Cause → ℕ
@@ -20,9 +19,9 @@ solve_number Memory = 13
 solve_number Exceeded = 14
 
 -- the outcome that an answer stands for
-unfoldable pub solve_answer : Answer → Outcome
-solve_answer (Solved r) = record { refusal = 0; verdict = bit r.verdict; count = r.count; rounds = r.rounds }
-solve_answer (Refused cause) = refused (solve_number cause)
+unfoldable pub solve_answer : Result Report Cause → Outcome
+solve_answer (Ok r) = record { refusal = 0; verdict = bit r.verdict; count = r.count; rounds = r.rounds }
+solve_answer (Err cause) = refused (solve_number cause)
 
 -- Own rounds: what the rules count without a limit, from block 0 until that block stops. This is the paper's.
 unfoldable pub FileRounds : List ℕ → ℕ → Type 0

@@ -8,7 +8,7 @@ ghost use Rattle.solver.specs.internal.Forms.{opened};
 ghost use Rattle.solver.specs.internal.Checks.{SizesFit, Places, Read, rest_ok, Spans};
 
 use crate::file::{HEADER, entry_at, number_at, operand_at, sizes_of};
-use crate::{Cause, Opened, Sizes, Span};
+use crate::{Cause, Sizes, Span};
 
 // Whether each count is in its range, and the initial state is a state.
 fn counts_hold(sizes: Sizes) -> bool
@@ -196,18 +196,18 @@ fn tables_hold(file: &[u8], sizes: Sizes) -> bool
 }
 
 // The counts of a file, or the first of conditions 11 and 12 that holds.
-pub fn open_file(file: &[u8]) -> Opened
+pub fn open_file(file: &[u8]) -> Result<Sizes, Cause>
     ensures { result ≡ opened file.now }
 {
     if file.len() < HEADER {
-        return Opened::Unfit(Cause::Layout);
+        return Err(Cause::Layout);
     }
     let sizes = sizes_of(file);
     if !layout_holds(file, sizes) {
-        return Opened::Unfit(Cause::Layout);
+        return Err(Cause::Layout);
     }
     if !tables_hold(file, sizes) {
-        return Opened::Unfit(Cause::Table);
+        return Err(Cause::Table);
     }
-    Opened::File(sizes)
+    Ok(sizes)
 }

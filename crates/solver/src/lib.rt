@@ -8,7 +8,7 @@ mod rounds;
 
 ghost use Rattle.std.specs.Prelude.{◌≡◌, length, replicate};
 ghost use Rattle.solver.specs.File.{sizes_of};
-ghost use Rattle.solver.specs.Outcome.{solve_answer, Answered};
+ghost use Rattle.solver.specs.Outcome.{solve_number, solve_answer, Answered};
 ghost use Rattle.solver.specs.internal.Working.{OpenFile, AllSolved};
 
 use conditions::open_file;
@@ -43,7 +43,7 @@ pub struct Entry {
 }
 
 // Why a file is not solved.
-#[derive(Clone, Copy)]
+#[derive(Clone, Copy, PartialEq, Eq)]
 pub enum Cause {
     Layout,
     Table,
@@ -51,26 +51,30 @@ pub enum Cause {
     Spent,
 }
 
-// What opening a file finds.
-#[derive(Clone, Copy)]
-pub enum Opened {
-    File(Sizes),
-    Unfit(Cause),
+// The number of a cause.
+impl From<Cause> for u64 {
+    ghost from_gives = { λ cause number. number ≡ solve_number cause };
+
+    #[tactic(auto, unfolding(crate::specs::Outcome::solve_number))]
+    fn from(cause: Cause) -> u64 {
+        match cause {
+            Cause::Layout => 11,
+            Cause::Table => 12,
+            Cause::Memory => 13,
+            Cause::Spent => 14,
+        }
+    }
 }
 
 // What is reported of a solved file.
-#[derive(Clone, Copy)]
+#[derive(Clone, Copy, PartialEq, Eq)]
 pub struct Report {
     pub verdict: bool,
     pub count: usize,
     pub rounds: u64,
 }
 
-#[derive(Clone, Copy)]
-pub enum Answer {
-    Solved(Report),
-    Refused(Cause),
-}
+pub type Answer = Result<Report, Cause>;
 
 // Whether a cell keeps its rule, and how many operands it has.
 #[derive(Clone, Copy)]
@@ -128,21 +132,21 @@ fn solve_opened(file: &[u8], sizes: Sizes, work: &mut [u8], marks: &mut [u64], l
 {
     let c = sizes.cells;
     if work.len() < c {
-        return Answer::Refused(Cause::Memory);
+        return Err(Cause::Memory);
     }
     if marks.len() < WORDS {
-        return Answer::Refused(Cause::Memory);
+        return Err(Cause::Memory);
     }
     let mut rounds = 0;
     let mut status = 0;
     let row = run(file, sizes, &mut work[..c], limit, &mut rounds, &mut status);
     if status == rounds::SPENT {
-        return Answer::Refused(Cause::Spent);
+        return Err(Cause::Spent);
     }
     sets::store(marks, row);
     let verdict = sets::test(&row, sizes.initial);
     let count = sets::count(&row);
-    Answer::Solved(Report {
+    Ok(Report {
         verdict,
         count,
         rounds,
@@ -153,8 +157,6 @@ fn solve_opened(file: &[u8], sizes: Sizes, work: &mut [u8], marks: &mut [u64], l
 pub fn solve(file: &[u8], work: &mut [u8], marks: &mut [u64], limit: u64) -> Answer
     ensures { Answered file.now work.old marks.old limit (solve_answer result) work.new marks.new }
 {
-    match open_file(file) {
-        Opened::File(sizes) => solve_opened(file, sizes, work, marks, limit),
-        Opened::Unfit(cause) => Answer::Refused(cause),
-    }
+    let sizes = open_file(file)?;
+    solve_opened(file, sizes, work, marks, limit)
 }

@@ -1,10 +1,7 @@
--- What opening a case answers: its header, or why it is refused.
-use Rattle.std.specs.Prelude.{◌≡◌, ℕ}
+-- What opening a case answers: what was opened, or why it is refused.
+use Rattle.std.specs.Prelude.{◌≡◌, ℕ, Result, Ok, Err}
 use Rattle.cases.specs.declared.Cause.{Cause}
 use Rattle.cases.specs.declared.Cause.TheVariants.{Small, Version, Count, Offset, Length, Model, Labels, Actions, Formula, Variable, Depth}
-use Rattle.cases.specs.declared.Opened.{Opened}
-use Rattle.cases.specs.declared.Opened.TheVariants.{Accepted, Refused}
-use Rattle.cases.specs.File.{Header}
 
 -- the paper's number of each cause
 abbrev pub case_number : Cause → ℕ
@@ -21,11 +18,11 @@ case_number Variable = 9
 case_number Depth = 10
 
 -- an answer's refusal number, 0 if there is none
-unfoldable pub opened_number : Opened → ℕ
-opened_number (Accepted h) = 0
-opened_number (Refused cause) = case_number cause
+unfoldable pub opened_number : {A : Type 0} → Result A Cause → ℕ
+opened_number (Ok x) = 0
+opened_number (Err cause) = case_number cause
 
--- The answer has the number k, and a header that it holds is h.
-pub record Opens (k : ℕ) (h : Header) (answer : Opened) : Type 0 where
+-- The answer has the number k, and what it holds is right.
+pub record Opens {A : Type 0} (k : ℕ) (right : A → Type 0) (answer : Result A Cause) : Type 0 where
   pub number : opened_number answer ≡ k
-  pub header : (x : Header) → answer ≡ Accepted x → x ≡ h
+  pub value : (x : A) → answer ≡ Ok x → right x

@@ -6,7 +6,7 @@ ghost use Rattle.cases.specs.Prefix.{arity_in, action_arities, formula_arities, 
 ghost use Rattle.cases.specs.File.{header_of, action_limit, node_limit};
 ghost use Rattle.cases.specs.Conditions.{versions, bad_count, bad_offset, bad_length, bad_model, bad_actions, bad_formula, bad_variable, too_deep, transition_ok, action_ok, node_ok, bound_ok, is_binder, binder_count};
 ghost use Rattle.cases.specs.Conditions.{layout_conditions, model_conditions, formula_conditions, case_refusal};
-ghost use Rattle.cases.specs.Opening.{case_number, Opens};
+ghost use Rattle.cases.specs.Opening.{case_number, opened_number, Opens};
 ghost use Rattle.cases.specs.internal.Checks.{transitions_in, nodes_in, fits, CountsFit, Laid, NodesFit};
 
 use crate::file::{
@@ -14,7 +14,7 @@ use crate::file::{
     transitions_start, version,
 };
 use crate::labels::bad_labels;
-use crate::{Cause, Header, Node, Opened, Transition};
+use crate::{Cause, Header, Node, Transition};
 
 // Whether a count is below `low` or above `high`.
 fn outside(low: usize, high: usize, count: usize) -> bool
@@ -79,30 +79,30 @@ fn is_taken(version: usize) -> bool
 }
 
 // The layout: the header, or the first of conditions 1 to 5 that holds.
-pub fn check_layout(case: &[u8]) -> Opened
-    ensures { Opens (first_of (layout_conditions case.now)) (header_of case.now) result }
+pub fn check_layout(case: &[u8]) -> Result<Header, Cause>
+    ensures { Opens (first_of (layout_conditions case.now)) (λ h. h ≡ header_of case.now) result }
 {
     if case.len() < HEADER {
-        return Opened::Refused(Cause::Small);
+        return Err(Cause::Small);
     }
     let v = version(case);
     if case.len() < header_size(v) {
-        return Opened::Refused(Cause::Small);
+        return Err(Cause::Small);
     }
     if !is_taken(v) {
-        return Opened::Refused(Cause::Version);
+        return Err(Cause::Version);
     }
     let h = header(case, v);
     if bad_count(h) {
-        return Opened::Refused(Cause::Count);
+        return Err(Cause::Count);
     }
     if bad_offset(h) {
-        return Opened::Refused(Cause::Offset);
+        return Err(Cause::Offset);
     }
     if bad_length(case, h) {
-        return Opened::Refused(Cause::Length);
+        return Err(Cause::Length);
     }
-    Opened::Accepted(h)
+    Ok(h)
 }
 
 // Whether the ends of a transition are below n, and its label below l.
@@ -255,21 +255,21 @@ fn bad_actions(case: &[u8], h: Header) -> bool
     !actions_whole(&case[actions..], h.actions)
 }
 
-// The model, the label records and the action table: the header, or the first of conditions 6, 15 and 7 that holds.
-fn check_model(case: &[u8], h: Header) -> Opened
+// The model, the label records and the action table: the first of conditions 6, 15 and 7 that holds, if one does.
+fn check_model(case: &[u8], h: Header) -> Result<(), Cause>
     requires { Laid case.now h }
-    ensures { Opens (first_of (model_conditions case.now)) h result }
+    ensures { opened_number result ≡ first_of (model_conditions case.now) }
 {
     if bad_model(case, h) {
-        return Opened::Refused(Cause::Model);
+        return Err(Cause::Model);
     }
     if bad_labels(case, h) {
-        return Opened::Refused(Cause::Labels);
+        return Err(Cause::Labels);
     }
     if bad_actions(case, h) {
-        return Opened::Refused(Cause::Actions);
+        return Err(Cause::Actions);
     }
-    Opened::Accepted(h)
+    Ok(())
 }
 
 // How many operands a formula kind has.
@@ -434,55 +434,52 @@ fn too_deep(part: &[u8], f: usize) -> bool
     solver::BLOCKS < count + 1
 }
 
-// The formula part: the header, or the first of conditions 8 to 10 that holds.
-fn check_formula(part: &[u8], h: Header) -> Opened
+// The formula part: the first of conditions 8 to 10 that holds, if one does.
+fn check_formula(part: &[u8], h: Header) -> Result<(), Cause>
     requires nodes_fit { NodesFit node_limit part.now h.nodes }
     requires some_node { 1 ≤ h.nodes }
-    ensures { Opens (first_of (formula_conditions h.actions (nodes_in part.now h.nodes))) h result }
+    ensures { opened_number result ≡ first_of (formula_conditions h.actions (nodes_in part.now h.nodes)) }
 {
     if bad_formula(h.actions, part, h.nodes) {
-        return Opened::Refused(Cause::Formula);
+        return Err(Cause::Formula);
     }
     if bad_variable(part, h.nodes) {
-        return Opened::Refused(Cause::Variable);
+        return Err(Cause::Variable);
     }
     if too_deep(part, h.nodes) {
-        return Opened::Refused(Cause::Depth);
+        return Err(Cause::Depth);
     }
-    Opened::Accepted(h)
+    Ok(())
 }
 
 // Opens a case: its header, or the first condition that holds.
-pub fn open(case: &[u8]) -> Opened
-    ensures { Opens (case_refusal case.now) (header_of case.now) result }
+pub fn open(case: &[u8]) -> Result<Header, Cause>
+    ensures { Opens (case_refusal case.now) (λ h. h ≡ header_of case.now) result }
 {
-    let laid = check_layout(case);
-    let Opened::Accepted(h) = laid else {
-        return laid;
-    };
-    let model = check_model(case, h);
-    let Opened::Accepted(_) = model else {
-        return model;
-    };
+    let h = check_layout(case)?;
+    check_model(case, h)?;
     let formula = h.formula_at;
-    check_formula(&case[formula..], h)
+    check_formula(&case[formula..], h)?;
+    Ok(h)
 }
 
 // The number of a cause.
-pub fn number_of(cause: Cause) -> u8
-    ensures { result ≡ case_number cause }
-{
-    match cause {
-        Cause::Small => 1,
-        Cause::Version => 2,
-        Cause::Count => 3,
-        Cause::Offset => 4,
-        Cause::Length => 5,
-        Cause::Model => 6,
-        Cause::Labels => 15,
-        Cause::Actions => 7,
-        Cause::Formula => 8,
-        Cause::Variable => 9,
-        Cause::Depth => 10,
+impl From<Cause> for u64 {
+    ghost from_gives = { λ cause number. number ≡ case_number cause };
+
+    fn from(cause: Cause) -> u64 {
+        match cause {
+            Cause::Small => 1,
+            Cause::Version => 2,
+            Cause::Count => 3,
+            Cause::Offset => 4,
+            Cause::Length => 5,
+            Cause::Model => 6,
+            Cause::Labels => 15,
+            Cause::Actions => 7,
+            Cause::Formula => 8,
+            Cause::Variable => 9,
+            Cause::Depth => 10,
+        }
     }
 }

@@ -8,9 +8,7 @@ mod labels;
 mod transitions;
 
 pub use actions::action_masks;
-pub use conditions::{
-    binders, check_layout, is_binder, number_of, open, subtree_end, transition_holds,
-};
+pub use conditions::{binders, check_layout, is_binder, open, subtree_end, transition_holds};
 pub use file::{case_end, node_at, number_at, transition_at};
 pub use transitions::{first_appearances, same_transition};
 
@@ -58,7 +56,7 @@ pub struct Label {
 }
 
 // A transition: source, label, target.
-#[derive(Clone, Copy)]
+#[derive(Clone, Copy, PartialEq, Eq)]
 pub struct Transition {
     pub source: usize,
     pub label: usize,
@@ -80,7 +78,7 @@ pub struct Node {
 }
 
 // Why a case is refused.
-#[derive(Clone, Copy)]
+#[derive(Clone, Copy, PartialEq, Eq)]
 pub enum Cause {
     Small,
     Version,
@@ -93,11 +91,4 @@ pub enum Cause {
     Formula,
     Variable,
     Depth,
-}
-
-// What opening a case finds.
-#[derive(Clone, Copy)]
-pub enum Opened {
-    Accepted(Header),
-    Refused(Cause),
 }

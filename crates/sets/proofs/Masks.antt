@@ -15,7 +15,7 @@ use Rattle.sets.specs.Lists.{numbers_from}
 use Rattle.sets.specs.States.{States, has, start}
 use Rattle.sets.specs.Words.{words, number_of_bits, bit}
 use Rattle.sets.proofs.Lists.{length_table, table_at, take_map, drop_map}
-use Rattle.sets.proofs.Words.{half, odd, number_fits, part, word_at}
+use Rattle.sets.proofs.Words.{half, odd, number_fits, part, word_at, words_by}
 
 -- ---- operations bit by bit
 
@@ -143,6 +143,12 @@ module _ {op : ℕ → ℕ → ℕ} {f : Bool → Bool → Bool} (o : Bitwise op
       table : (n : ℕ) (v : States) → length v ≡ n → map (has v) (numbers_from 0 n) ≡ v
       table n v d = ext_get_or false (map (has v) (numbers_from 0 n)) v (length_table (has v) n ∙ sym d) λ s b.
           table_at (has v) n s false (omega (arith, length_table (has v) n))
+
+  -- words that the operation makes of those of two sets of n states
+  pub words_combined : (k n : ℕ) (v w : States) → length v ≡ n → length w ≡ n → (ws : List ℕ) → length ws ≡ k
+      → ((j : ℕ) → j < k → get_or ws j 0 ≡ op (get_or (words k v) j 0) (get_or (words k w) j 0))
+      → ws ≡ words k (map (λ s. f (has v s) (has w s)) (numbers_from 0 n))
+  words_combined k n v w d e ws l is = words_by k _ ws l λ j h. is j h ∙ word_combined k n v w d e j h
 
 -- word j of the states that are not in a set of n states
 pub word_complement : (k n : ℕ) (v : States) → length v ≡ n → (j : ℕ) → j < k

@@ -1,7 +1,7 @@
 // Sets of states in words: state s is bit s mod 64 of word s / 64.
 #![tactic(auto)]
 
-ghost use Rattle.std.specs.Prelude.{◌≡◌, true, false, not, cond, ◌&&◌, ◌||◌, map, ◌++◌, ℕ, ◌-◌, ◌^◌, ◌<◌, ◌≤◌, length, set, take, drop};
+ghost use Rattle.std.specs.Prelude.{◌≡◌, true, false, not, cond, ◌&&◌, ◌||◌, map, ◌++◌, ℕ, ◌-◌, ◌^◌, ◌<◌, ◌≤◌, length, get_or, set, take, drop};
 ghost use Rattle.std.specs.Int.Bits.{bit_and, bit_or};
 ghost use Rattle.std.specs.Int.Count.{ones};
 ghost use Rattle.sets.specs.Lists.{numbers_from};
@@ -10,12 +10,16 @@ ghost use Rattle.sets.specs.Words.{words, number_of_bits, marked, word_count, st
 ghost use Rattle.sets.specs.internal.DecidedBy.{DecidedBy};
 ghost use Rattle.sets.specs.internal.Size.{SizeIs};
 
+use std::array;
+
 pub const WORDS: usize = 4;
 
 pub const STATES: usize = 64 * WORDS;
 
+pub type Set = [u64; WORDS];
+
 // No state.
-pub fn empty() -> [u64; WORDS]
+pub fn empty() -> Set
     ensures { (n : ℕ) → result ≡ words word_count (start n false) }
 {
     [0; WORDS]
@@ -36,7 +40,7 @@ fn word_below(n: usize, from: usize) -> u64
 }
 
 // Every state below n.
-pub fn full(n: usize) -> [u64; WORDS]
+pub fn full(n: usize) -> Set
     requires { n ≤ state_limit }
     ensures { result ≡ words word_count (start n true) }
 {
@@ -48,7 +52,7 @@ pub fn full(n: usize) -> [u64; WORDS]
 }
 
 // Where an iteration starts: no state for mu, every state below n for nu.
-pub fn initial(n: usize, nu: bool) -> [u64; WORDS]
+pub fn initial(n: usize, nu: bool) -> Set
     requires { n ≤ state_limit }
     ensures { result ≡ words word_count (start n nu) }
 {
@@ -56,7 +60,7 @@ pub fn initial(n: usize, nu: bool) -> [u64; WORDS]
 }
 
 // Whether state s is in the set.
-pub fn test(set: &[u64; WORDS], s: usize) -> bool
+pub fn test(set: &Set, s: usize) -> bool
     requires { s < state_limit }
     ensures { result ≡ marked set.now s }
 {
@@ -74,7 +78,7 @@ fn word_with(word: u64, mask: u64, there: bool) -> u64
 }
 
 // Puts state s into the set, or takes it out.
-pub fn put(held: &mut [u64; WORDS], s: usize, there: bool)
+pub fn put(held: &mut Set, s: usize, there: bool)
     requires { s < state_limit }
     ensures { (v : States) → s < length v → held.old ≡ words word_count v → held.new ≡ words word_count (set v s there) }
 {
@@ -83,7 +87,7 @@ pub fn put(held: &mut [u64; WORDS], s: usize, there: bool)
 }
 
 // Puts state s into the set.
-pub fn add(held: &mut [u64; WORDS], s: usize)
+pub fn add(held: &mut Set, s: usize)
     requires { s < state_limit }
     ensures { (v : States) → s < length v → held.old ≡ words word_count v → held.new ≡ words word_count (set v s true) }
 {
@@ -91,14 +95,14 @@ pub fn add(held: &mut [u64; WORDS], s: usize)
 }
 
 // Whether two sets hold the same words.
-pub fn equal(a: &[u64; WORDS], b: &[u64; WORDS]) -> bool
+pub fn equal(a: &Set, b: &Set) -> bool
     ensures { DecidedBy (a.now ≡ b.now) result }
 {
     equal_words(*a, *b)
 }
 
 // The same of arrays by value, whose length a proof may use.
-fn equal_words(a: [u64; WORDS], b: [u64; WORDS]) -> bool
+fn equal_words(a: Set, b: Set) -> bool
     ensures { DecidedBy (a ≡ b) result }
 {
     for i in 0..WORDS {
@@ -117,7 +121,7 @@ fn word_ones(word: u64) -> usize
 }
 
 // How many states a set has: the sum of the ones of its words.
-pub fn count(set: &[u64; WORDS]) -> usize
+pub fn count(set: &Set) -> usize
     ensures { SizeIs set.now result }
 {
     let mut found: usize = 0;
@@ -138,7 +142,7 @@ fn combine_word(a: u64, b: u64, either: bool) -> u64
 }
 
 // The states in both sets, or (either) in at least one.
-pub fn combine(a: [u64; WORDS], b: [u64; WORDS], either: bool) -> [u64; WORDS]
+pub fn combine(a: Set, b: Set, either: bool) -> Set
     ensures { (n : ℕ) (v w : States) → length v ≡ n → length w ≡ n → a ≡ words word_count v → b ≡ words word_count w
         → result ≡ words word_count (map (λ s. cond either (has v s || has w s) (has v s && has w s)) (numbers_from 0 n)) }
 {
@@ -149,8 +153,33 @@ pub fn combine(a: [u64; WORDS], b: [u64; WORDS], either: bool) -> [u64; WORDS]
     c
 }
 
+// The words that an operation makes of the words of two sets, place by place.
+fn zip_words<F: Fn(u64, u64) -> u64>(a: Set, b: Set, op: F) -> Set
+    requires { F.IsAlwaysCallable op }
+    ensures long { length result ≡ word_count }
+    ensures each { (j : ℕ) → j < word_count → F.post op (get_or a j 0) (get_or b j 0) (get_or result j 0) }
+{
+    array::from_fn(|i| op(a[i], b[i]))
+}
+
+// The states in at least one of two sets.
+pub fn union(a: Set, b: Set) -> Set
+    ensures { (n : ℕ) (v w : States) → length v ≡ n → length w ≡ n → a ≡ words word_count v → b ≡ words word_count w
+        → result ≡ words word_count (map (λ s. has v s || has w s) (numbers_from 0 n)) }
+{
+    zip_words(a, b, |x, y| x | y)
+}
+
+// The states in both of two sets.
+pub fn intersection(a: Set, b: Set) -> Set
+    ensures { (n : ℕ) (v w : States) → length v ≡ n → length w ≡ n → a ≡ words word_count v → b ≡ words word_count w
+        → result ≡ words word_count (map (λ s. has v s && has w s) (numbers_from 0 n)) }
+{
+    zip_words(a, b, |x, y| x & y)
+}
+
 // The states below n that are not in the set: each bit of a state below n is turned over.
-pub fn complement(held: [u64; WORDS], n: usize) -> [u64; WORDS]
+pub fn complement(held: Set, n: usize) -> Set
     requires { n ≤ state_limit }
     ensures { (v : States) → length v ≡ n → held ≡ words word_count v → result ≡ words word_count (map not v) }
 {
@@ -162,7 +191,7 @@ pub fn complement(held: [u64; WORDS], n: usize) -> [u64; WORDS]
 }
 
 // Puts a set into the first words.
-pub fn store(marks: &mut [u64], row: [u64; WORDS])
+pub fn store(marks: &mut [u64], row: Set)
     requires { word_count ≤ length marks.old }
     ensures { marks.new ≡ row ++ drop word_count marks.old }
 {
@@ -172,7 +201,7 @@ pub fn store(marks: &mut [u64], row: [u64; WORDS])
 }
 
 // The set in the first words.
-pub fn load(marks: &[u64]) -> [u64; WORDS]
+pub fn load(marks: &[u64]) -> Set
     requires { word_count ≤ length marks.now }
     ensures { result ≡ take word_count marks.now }
 {

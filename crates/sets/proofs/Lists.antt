@@ -9,6 +9,8 @@ use native.Mathlib.Omega.{arith}
 use lib.Dec.{T, ltb, ltb→lt}
 use lib.ListN.{length, get_or, take, drop, length-map, drop_of_length-le}
 use lib.Seq.{drop-cons}
+use Rattle.std.specs.List.{sum as sum_of}
+use Rattle.std.proofs.lemmas.List.Recursion.{is_sum_by}
 use Rattle.sets.specs.Lists.{numbers_from, every, for_some, keep, sum}
 
 -- range i k has k numbers
@@ -57,6 +59,11 @@ length_table f k = length_map_range f 0 k
 
 pub table_at : {B : Type 0} (f : ℕ → B) (k i : ℕ) (b : B) → i < k → get_or (map f (numbers_from 0 k)) i b ≡ f i
 table_at f k i b h = get_or_map_range f 0 k i b h ∙ ap f (zero-add i)
+
+-- the sum as the library has it
+pub sum_is : (xs : List ℕ) → sum_of xs ≡ sum xs
+unfolding sum
+sum_is xs = sym (is_sum_by sum (λ x. x) refl (λ _ _. refl) xs)
 
 -- the sum of f over the first elements of a list: one element more, and it grows
 pub sum_next : {A : Type 0} (f : A → ℕ) (xs : List A) (i : ℕ) (d : A) → i < length xs

@@ -1,14 +1,15 @@
 -- Laws of the numbers and words of sets that a property picks out of a list: bit by bit, the operations on numbers are those on truth values.
 use mathlib.Core.Path.{◌≡◌, refl, sym, ap, subst, ◌∙◌}
 use mathlib.Core.Bool.{Bool, true, false, not, cond, ◌&&◌, ◌||◌}
-use mathlib.Core.List.{List, [], ◌∷◌, map, map-id}
+use mathlib.Core.List.{List, [], ◌∷◌, map}
 use Prim.Native.Nat.{ℕ, zero, suc, ◌+◌, ◌-◌, ◌*◌, ◌/◌, ◌%◌, ◌^◌, ◌<◌, min, max}
 use native.Mathlib.Omega.{arith}
 use native.Mathlib.Nat.{pow-suc}
-use lib.ListN.{length, get_or, take, drop, length-map}
+use lib.ListN.{length, get_or, take, drop, length-map, length-replicate, get_or-replicate}
 use lib.Seq.{ext_get_or}
 use lib.Bits.{bit_and, bit_or, bit_xor, differ, and_step, or_step, xor_step, and_zero_l, or_zero_l, xor_zero_l}
 use lib.Dec.{eqb}
+use Rattle.std.proofs.lemmas.List.{get_or-map}
 use lib.Pow.{pow_pos}
 use borrow.Author.Tests.{eq-eqb, ne_eqb}
 use Rattle.sets.specs.Lists.{numbers_from}
@@ -150,13 +151,14 @@ module _ {op : ℕ → ℕ → ℕ} {f : Bool → Bool → Bool} (o : Bitwise op
       → ws ≡ words k (map (λ s. f (has v s) (has w s)) (numbers_from 0 n))
   words_combined k n v w d e ws l is = words_by k _ ws l λ j h. is j h ∙ word_combined k n v w d e j h
 
--- word j of the states that are not in a set of n states
-pub word_complement : (k n : ℕ) (v : States) → length v ≡ n → (j : ℕ) → j < k
-    → bit_xor (number_of_bits (part (start n true) j)) (get_or (words k v) j 0) ≡ number_of_bits (part (map not v) j)
-word_complement k n v d j h =
-    rw (word_at k v j h, ← d, ← full v) (rw (map-id v) at (word_bitwise bitwise_xor (λ b. true) (λ b. b) v j))
+-- words that turn over each bit of a state below n
+pub words_complemented : (k n : ℕ) (v : States) → length v ≡ n → (ws : List ℕ) → length ws ≡ k
+    → ((j : ℕ) → j < k → get_or ws j 0 ≡ bit_xor (get_or (words k (start n true)) j 0) (get_or (words k v) j 0))
+    → ws ≡ words k (map not v)
+words_complemented k n v d ws l is = words_combined bitwise_xor k n (start n true) v (length-replicate n true) d ws l is ∙ ap (words k) turned
   where
-    -- each state
-    full : (v : States) → map (λ b. true) v ≡ start (length v) true
-    full [] = refl
-    full (b ∷ v) = ap (λ (u : States). true ∷ u) (full v)
+    turned : map (λ s. cond (has (start n true) s) (not (has v s)) (has v s)) (numbers_from 0 n) ≡ map not v
+    turned =
+        ext_get_or false _ (map not v) (length_table _ n ∙ sym (length-map v not ∙ d)) λ s b.
+        let h : s < n = omega (arith, length_table (λ s. cond (has (start n true) s) (not (has v s)) (has v s)) n) in
+        table_at _ n s false h ∙ rw (get_or-replicate n s true false h) (sym (get_or-map not v s false false (omega arith)))

@@ -7,9 +7,10 @@ use Prim.Native.Nat.{ℕ, zero, suc, ◌+◌, ◌*◌, ◌/◌, ◌%◌, ◌^◌
 use native.Mathlib.Nat.{zero-div}
 use native.Mathlib.Omega.{arith}
 use native.Mathlib.Decide.{dec_lt}
-use lib.ListN.{length, take, drop, length-take, get_or-eq_default, drop_of_length-le}
+use lib.ListN.{length, get_or, take, drop, length-take, get_or-eq_default, drop_of_length-le}
 use lib.Seq.{drop-drop, get_or-take}
 use lib.Count.{ones, ones_step}
+use Rattle.std.proofs.lemmas.Nat.{ones-le}
 use Rattle.sets.specs.Lists.{numbers_from, keep, sum}
 use Rattle.sets.specs.States.{States, has, size}
 use Rattle.sets.specs.Words.{words, number_of_bits, bit, marked, ones_of, marked_below, Marks, word_count, state_limit}
@@ -17,6 +18,12 @@ use Rattle.sets.proofs.Lists.{length_table, table_at}
 use Rattle.sets.proofs.Words.{half, odd, words_length, marked_words, take_words}
 
 -- ---- one word, then all
+
+-- words of 64 bits have at most 64 ones each
+pub ones_few : (ws : List ℕ) → ((i : ℕ) → get_or ws i 0 < 2 ^ 64) → ones_of ws ≤ 64 * length ws
+unfolding sum
+ones_few [] h = omega arith
+ones_few (w ∷ ws) h = omega (arith, ones-le 64 w (h 0), ones_few ws (λ i. h (suc i)))
 
 -- the ones of a set's number are its states
 number_ones : (v : States) → ones (number_of_bits v) ≡ size v

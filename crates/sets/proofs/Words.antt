@@ -11,6 +11,7 @@ use native.Mathlib.Numerals.{one-add}
 use lib.ListN.{length, get_or, set, take, drop, replicate, length-set, length-take, length-drop, length-replicate, get_or-replicate, get_or-append, get_or-eq_default}
 use lib.Seq.{get_or-take, get_or-drop, drop-drop, ext_get_or, get_or-set_same, get_or-set_other, drop-set-add, drop-set-lt, take-set-le, take-set-lt, take-append_seam}
 use lib.Dec.{eqb, lit<}
+use borrow.Author.Count.{below_none, below_more}
 use lib.Bits.{bit_and, bit_or, and_step, or_step, and_zero_l, or_zero_r}
 use lib.Pow.{pow_mono, pow_pos, shl_exact, shr-shr}
 use Rattle.sets.specs.States.{States, has, start}
@@ -154,6 +155,10 @@ words_by k v ws l f =
     ext_get_or 0 ws (words k v) (l ∙ sym (words_length k v)) λ j h.
     let b : j < k = omega arith in
     f j b ∙ sym (word_at k v j b)
+
+-- what holds of each of the four words
+pub each_word : (P : ℕ → Type 0) → P 0 → P 1 → P 2 → P 3 → (j : ℕ) → j < word_count → P j
+each_word P a b c d = below_more P 3 (below_more P 2 (below_more P 1 (below_more P 0 (below_none P) a) b) c) d
 
 -- ---- from words back to the set
 

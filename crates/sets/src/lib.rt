@@ -29,14 +29,8 @@ pub fn empty() -> Set
 fn word_below(n: usize, from: usize) -> u64
     ensures { result ≡ number_of_bits (take 64 (drop from (start n true))) }
 {
-    if n <= from {
-        return 0;
-    }
-    let left = n - from;
-    if 64 <= left {
-        return !0;
-    }
-    (1 << left) - 1
+    let left = n.saturating_sub(from);
+    if 64 <= left { !0 } else { (1 << left) - 1 }
 }
 
 // Every state below n.
@@ -44,11 +38,7 @@ pub fn full(n: usize) -> Set
     requires { n ≤ state_limit }
     ensures { result ≡ words word_count (start n true) }
 {
-    let mut all = [0u64; WORDS];
-    for i in 0..WORDS {
-        all[i] = word_below(n, 64 * i);
-    }
-    all
+    array::from_fn(|i| word_below(n, 64 * i))
 }
 
 // Where an iteration starts: no state for mu, every state below n for nu.
@@ -67,23 +57,14 @@ pub fn test(set: &Set, s: usize) -> bool
     (set[s / 64] >> (s % 64)) % 2 == 1
 }
 
-// A word with the bits of a mask, or without them.
-fn word_with(word: u64, mask: u64, there: bool) -> u64
-    ensures { result ≡ cond there (bit_or word mask) (bit_and word (2 ^ 64 - 1 - mask)) }
-{
-    if there {
-        return word | mask;
-    }
-    word & !mask
-}
-
 // Puts state s into the set, or takes it out.
 pub fn put(held: &mut Set, s: usize, there: bool)
     requires { s < state_limit }
     ensures { (v : States) → s < length v → held.old ≡ words word_count v → held.new ≡ words word_count (set v s there) }
 {
-    let k = s / 64;
-    held[k] = word_with(held[k], 1 << (s % 64), there);
+    let word = held[s / 64];
+    let mask = 1 << (s % 64);
+    held[s / 64] = if there { word | mask } else { word & !mask };
 }
 
 // Puts state s into the set.
@@ -113,22 +94,11 @@ fn equal_words(a: Set, b: Set) -> bool
     true
 }
 
-// How many bits of a word are 1.
-fn word_ones(word: u64) -> usize
-    ensures { (result ≡ ones word) × (result ≤ 64) }
-{
-    u64::count_ones(word) as usize
-}
-
 // How many states a set has: the sum of the ones of its words.
 pub fn count(set: &Set) -> usize
     ensures { SizeIs set.now result }
 {
-    let mut found: usize = 0;
-    for i in 0..set.len() {
-        found += word_ones(set[i]);
-    }
-    found
+    set.iter().map(|word| word.count_ones() as usize).sum()
 }
 
 // One word of the states in both sets, or (either) in at least one.
@@ -183,11 +153,7 @@ pub fn complement(held: Set, n: usize) -> Set
     requires { n ≤ state_limit }
     ensures { (v : States) → length v ≡ n → held ≡ words word_count v → result ≡ words word_count (map not v) }
 {
-    let mut rest = [0u64; WORDS];
-    for i in 0..WORDS {
-        rest[i] = word_below(n, 64 * i) ^ held[i];
-    }
-    rest
+    zip_words(full(n), held, |x, y| x ^ y)
 }
 
 // Puts a set into the first words.
@@ -195,9 +161,7 @@ pub fn store(marks: &mut [u64], row: Set)
     requires { word_count ≤ length marks.old }
     ensures { marks.new ≡ row ++ drop word_count marks.old }
 {
-    for i in 0..row.len() {
-        marks[i] = row[i];
-    }
+    marks[..WORDS].copy_from_slice(&row);
 }
 
 // The set in the first words.
@@ -205,9 +169,5 @@ pub fn load(marks: &[u64]) -> Set
     requires { word_count ≤ length marks.now }
     ensures { result ≡ take word_count marks.now }
 {
-    let mut row = [0u64; WORDS];
-    for i in 0..WORDS {
-        row[i] = marks[i];
-    }
-    row
+    *marks.first_chunk().unwrap()
 }

@@ -1,30 +1,25 @@
-use mathlib.Core.Path.{refl, sym, ap, ◌∙◌}
+use mathlib.Core.Path.{ap, ◌∙◌}
 use native.Mathlib.Omega.{arith}
-use lib.ListN.{length}
-use lib.Seq.{take_all}
+use mathlib.Core.List.{map}
+use borrow.Author.Rules.{rules}
+use Rattle.std.proofs.lemmas.Iterator.{YieldsList-from_slice, YieldsList-from_map}
+use Rattle.std.proofs.lemmas.Iterator.Consumers.{sum_from_yields_List, fits_from_yields_list, YieldsList-at}
 use lib.Count.{ones}
-use Rattle.sets.specs.Lists.{sum}
 use Rattle.sets.specs.Words.{word_count, ones_of}
-use Rattle.sets.proofs.Lists.{sum_next}
-use Rattle.sets.proofs.Words.{words_length}
-use Rattle.sets.proofs.Ones.{ones_size}
+use Rattle.sets.proofs.Lists.{sum_is}
+use Rattle.sets.proofs.Ones.{ones_few, ones_size}
 use Rattle.sets.proofs.count.Goals as goal
 
-pub loop-i-init : goal.loop-i-init
-unfolding sum
-loop-i-init c = (omega arith, omega arith, λ w. refl)
-
-pub loop-i-preserved : goal.loop-i-preserved
-loop-i-preserved c =
-    let l = c.loop-i in
-    let set = c.args.set.now in (
-      omega arith,
-      omega (arith, c.word_ones-found.ensures.1),
-      λ w. rw (l.invariant.2 w, c.word_ones-found.ensures.0) (sym (sum_next ones set l.i 0 (omega (arith, w)))),
-    )
+pub sum-requires-clause-fits : goal.sum-requires-clause-fits
+sum-requires-clause-fits c =
+    let set = c.args.set.now in
+    fits_from_yields_list c.map.result _
+    (YieldsList-from_map _ ones (YieldsList-at c.map.ensures.source (YieldsList-from_slice set cc)) c.map.ensures.closure λ x r q k. search rules)
+    (omega (arith, sum_is (map ones set), ones_few set c.fits-set))
 
 pub returns : goal.returns
 returns c v few is =
-    let l = c.loop-i in
-    let long = ap length is ∙ words_length word_count v in
-    l.invariant.2 long ∙ ap ones_of (take_all l.i _ (omega (arith, long)) ∙ is) ∙ ones_size word_count v few
+    let set = c.args.set.now in
+    sum_from_yields_List c.map.result c.sum.result c.sum.ensures.ran
+    (YieldsList-from_map _ ones (YieldsList-at c.map.ensures.source (YieldsList-from_slice set cc)) c.map.ensures.closure λ x r q k. search rules)
+    ∙ sum_is (map ones set) ∙ ap ones_of is ∙ ones_size word_count v few

@@ -14,7 +14,7 @@ use crate::file::{
     transitions_start, version,
 };
 use crate::labels::bad_labels;
-use crate::{Cause, Header, Node, Transition};
+use crate::{Cause, Header, Node, OpenCase, Transition};
 
 // Whether a count is below `low` or above `high`.
 fn outside(low: usize, high: usize, count: usize) -> bool
@@ -452,15 +452,18 @@ fn check_formula(part: &[u8], h: Header) -> Result<(), Cause>
     Ok(())
 }
 
-// Opens a case: its header, or the first condition that holds.
-pub fn open(case: &[u8]) -> Result<Header, Cause>
-    ensures { Opens (case_refusal case.now) (λ h. h ≡ header_of case.now) result }
+// Opens a case, or answers the first condition that holds.
+pub fn open(case: &[u8]) -> Result<OpenCase<'_>, Cause>
+    ensures { Opens (case_refusal case.now) (λ o. (o.bytes.now ≡ case.now) × (o.header ≡ header_of case.now)) result }
 {
-    let h = check_layout(case)?;
-    check_model(case, h)?;
-    let formula = h.formula_at;
-    check_formula(&case[formula..], h)?;
-    Ok(h)
+    let header = check_layout(case)?;
+    check_model(case, header)?;
+    let formula = header.formula_at;
+    check_formula(&case[formula..], header)?;
+    Ok(OpenCase {
+        bytes: case,
+        header,
+    })
 }
 
 // The number of a cause.

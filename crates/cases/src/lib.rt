@@ -5,11 +5,13 @@ mod actions;
 mod conditions;
 mod file;
 mod labels;
+mod tables;
 mod transitions;
 
 pub use actions::action_masks;
 pub use conditions::{binders, check_layout, is_binder, open, subtree_end, transition_holds};
 pub use file::{case_end, node_at, number_at, transition_at};
+pub use tables::{LabelRecords, LaidCase, Nodes, OpenCase, Table, Transitions};
 pub use transitions::{first_appearances, same_transition};
 
 pub const LABELS: usize = 64;

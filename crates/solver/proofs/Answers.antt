@@ -5,7 +5,7 @@ use mathlib.Core.List.{List, ◌++◌, map}
 use Prim.Native.Nat.{ℕ, ◌<◌, ◌≤◌}
 use native.Mathlib.Omega.{arith}
 use borrow.Author.Tests.{lt-ltb}
-use Rattle.std.specs.Prelude.{Ok, Err}
+use Rattle.std.specs.Prelude.{Ok, Err, None}
 use lib.Dec.{ltb}
 use lib.ListN.{length, drop, length-replicate}
 use Rattle.sets.specs.States.{States, has, size, all_empty}
@@ -19,11 +19,12 @@ use Rattle.solver.specs.internal.Forms.{opened}
 use Rattle.solver.specs.Outcome.{solve_number, solve_answer, bad_layout, bad_table, solve_too_short, solve_conditions, solve_refusal, SolveEnough, report, solve_outcome, Scratch, Answered}
 use Rattle.sets.specs.Refusals.{Conditions, refused}
 use Rattle.sets.proofs.Refusals.{holds_here, holds_later, reports, refuses}
-use Rattle.solver.specs.internal.Working.{OpenFile, AllSolved, spent}
+use Rattle.solver.specs.internal.Working.{OpenFile, IsFound, AllSolved}
 use Rattle.solver.specs.declared.Sizes.{Sizes}
 use Rattle.solver.specs.declared.Cause.{Cause}
 use Rattle.solver.specs.declared.Cause.TheVariants.{Layout, Table, Memory, Spent}
 use Rattle.solver.specs.declared.Report.{Report}
+use Rattle.solver.specs.declared.Found.{Found}
 use Rattle.solver.proofs.Tables.{counted, length_cells}
 use Rattle.solver.proofs.Reading.{layout_facts}
 use Rattle.solver.proofs.WellFormed.{ordered, inside}
@@ -100,40 +101,39 @@ module _ {e : List ℕ} {sizes : Sizes} (o : OpenFile e sizes) (work marks : Lis
   unfolding solve_too_short
   few_words h = short (rw (lt-ltb (length marks) word_count h) (or-true (ltb (length work) (sizes_of e).cells)))
 
-  module _ (bytes : sizes.cells ≤ length work) (room : word_count ≤ length marks)
-      {after row : List ℕ} {rounds status : ℕ} (r : AllSolved e limit after row rounds status) where
+  module _ (bytes : sizes.cells ≤ length work) (room : word_count ≤ length marks) where
     lent : WellFormed e × SolveEnough e (length work) (length marks)
     lent = (o.formed, (enough e (length work) (length marks)).0 (omega (arith, (counted o.counts).cells), room))
-
-    -- the part that was lent, and the rest
-    abbrev whole : List ℕ
-    whole = after ++ drop sizes.cells work
 
     rest : drop sizes.cells work ≡ drop (sizes_of e).cells work
     rest = ap (λ (k : ℕ). drop k work) (counted o.counts).cells
 
-    pub ended_spent : status ≡ spent → Answered e work marks limit (solve_answer (Err Spent)) whole marks
-    ended_spent z = answered_spent e work marks limit
-        ((is_14 e (length work) (length marks) limit).1 (lent, r.over z))
+    -- the part that was lent, and the rest
+    abbrev whole : List ℕ → List ℕ
+    whole after = after ++ drop sizes.cells work
+
+    pub ended_spent : {after : List ℕ} → AllSolved e limit after None → Answered e work marks limit (solve_answer (Err Spent)) (whole after) marks
+    ended_spent {after} r = answered_spent e work marks limit
+        ((is_14 e (length work) (length marks) limit).1 (lent, r.answers))
         (record { bytes = after; sized = r.room; bits = r.bits; are = ap (λ (l : List ℕ). after ++ l) rest })
 
-    pub ended_solved : ¬ (status ≡ spent) → {verdict : Bool} → verdict ≡ marked row sizes.initial → {count : ℕ} → SizeIs row count →
-        {marks_after : List ℕ} → marks_after ≡ row ++ drop word_count marks →
-        Answered e work marks limit (solve_answer (Ok (record { verdict = verdict; count = count; rounds = rounds }))) whole marks_after
+    pub ended_solved : {after : List ℕ} {found : Found} → IsFound e limit after found → {verdict : Bool} → verdict ≡ marked found.row sizes.initial → {count : ℕ} → SizeIs found.row count →
+        {marks_after : List ℕ} → marks_after ≡ found.row ++ drop word_count marks →
+        Answered e work marks limit (solve_answer (Ok (record { verdict = verdict; count = count; rounds = found.rounds }))) (whole after) marks_after
     unfolding run
-    ended_solved n v k m =
+    ended_solved r v k m =
         let s = (layout_facts e o.formed.layout).counts in
         let first : States = (run e).0 0 in
-        let is = r.first n in
+        let is = r.first in
         let long : length first ≡ (sizes_of e).states =
         solved_sized (sizes_of e).states (cells e) (ordered e o.formed) (blocks e) (rw (length_cells e) (inside e o.formed)) 0 (all_empty (sizes_of e).states) (λ j. length-replicate (sizes_of e).states false) 0 in
         answered_solved e work marks limit
-        ((is_0 e (length work) (length marks) limit).1 (lent, r.within n))
+        ((is_0 e (length work) (length marks) limit).1 (lent, r.within))
         (v ∙ ap₂ (λ (w : List ℕ) (i : ℕ). marked w i) is (counted o.counts).initial ∙ marked_words word_count first (sizes_of e).initial (omega (arith, s.initial, s.few_states)))
         (k first (omega (arith, long, s.few_states)) is)
-        (r.counted n)
+        r.counted
         (m ∙ ap (λ (l : List ℕ). l ++ drop word_count marks) is)
-        (ap₂ (λ (x y : List ℕ). x ++ y) (r.values n) rest)
+        (ap₂ (λ (x y : List ℕ). x ++ y) r.values rest)
 
 -- ---- opening a file: its counts, or the condition that holds
 pub opens_file : {e : List ℕ} {sizes : Sizes} → Ok sizes ≡ opened e → OpenFile e sizes

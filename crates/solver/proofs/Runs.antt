@@ -2,7 +2,7 @@
 use mathlib.Core.Path.{◌≡◌, sym, ap, subst, fun_ext, ◌∙◌}
 use mathlib.Core.Bool.{Bool, false, ◌&&◌}
 use mathlib.Core.List.{List, [], map}
-use Prim.Native.Nat.{ℕ, zero, suc, ◌+◌, ◌<◌, ◌≤◌}
+use Prim.Native.Nat.{ℕ, zero, suc, ◌+◌, ◌-◌, ◌<◌, ◌≤◌}
 use native.Mathlib.Omega.{arith}
 use native.Mathlib.Decide.{ℕ_discrete, dec_lt}
 use lib.Dec.{ltb}
@@ -15,7 +15,7 @@ use Rattle.sets.proofs.Words.{words_none}
 use Rattle.solver.specs.computed.Solved.{evaluate, Reached, solved, run}
 use Rattle.solver.specs.File.{sizes_of, blocks, block_at, cells, block_limit}
 use Rattle.solver.specs.Conditions.{WellFormed}
-use Rattle.solver.specs.internal.Working.{OpenFile, Ready, HoldsRows, Shows, CellsValued, SolvesFrom, Solving, AllSolved, Started, starting, spent}
+use Rattle.solver.specs.internal.Working.{OpenFile, Ready, HoldsRows, Shows, CellsValued, SolvesFrom, TooMany, Settled, IsFound, Started, starting}
 use Rattle.solver.specs.declared.Sizes.{Sizes}
 use Rattle.solver.proofs.Tables.{length_blocks, length_cells, counted}
 use Rattle.solver.proofs.Reading.{layout_facts, opens_read}
@@ -92,32 +92,21 @@ shown : (vs : List Bool) (work : List ℕ) → length work ≡ length vs → Sho
 shown vs work l s = ext_get_or 0 work (map bit vs) (l ∙ sym (length-map vs bit)) λ j h.
     s.byte j (omega arith) (omega arith) ∙ sym (get_or-map bit vs j false)
 
-module _ {e : List ℕ} (f : WellFormed e) {limit rounds status : ℕ} {work : List ℕ} {rows after : List (List ℕ)}
-    (h : HoldsRows (sizes_of e).states rows (starting e (sizes_of e).blocks)) (s : Solving e rows 0 0 limit work after rounds status) where
-  pub ran_spent : status ≡ spent → {row : List ℕ} → AllSolved e limit work row rounds status
-  ran_spent z = record {
-    room = s.room;
-    bits = s.bits;
-    over = λ z. omega (arith, s.over z (starting e (sizes_of e).blocks) (reached e).0 (reached e).1 h (reaches e f), (as_run e f).1);
-    within = λ n. absurd (n z);
-    counted = λ n. absurd (n z);
-    first = λ n. absurd (n z);
-    values = λ n. absurd (n z);
-  }
+module _ {e : List ℕ} (f : WellFormed e) {limit : ℕ} {rows : List (List ℕ)} (h : HoldsRows (sizes_of e).states rows (starting e (sizes_of e).blocks)) where
+  pub ran_spent : TooMany e rows 0 limit → limit < (run e).1
+  ran_spent s = omega (arith, s.over (starting e (sizes_of e).blocks) (reached e).0 (reached e).1 h (reaches e f), (as_run e f).1)
 
-  pub ran : ¬ (status ≡ spent) → {bytes : List ℕ} → CellsValued e after 0 bytes → AllSolved e limit bytes (get_or after 0 []) rounds status
-  ran go {bytes} d =
-      let r = s.right go (starting e (sizes_of e).blocks) (reached e).0 (reached e).1 h (reaches e f) in
+  pub ran : {after : List (List ℕ)} {left : ℕ} {bytes : List ℕ} → Settled e rows 0 limit after left → CellsValued e after 0 bytes →
+      IsFound e limit bytes (record { row = get_or after 0 []; rounds = limit - left })
+  ran {bytes = bytes} s d =
+      let r = s.right (starting e (sizes_of e).blocks) (reached e).0 (reached e).1 h (reaches e f) in
       let a = as_run e f in
       let v = evaluate_values (cells e) (ordered e f) (reached e).0 in
       record {
-        room = d.room;
-        bits = d.bits;
-        over = λ z. absurd (go z);
-        within = λ n. omega (arith, r.0, a.1, s.high go);
-        counted = λ n. omega (arith, r.0, a.1);
-        first = λ n. r.1.row 0 (omega arith) ∙ ap (words word_count) (a.0 0 (layout_facts e f.layout).counts.some_block);
-        values = λ n.
+        within = omega (arith, r.0, a.1);
+        counted = omega (arith, r.0, a.1);
+        first = r.1.row 0 (omega arith) ∙ ap (words word_count) (a.0 0 (layout_facts e f.layout).counts.some_block);
+        values =
             shown (evaluate (cells e) (reached e).0) bytes (d.room ∙ sym (v.sized ∙ length_cells e)) (d.right (reached e).0 (evaluate (cells e) (reached e).0) r.1 v)
             ∙ ap (map bit) (evaluate_start (sizes_of e).blocks (reached e).0 (run e).0 a.0 (cells e) (own_named f));
       }

@@ -1,4 +1,4 @@
--- What a round, and the loop over a block's rounds, give: the code's sets, rounds and status beside the rule's.
+-- What a round, and the loop over a block's rounds, give: the code's sets, rounds left and answer beside the rule's.
 use mathlib.Core.Path.{◌≡◌, refl, sym, ap, subst, ◌∙◌}
 use mathlib.Core.List.{List, [], ◌∷◌}
 use Prim.Native.Nat.{ℕ, suc, ◌+◌, ◌-◌, ◌<◌, ◌≤◌}
@@ -14,7 +14,7 @@ use Rattle.sets.proofs.Turns.{Left, turn, stops_here, goes_on as goes_further}
 use Rattle.sets.proofs.Words.{words_inj}
 use Rattle.solver.specs.File.{Block, sizes_of, blocks, block_at, cells, block_limit}
 use Rattle.solver.specs.Solution.{Solves}
-use Rattle.solver.specs.internal.Working.{OpenFile, HoldsRows, Started, SolvesFrom, RightSidesOf, Applied, Solving, Turned, spent, stable, replaced}
+use Rattle.solver.specs.internal.Working.{OpenFile, HoldsRows, Started, SolvesFrom, RightSidesOf, Applied, TooMany, Settled, Solving, TooManyInRound, RoundCounted, IsStable, IsReplaced, Turned}
 use Rattle.solver.specs.declared.Sizes.{Sizes}
 use Rattle.solver.proofs.Tables.{length_blocks, block_at_lem, counted}
 use Rattle.solver.proofs.Reading.{opens_read, few_blocks, own_block}
@@ -49,71 +49,39 @@ from_block e k ρ σ r h s = subst Later (sym (add-one k)) (subst (λ (bs : List
 
 -- ---- one round
 
-module _ {e : List ℕ} {rows inner : List (List ℕ)} {k used limit used_inner status : ℕ} {work_inner : List ℕ}
-    (s : Solving e rows (k + 1) used limit work_inner inner used_inner status) where
-  -- spent further in
-  pub inner_spent : status ≡ spent → Turned e rows k used limit work_inner inner used_inner status
-  inner_spent t = record {
-    room = s.room;
-    bits = s.bits;
-    three = omega arith;
-    over = λ t ρ τ q h f. omega (arith, s.over t ρ τ q h f);
-    low = λ m. absurd (m t);
-    high = λ m. absurd (m t);
-    counted = λ m. absurd (m t);
-    kept = λ m. absurd (omega arith);
-    same = λ m. absurd (omega arith);
-    differs = λ m. absurd (m t);
-  }
+-- the rounds of the later blocks are too many
+pub too_many_later : {e : List ℕ} {rows : List (List ℕ)} {k budget : ℕ} → TooMany e rows (k + 1) budget → TooManyInRound e rows k budget
+too_many_later s = record { over = λ ρ τ q h f. omega (arith, s.over ρ τ q h f) }
 
-  module _ (go : ¬ (status ≡ spent)) where
-    -- no round is left for this one
-    pub none_left : limit ≤ used_inner → Turned e rows k used limit work_inner inner used_inner spent
-    none_left l = record {
-      room = s.room;
-      bits = s.bits;
-      three = omega arith;
-      over = λ t ρ τ q h f. omega (arith, (s.right go ρ τ q h f).0);
-      low = λ m. absurd (m refl);
-      high = λ m. absurd (m refl);
-      counted = λ m. absurd (m refl);
-      kept = λ m. absurd (omega arith);
-      same = λ m. absurd (omega arith);
-      differs = λ m. absurd (m refl);
-    }
+module _ {e : List ℕ} {rows inner : List (List ℕ)} {k budget budget_inner : ℕ} (s : Settled e rows (k + 1) budget inner budget_inner) where
+  -- no round is left for this one
+  pub none_left : budget_inner ≡ 0 → TooManyInRound e rows k budget
+  none_left z = record { over = λ ρ τ q h f. omega (arith, (s.right ρ τ q h f).0) }
 
-    module _ (left : used_inner < limit) {sizes : Sizes} (o : OpenFile e sizes) (b : k < sizes.blocks) {work : List ℕ} {next : List (List ℕ)} (a : Applied e inner k work next) where
-      row_is : (ρ τ : Valuation) (q : ℕ) (w : States) → HoldsRows (sizes_of e).states rows ρ → SolvesFrom e (k + 1) ρ τ q → RightSidesOf e k τ w → get_or next k [] ≡ words word_count w
-      row_is ρ τ q w h t r = (a.right τ w (s.right go ρ τ q h t).1 r).row k (few_blocks o b) ∙ ap (words word_count) (update_same τ k w)
+  module _ {sizes : Sizes} (o : OpenFile e sizes) (b : k < sizes.blocks) {work : List ℕ} {next : List (List ℕ)} (a : Applied e inner k work next) where
+    row_is : (ρ τ : Valuation) (q : ℕ) (w : States) → HoldsRows (sizes_of e).states rows ρ → SolvesFrom e (k + 1) ρ τ q → RightSidesOf e k τ w → get_or next k [] ≡ words word_count w
+    row_is ρ τ q w h t r = (a.right τ w (s.right ρ τ q h t).1 r).row k (few_blocks o b) ∙ ap (words word_count) (update_same τ k w)
 
-      pub settled : get_or next k [] ≡ get_or rows k [] → Turned e rows k used limit work inner (used_inner + 1) stable
-      settled is = record {
-        room = a.room;
-        bits = a.bits;
-        three = omega arith;
-        over = λ t. absurd (omega arith);
-        low = λ m. omega (arith, s.low go);
-        high = λ m. omega arith;
-        counted = λ m ρ τ q h t. omega (arith, (s.right go ρ τ q h t).0);
-        kept = λ m ρ τ q h t. (s.right go ρ τ q h t).1;
-        same = λ m ρ τ q w h t r.
-            let z = sides_sized e k o.formed (own_block o b) r in
-            words_inj word_count w (ρ k) (z ∙ sym (h.sized k)) (omega (arith, (opens_read o).counts.few_states, (counted o.counts).states)) (sym (row_is ρ τ q w h t r) ∙ is ∙ h.row k (few_blocks o b));
-        differs = λ m n. absurd (n refl);
+    module _ {budget_after : ℕ} (one : budget_inner ≡ budget_after + 1) where
+      one_counted : RoundCounted e rows k budget budget_after
+      one_counted = record {
+        low = omega (arith, s.low);
+        counted = λ ρ τ q h f. omega (arith, (s.right ρ τ q h f).0);
       }
 
-      pub moved : ¬ (get_or next k [] ≡ get_or rows k []) → Turned e rows k used limit work next (used_inner + 1) replaced
-      moved is = record {
-        room = a.room;
-        bits = a.bits;
-        three = omega arith;
-        over = λ t. absurd (omega arith);
-        low = λ m. omega (arith, s.low go);
-        high = λ m. omega arith;
-        counted = λ m ρ τ q h t. omega (arith, (s.right go ρ τ q h t).0);
-        kept = λ m. absurd (omega arith);
-        same = λ m. absurd (omega arith);
-        differs = λ m n ρ τ q w h t r. (
+      pub is_stable : get_or next k [] ≡ get_or rows k [] → IsStable e rows k budget inner budget_after
+      is_stable is = record {
+        round = one_counted;
+        kept = λ ρ τ q h t. (s.right ρ τ q h t).1;
+        same = λ ρ τ q w h t r.
+            let z = sides_sized e k o.formed (own_block o b) r in
+            words_inj word_count w (ρ k) (z ∙ sym (h.sized k)) (omega (arith, (opens_read o).counts.few_states, (counted o.counts).states)) (sym (row_is ρ τ q w h t r) ∙ is ∙ h.row k (few_blocks o b));
+      }
+
+      pub is_replaced : ¬ (get_or next k [] ≡ get_or rows k []) → IsReplaced e rows k budget next budget_after
+      is_replaced is = record {
+        round = one_counted;
+        differs = λ ρ τ q w h t r. (
           row_is ρ τ q w h t r,
           λ x. is (row_is ρ τ q w h t r ∙ ap (words word_count) x ∙ sym (h.row k (few_blocks o b))),
         );
@@ -126,80 +94,62 @@ abbrev pub Beside : List ℕ → ℕ → Valuation → List (List ℕ) → State
 Beside e k ρ rows v = HoldsRows (sizes_of e).states rows (update ρ k v)
 
 -- at the head of block k's loop: the rows `now` are turned, and the later blocks are where they start
-pub record Going (e : List ℕ) (rows : List (List ℕ)) (k used₀ limit : ℕ) (now : List (List ℕ)) (used : ℕ) : Type 0 where
-  pub low : used₀ ≤ used
-  pub high : used ≤ limit
+pub record Going (e : List ℕ) (rows : List (List ℕ)) (k budget₀ : ℕ) (now : List (List ℕ)) (budget : ℕ) : Type 0 where
+  pub low : budget ≤ budget₀
   pub later : Started e (k + 1) now
-  pub left : (ρ σ : Valuation) (r : ℕ) → HoldsRows (sizes_of e).states rows ρ → Loop (Turn e k ρ) (first e k) σ r → Left (Turn e k ρ) (Beside e k ρ now) σ used (used₀ + r)
+  pub left : (ρ σ : Valuation) (r : ℕ) → HoldsRows (sizes_of e).states rows ρ → Loop (Turn e k ρ) (first e k) σ r → Left (Turn e k ρ) (Beside e k ρ now) σ (budget₀ - budget) r
 
 -- no blocks: no change
-pub unchanged : {e : List ℕ} {rows : List (List ℕ)} {k used limit : ℕ} {work : List ℕ} → (sizes_of e).blocks ≤ k → used ≤ limit → length work ≡ (sizes_of e).cells → ((i : ℕ) → get_or work i 0 ≤ 1) →
-    Solving e rows k used limit work rows used stable
-unchanged {e} {rows} {k} h l room bits = record {
-  room = room;
-  bits = bits;
-  over = λ m. absurd (omega arith);
-  low = λ m. omega arith;
-  high = λ m. l;
-  right = λ m ρ σ r holds s.
+pub unchanged : {e : List ℕ} {rows : List (List ℕ)} {k budget : ℕ} → (sizes_of e).blocks ≤ k → Settled e rows k budget rows budget
+unchanged {e} {rows} {k} h = record {
+  low = omega arith;
+  right = λ ρ σ r holds s.
       let z = from_none e k h s in
       (omega (arith, z.1), subst (HoldsRows (sizes_of e).states rows) (sym z.0) holds);
 }
 
-pub begins : {e : List ℕ} {rows : List (List ℕ)} {k used limit : ℕ} → used ≤ limit → k < (sizes_of e).blocks → Started e k rows → Going e rows k used limit rows used
-begins {e} {k = k} l b s = record {
+pub begins : {e : List ℕ} {rows : List (List ℕ)} {k budget : ℕ} → k < (sizes_of e).blocks → Started e k rows → Going e rows k budget rows budget
+begins {e} {k = k} b s = record {
   low = omega arith;
-  high = l;
   later = record { row = λ j h. s.row j (omega arith) };
   left = λ ρ σ r holds run. record {
     now = first e k;
     known = holds_update holds k (first e k) (length-replicate (sizes_of e).states (block_at e k).sign) (s.row k (omega arith) b) (λ j n. refl);
     rest = r;
     run = run;
-    sum = refl;
+    sum = omega arith;
   };
 }
 
-module _ {e : List ℕ} {sizes : Sizes} {rows now : List (List ℕ)} {k used₀ limit used : ℕ} (o : OpenFile e sizes) (b : k < sizes.blocks) (l : length rows ≡ block_limit) (s : Started e k rows)
-    (g : Going e rows k used₀ limit now used) {work : List ℕ} {after : List (List ℕ)} {used_after status : ℕ} (t : Turned e now k used limit work after used_after status) where
-  out_of_rounds : status ≡ spent → Solving e rows k used₀ limit work after used_after status
-  out_of_rounds z = record {
-    room = t.room;
-    bits = t.bits;
-    over = λ z ρ σ r h s.
+module _ {e : List ℕ} {sizes : Sizes} {rows now : List (List ℕ)} {k budget₀ budget : ℕ} (o : OpenFile e sizes) (b : k < sizes.blocks) (g : Going e rows k budget₀ now budget) where
+  pub out_of_rounds : TooManyInRound e now k budget → TooMany e rows k budget₀
+  out_of_rounds t = record {
+    over = λ ρ σ r h s.
         let m = g.left ρ σ r h (from_block e k ρ σ r (own_block o b) s) in
         let y = turn m.run in
-        omega (arith, t.over z (update ρ k m.now) y.held y.took m.known y.step.0, y.less, m.sum);
-    low = λ m. absurd (m z);
-    high = λ m. absurd (m z);
-    right = λ m. absurd (m z);
+        omega (arith, t.over (update ρ k m.now) y.held y.took m.known y.step.0, y.less, m.sum, g.low);
   }
 
-  module _ (go : ¬ (status ≡ spent)) where
+  module _ {after : List (List ℕ)} {budget_after : ℕ} where
     -- the loop stops where the set is stable
-    stopped : status ≡ stable → Solving e rows k used₀ limit work after used_after status
-    stopped z = record {
-      room = t.room;
-      bits = t.bits;
-      over = λ m. absurd (go m);
-      low = λ m. omega (arith, t.low go, g.low);
-      high = λ m. t.high go;
-      right = λ m ρ σ r h s.
+    pub stopped : IsStable e now k budget after budget_after → Settled e rows k budget₀ after budget_after
+    stopped t = record {
+      low = omega (arith, t.round.low, g.low);
+      right = λ ρ σ r h s.
           let y = g.left ρ σ r h (from_block e k ρ σ r (own_block o b) s) in
-          let x = stops_here (λ τ w q f. t.same z (update ρ k y.now) τ q w y.known f.0 f.1 ∙ update_same ρ k y.now) y.run in
-          (omega (arith, t.counted go (update ρ k y.now) σ x.took y.known x.step.0, x.sum, y.sum), t.kept z (update ρ k y.now) σ x.took y.known x.step.0);
+          let x = stops_here (λ τ w q f. t.same (update ρ k y.now) τ q w y.known f.0 f.1 ∙ update_same ρ k y.now) y.run in
+          (omega (arith, t.round.counted (update ρ k y.now) σ x.took y.known x.step.0, x.sum, y.sum, g.low), t.kept (update ρ k y.now) σ x.took y.known x.step.0);
     }
 
     -- it goes on from the set that was put in place, with the later blocks where they start
-    goes : ¬ (status ≡ stable) → Going e rows k used₀ limit (set rows k (get_or after k [])) used_after
-    goes z = record {
-      low = omega (arith, t.low go, g.low);
-      high = t.high go;
+    pub goes_on : IsReplaced e now k budget after budget_after → length rows ≡ block_limit → Started e k rows → Going e rows k budget₀ (set rows k (get_or after k [])) budget_after
+    goes_on t l s = record {
+      low = omega (arith, t.round.low, g.low);
       later = record { row = λ j h d. get_or-set_other rows k j (get_or after k []) [] (λ q. omega arith) ∙ s.row j (omega arith) d };
       left = λ ρ σ r h run.
           let y = g.left ρ σ r h run in
           let other : (τ : Valuation) (w : States) (q : ℕ) → Turn e k ρ y.now τ w q → (get_or after k [] ≡ words word_count w) × ¬ (w ≡ update ρ k y.now k) =
-          λ τ w q f. t.differs go z (update ρ k y.now) τ q w y.known f.0 f.1 in
+          λ τ w q f. t.differs (update ρ k y.now) τ q w y.known f.0 f.1 in
           let x = goes_further (λ τ w q f d. (other τ w q f).1 (d ∙ sym (update_same ρ k y.now))) y.run in
           record {
             now = x.next;
@@ -208,21 +158,6 @@ module _ {e : List ℕ} {sizes : Sizes} {rows now : List (List ℕ)} {k used₀ 
                 (λ j n. get_or-set_other rows k j (get_or after k []) [] n);
             rest = x.rest;
             run = x.run;
-            sum = omega (arith, t.counted go (update ρ k y.now) x.held x.took y.known x.step.0, x.sum, y.sum);
+            sum = omega (arith, t.round.counted (update ρ k y.now) x.held x.took y.known x.step.0, x.sum, y.sum, g.low);
           };
     }
-
-  -- so it does where the set was replaced, with fewer rounds left
-  pub goes_on : status ≡ replaced → {next : List (List ℕ)} → next ≡ set rows k (get_or after k []) → Going e rows k used₀ limit next used_after
-  goes_on z is = rw is (goes (λ m. omega arith) (λ m. omega arith))
-
-  pub fewer : status ≡ replaced → limit - used_after < limit - used
-  fewer z = omega (arith, t.low (λ m. omega arith), t.high (λ m. omega arith))
-
-  -- the loop is left unless the set was replaced
-  pub left_loop : ¬ (status ≡ replaced) → Solving e rows k used₀ limit work after used_after status
-  left_loop n = by (ℕ_discrete status spent)
-    where
-      by : Dec (status ≡ spent) → Solving e rows k used₀ limit work after used_after status
-      by (yes z) = out_of_rounds z
-      by (no z) = stopped z (omega (arith, t.three))

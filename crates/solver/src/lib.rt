@@ -83,46 +83,27 @@ pub struct Span {
     pub count: usize,
 }
 
-// Puts 0 everywhere.
-fn clear(work: &mut [u8])
-    ensures { work.new ≡ replicate (length work.old) 0 }
-{
-    let mut i = 0;
-    while i < work.len() {
-        work[i] = 0;
-        i += 1;
-    }
+// What solving all blocks finds: the set of block 0, and the rounds that it took.
+#[derive(Clone, Copy)]
+struct Found {
+    row: [u64; WORDS],
+    rounds: u64,
 }
 
-// Solves all blocks and works out all cells; answers the set of block 0.
-fn run(
-    file: &[u8],
-    sizes: Sizes,
-    work: &mut [u8],
-    limit: u64,
-    rounds: &mut u64,
-    status: &mut u8,
-) -> [u64; WORDS]
-    requires { OpenFile file.now sizes × (length work.old ≡ (sizes_of file.now).cells) × (rounds.old ≡ 0) }
-    ensures { AllSolved file.now limit work.new result rounds.new status.new }
+// Solves all blocks and works out all cells, or answers None where the rounds exceed the limit.
+fn run(file: &[u8], sizes: Sizes, work: &mut [u8], limit: u64) -> Option<Found>
+    requires { OpenFile file.now sizes × (length work.old ≡ (sizes_of file.now).cells) }
+    ensures { AllSolved file.now limit work.new result }
 {
-    clear(work);
+    work.fill(0);
     let starts = rounds::starts(file, sizes);
-    let sets = rounds::solve_last(
-        file,
-        sizes,
-        starts,
-        sizes.blocks,
-        limit,
-        work,
-        rounds,
-        status,
-    );
-    if *status == rounds::SPENT {
-        return sets[0];
-    }
+    let mut budget = limit;
+    let sets = rounds::solve_last(file, sizes, starts, sizes.blocks, work, &mut budget)?;
     cells::evaluate(file, sizes, sets, 0, work);
-    sets[0]
+    Some(Found {
+        row: sets[0],
+        rounds: limit - budget,
+    })
 }
 
 // Solves a file whose conditions 11 and 12 do not hold.
@@ -137,12 +118,10 @@ fn solve_opened(file: &[u8], sizes: Sizes, work: &mut [u8], marks: &mut [u64], l
     if marks.len() < WORDS {
         return Err(Cause::Memory);
     }
-    let mut rounds = 0;
-    let mut status = 0;
-    let row = run(file, sizes, &mut work[..c], limit, &mut rounds, &mut status);
-    if status == rounds::SPENT {
+    let Some(found) = run(file, sizes, &mut work[..c], limit) else {
         return Err(Cause::Spent);
-    }
+    };
+    let Found { row, rounds } = found;
     sets::store(marks, row);
     let verdict = sets::test(&row, sizes.initial);
     let count = sets::count(&row);

@@ -10,12 +10,15 @@ use crate::file::{HEADER, number_at};
 use crate::{BLOCKS, Sizes};
 use sets::WORDS;
 
-// How a round, or the solving of a block, ends.
-pub const REPLACED: u8 = 0;
+// The sets of all blocks, by block.
+pub type BlockSets = [[u64; WORDS]; BLOCKS];
 
-pub const STABLE: u8 = 1;
-
-pub const SPENT: u8 = 2;
+// How a round of a block ends: its set is stable, and the later blocks are solved, or it is replaced.
+#[derive(Clone, Copy)]
+pub enum Ending {
+    Stable(BlockSets),
+    Replaced(BlockSets),
+}
 
 // Where block k starts: no state for mu, every state for nu.
 fn start_of(file: &[u8], sizes: Sizes, k: usize) -> [u64; WORDS]
@@ -26,7 +29,7 @@ fn start_of(file: &[u8], sizes: Sizes, k: usize) -> [u64; WORDS]
 }
 
 // Where all blocks start.
-pub fn starts(file: &[u8], sizes: Sizes) -> [[u64; WORDS]; BLOCKS]
+pub fn starts(file: &[u8], sizes: Sizes) -> BlockSets
     requires { OpenFile file.now sizes }
     ensures { HoldsRows (sizes_of file.now).states result (starting file.now (sizes_of file.now).blocks) }
 {
@@ -38,36 +41,36 @@ pub fn starts(file: &[u8], sizes: Sizes) -> [[u64; WORDS]; BLOCKS]
     sets
 }
 
-// Solves the last `left` blocks, which are held where they start, with the sets of those before them held.
+// Solves the last `left` blocks, which are held where they start, with the sets of those before them held, or answers None where the
+// rounds left are too few.
 #[cycle(round_solve_last)]
 pub fn solve_last(
     file: &[u8],
     sizes: Sizes,
-    sets: [[u64; WORDS]; BLOCKS],
+    sets: BlockSets,
     left: usize,
-    limit: u64,
     work: &mut [u8],
-    rounds: &mut u64,
-    status: &mut u8,
-) -> [[u64; WORDS]; BLOCKS]
-    requires { Ready file.now sizes work.old × (left ≤ sizes.blocks) × (rounds.old ≤ limit) × Started file.now (sizes.blocks - left) sets }
-    ensures { Solving file.now sets (sizes.blocks - left) rounds.old limit work.new result rounds.new status.new }
+    budget: &mut u64,
+) -> Option<BlockSets>
+    requires { Ready file.now sizes work.old × (left ≤ sizes.blocks) × Started file.now (sizes.blocks - left) sets }
+    ensures { Solving file.now sets (sizes.blocks - left) budget.old work.new result budget.new }
 {
     if left == 0 {
-        *status = STABLE;
-        return sets;
+        return Some(sets);
     }
     let mut s = sets;
     loop {
-        let t = round(file, sizes, s, left, limit, work, rounds, status);
-        if *status != REPLACED {
-            return t;
+        let end = round(file, sizes, s, left, work, budget)?;
+        match end {
+            Ending::Stable(t) => return Some(t),
+            Ending::Replaced(t) => {
+                // The later blocks go back to where they start.
+                let k = sizes.blocks - left;
+                let row = t[k];
+                s = sets;
+                s[k] = row;
+            }
         }
-        // The later blocks go back to where they start.
-        let k = sizes.blocks - left;
-        let row = t[k];
-        s = sets;
-        s[k] = row;
     }
 }
 
@@ -77,31 +80,20 @@ pub fn solve_last(
 fn round(
     file: &[u8],
     sizes: Sizes,
-    sets: [[u64; WORDS]; BLOCKS],
+    sets: BlockSets,
     left: usize,
-    limit: u64,
     work: &mut [u8],
-    rounds: &mut u64,
-    status: &mut u8,
-) -> [[u64; WORDS]; BLOCKS]
-    requires { Ready file.now sizes work.old × (0 < left) × (left ≤ sizes.blocks) × (rounds.old ≤ limit) × Started file.now (sizes.blocks - left + 1) sets }
-    ensures { Turned file.now sets (sizes.blocks - left) rounds.old limit work.new result rounds.new status.new }
+    budget: &mut u64,
+) -> Option<Ending>
+    requires { Ready file.now sizes work.old × (0 < left) × (left ≤ sizes.blocks) × Started file.now (sizes.blocks - left + 1) sets }
+    ensures { Turned file.now sets (sizes.blocks - left) budget.old work.new result budget.new }
 {
-    let s = solve_last(file, sizes, sets, left - 1, limit, work, rounds, status);
-    if *status == SPENT {
-        return s;
-    }
-    if limit <= *rounds {
-        *status = SPENT;
-        return s;
-    }
-    *rounds += 1;
+    let s = solve_last(file, sizes, sets, left - 1, work, budget)?;
+    *budget = budget.checked_sub(1)?;
     let k = sizes.blocks - left;
     let next = right_sides(file, sizes, s, k, work);
-    if sets::equal(&next[k], &sets[k]) {
-        *status = STABLE;
-        return s;
+    if next[k] == sets[k] {
+        return Some(Ending::Stable(s));
     }
-    *status = REPLACED;
-    next
+    Some(Ending::Replaced(next))
 }

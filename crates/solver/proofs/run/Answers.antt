@@ -1,23 +1,29 @@
 use mathlib.Core.Path.{◌≡◌}
 use Prim.Native.Nat.{◌-◌}
 use native.Mathlib.Omega.{arith}
+use Rattle.std.proofs.Common.{rules, None, length, replicate}
 use Rattle.solver.proofs.Runs.{all_started, cleared_ready, ran_spent, ran}
 use Rattle.solver.proofs.run.Goals as goal
 
-pub solve_last-sets-requires : goal.solve_last-sets-requires
-solve_last-sets-requires c =
+pub solve_last-requires : goal.solve_last-requires
+solve_last-requires c =
     let a = c.args in
     let q : a.sizes.blocks - a.sizes.blocks ≡ 0 = omega arith in
-    (cleared_ready c.requires.0 c.requires.1 c.clear.ensures, omega arith, omega (arith, c.requires.2), rw q (all_started c.requires.0 c.starts-starts.ensures))
+    let z : c.fill.new.self ≡ replicate (length a.work.now) 0 = search rules in
+    (cleared_ready c.requires.0 c.requires.1 z, omega arith, rw q (all_started c.requires.0 c.starts-starts.ensures))
 
-pub returns-then-status-eq-SPENT : goal.returns-then-status-eq-SPENT
-returns-then-status-eq-SPENT c =
+pub returns-in_err-sets : goal.returns-in_err-sets
+returns-in_err-sets c =
     let a = c.args in
     let q : a.sizes.blocks - a.sizes.blocks ≡ 0 = omega arith in
-    ran_spent c.requires.0.formed c.starts-starts.ensures (rw (q, c.requires.2) at c.solve_last-sets.ensures) c.if-status-eq-SPENT.true
+    let n = rw q at c.in_err-sets.ensures in
+    let z : c.from_residual.result ≡ None = search rules in
+    rw z (record { room = n.room; bits = n.bits; answers = ran_spent c.requires.0.formed c.starts-starts.ensures n.answers })
 
 pub returns : goal.returns
 returns c =
     let a = c.args in
     let q : a.sizes.blocks - a.sizes.blocks ≡ 0 = omega arith in
-    ran c.requires.0.formed c.starts-starts.ensures (rw (q, c.requires.2) at c.solve_last-sets.ensures) c.if-status-eq-SPENT.false c.evaluate.ensures
+    let n = rw q at c.in_ok-sets.ensures in
+    let v = c.evaluate.ensures in
+    record { room = v.room; bits = v.bits; answers = ran c.requires.0.formed c.starts-starts.ensures n.answers v }

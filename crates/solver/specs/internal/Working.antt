@@ -1,5 +1,5 @@
 -- What the code's parts hold while blocks are solved, and what each part of the code answers.
-use Rattle.std.specs.Prelude.{◌≡◌, Bool, false, ◌&&◌, List, [], map, ℕ, ◌+◌, ◌<◌, ◌≤◌, eqb, ltb, length, get_or, drop}
+use Rattle.std.specs.Prelude.{◌≡◌, Bool, false, ◌&&◌, List, [], map, ℕ, ◌+◌, ◌<◌, ◌≤◌, eqb, ltb, length, get_or, drop, Option, MatchOption}
 use Rattle.sets.specs.States.{States, start, Valuation, update}
 use Rattle.sets.specs.Words.{words, bit, word_count}
 use Rattle.solver.specs.Cells.{Values}
@@ -8,6 +8,9 @@ use Rattle.solver.specs.File.{sizes_of, blocks, block_at, cells, operands, block
 use Rattle.solver.specs.Conditions.{WellFormed}
 use Rattle.solver.specs.Solution.{RightSides, Solves}
 use Rattle.solver.specs.declared.Sizes.{Sizes}
+use Rattle.solver.specs.declared.Found.{Found}
+use Rattle.solver.specs.declared.rounds.Ending.{Ending}
+use Rattle.solver.specs.declared.rounds.Ending.TheVariants.{Stable, Replaced}
 
 -- a well-formed file and its counts
 pub record OpenFile (e : List ℕ) (sizes : Sizes) : Type 0 where
@@ -70,46 +73,63 @@ starting e k j = start (sizes_of e).states (ltb j k && (block_at e j).sign)
 pub record Started (e : List ℕ) (k : ℕ) (rows : List (List ℕ)) : Type 0 where
   pub row : (j : ℕ) → k ≤ j → j < (sizes_of e).blocks → get_or rows j [] ≡ words word_count (start (sizes_of e).states (block_at e j).sign)
 
--- how solving or a round ends: block k's set was replaced, is stable, or the rounds are spent
-abbrev pub replaced : ℕ
-replaced = 0
+-- Solving from block k takes more rounds than are left.
+pub record TooMany (e : List ℕ) (rows : List (List ℕ)) (k budget : ℕ) : Type 0 where
+  pub over : (ρ σ : Valuation) (r : ℕ) → HoldsRows (sizes_of e).states rows ρ → SolvesFrom e k ρ σ r → budget < r
 
-abbrev pub stable : ℕ
-stable = 1
+-- The blocks from k on are solved, and the rounds counted.
+pub record Settled (e : List ℕ) (rows : List (List ℕ)) (k budget : ℕ) (rows_after : List (List ℕ)) (budget_after : ℕ) : Type 0 where
+  pub low : budget_after ≤ budget
+  pub right : (ρ σ : Valuation) (r : ℕ) → HoldsRows (sizes_of e).states rows ρ → SolvesFrom e k ρ σ r →
+      (budget ≡ budget_after + r) × HoldsRows (sizes_of e).states rows_after σ
 
-abbrev pub spent : ℕ
-spent = 2
-
--- Solving from block k, after `used` rounds: spent exactly if the limit is below the rounds in all.
-pub record Solving (e : List ℕ) (rows : List (List ℕ)) (k used limit : ℕ) (work : List ℕ) (rows_after : List (List ℕ)) (used_after status : ℕ) : Type 0 where
+-- Solving from block k, with `budget` rounds left: None exactly if it takes more.
+pub record Solving (e : List ℕ) (rows : List (List ℕ)) (k budget : ℕ) (work : List ℕ) (answer : Option (List (List ℕ))) (budget_after : ℕ) : Type 0 where
   pub room : length work ≡ (sizes_of e).cells
   pub bits : (i : ℕ) → get_or work i 0 ≤ 1
-  pub over : status ≡ spent → (ρ σ : Valuation) (r : ℕ) → HoldsRows (sizes_of e).states rows ρ → SolvesFrom e k ρ σ r → limit < used + r
-  pub low : ¬ (status ≡ spent) → used ≤ used_after
-  pub high : ¬ (status ≡ spent) → used_after ≤ limit
-  pub right : ¬ (status ≡ spent) → (ρ σ : Valuation) (r : ℕ) → HoldsRows (sizes_of e).states rows ρ → SolvesFrom e k ρ σ r →
-      (used_after ≡ used + r) × HoldsRows (sizes_of e).states rows_after σ
+  pub answers : MatchOption answer (TooMany e rows k budget) (λ rows_after. Settled e rows k budget rows_after budget_after)
 
--- One round of block k: the later blocks are solved, a round is counted, and the right-hand sides are compared with the set held.
-pub record Turned (e : List ℕ) (rows : List (List ℕ)) (k used limit : ℕ) (work : List ℕ) (rows_after : List (List ℕ)) (used_after status : ℕ) : Type 0 where
-  pub room : length work ≡ (sizes_of e).cells
-  pub bits : (i : ℕ) → get_or work i 0 ≤ 1
-  pub three : status ≤ spent
-  pub over : status ≡ spent → (ρ τ : Valuation) (q : ℕ) → HoldsRows (sizes_of e).states rows ρ → SolvesFrom e (k + 1) ρ τ q → limit < used + q + 1
-  pub low : ¬ (status ≡ spent) → used < used_after
-  pub high : ¬ (status ≡ spent) → used_after ≤ limit
-  pub counted : ¬ (status ≡ spent) → (ρ τ : Valuation) (q : ℕ) → HoldsRows (sizes_of e).states rows ρ → SolvesFrom e (k + 1) ρ τ q → used_after ≡ used + q + 1
-  pub kept : status ≡ stable → (ρ τ : Valuation) (q : ℕ) → HoldsRows (sizes_of e).states rows ρ → SolvesFrom e (k + 1) ρ τ q → HoldsRows (sizes_of e).states rows_after τ
-  pub same : status ≡ stable → (ρ τ : Valuation) (q : ℕ) (w : States) → HoldsRows (sizes_of e).states rows ρ → SolvesFrom e (k + 1) ρ τ q → RightSidesOf e k τ w → w ≡ ρ k
-  pub differs : ¬ (status ≡ spent) → ¬ (status ≡ stable) → (ρ τ : Valuation) (q : ℕ) (w : States) → HoldsRows (sizes_of e).states rows ρ → SolvesFrom e (k + 1) ρ τ q → RightSidesOf e k τ w →
+-- A round of block k takes more rounds than are left: those of the later blocks, and one.
+pub record TooManyInRound (e : List ℕ) (rows : List (List ℕ)) (k budget : ℕ) : Type 0 where
+  pub over : (ρ τ : Valuation) (q : ℕ) → HoldsRows (sizes_of e).states rows ρ → SolvesFrom e (k + 1) ρ τ q → budget < q + 1
+
+-- The rounds of the later blocks are counted, and one.
+pub record RoundCounted (e : List ℕ) (rows : List (List ℕ)) (k budget budget_after : ℕ) : Type 0 where
+  pub low : budget_after < budget
+  pub counted : (ρ τ : Valuation) (q : ℕ) → HoldsRows (sizes_of e).states rows ρ → SolvesFrom e (k + 1) ρ τ q → budget ≡ budget_after + q + 1
+
+-- The later blocks are solved, and block k's set is its right-hand sides.
+pub record IsStable (e : List ℕ) (rows : List (List ℕ)) (k budget : ℕ) (rows_after : List (List ℕ)) (budget_after : ℕ) : Type 0 where
+  pub round : RoundCounted e rows k budget budget_after
+  pub kept : (ρ τ : Valuation) (q : ℕ) → HoldsRows (sizes_of e).states rows ρ → SolvesFrom e (k + 1) ρ τ q → HoldsRows (sizes_of e).states rows_after τ
+  pub same : (ρ τ : Valuation) (q : ℕ) (w : States) → HoldsRows (sizes_of e).states rows ρ → SolvesFrom e (k + 1) ρ τ q → RightSidesOf e k τ w → w ≡ ρ k
+
+-- Block k's set is replaced by its right-hand sides, which differ from it.
+pub record IsReplaced (e : List ℕ) (rows : List (List ℕ)) (k budget : ℕ) (rows_after : List (List ℕ)) (budget_after : ℕ) : Type 0 where
+  pub round : RoundCounted e rows k budget budget_after
+  pub differs : (ρ τ : Valuation) (q : ℕ) (w : States) → HoldsRows (sizes_of e).states rows ρ → SolvesFrom e (k + 1) ρ τ q → RightSidesOf e k τ w →
       (get_or rows_after k [] ≡ words word_count w) × ¬ (w ≡ ρ k)
 
--- All blocks solved, and all cells worked out: the set of block 0, the working bytes, the rounds and the status afterwards.
-pub record AllSolved (e : List ℕ) (limit : ℕ) (work row : List ℕ) (rounds status : ℕ) : Type 0 where
+-- what is so by how a round ends
+abbrev pub Ended : List ℕ → List (List ℕ) → ℕ → ℕ → Ending → ℕ → Type 0
+Ended e rows k budget (Stable rows_after) budget_after = IsStable e rows k budget rows_after budget_after
+Ended e rows k budget (Replaced rows_after) budget_after = IsReplaced e rows k budget rows_after budget_after
+
+-- One round of block k: the later blocks are solved, a round is counted, and the right-hand sides are compared with the set held.
+pub record Turned (e : List ℕ) (rows : List (List ℕ)) (k budget : ℕ) (work : List ℕ) (answer : Option Ending) (budget_after : ℕ) : Type 0 where
   pub room : length work ≡ (sizes_of e).cells
   pub bits : (i : ℕ) → get_or work i 0 ≤ 1
-  pub over : status ≡ spent → limit < (run e).1
-  pub within : ¬ (status ≡ spent) → (run e).1 ≤ limit
-  pub counted : ¬ (status ≡ spent) → rounds ≡ (run e).1
-  pub first : ¬ (status ≡ spent) → row ≡ words word_count ((run e).0 0)
-  pub values : ¬ (status ≡ spent) → work ≡ map bit (evaluate (cells e) (run e).0)
+  pub answers : MatchOption answer (TooManyInRound e rows k budget) (λ end. Ended e rows k budget end budget_after)
+
+-- What solving all blocks finds, and the working bytes afterwards.
+pub record IsFound (e : List ℕ) (limit : ℕ) (work : List ℕ) (found : Found) : Type 0 where
+  pub within : (run e).1 ≤ limit
+  pub counted : found.rounds ≡ (run e).1
+  pub first : found.row ≡ words word_count ((run e).0 0)
+  pub values : work ≡ map bit (evaluate (cells e) (run e).0)
+
+-- All blocks solved, and all cells worked out: None exactly if the rounds exceed the limit.
+pub record AllSolved (e : List ℕ) (limit : ℕ) (work : List ℕ) (answer : Option Found) : Type 0 where
+  pub room : length work ≡ (sizes_of e).cells
+  pub bits : (i : ℕ) → get_or work i 0 ≤ 1
+  pub answers : MatchOption answer (limit < (run e).1) (IsFound e limit work)

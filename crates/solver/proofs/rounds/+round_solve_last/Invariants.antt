@@ -13,12 +13,12 @@ decreases-round l = 2 * l.left
 abbrev pub decreases-solve_last : goal.decreases-solve_last
 decreases-solve_last l = 2 * l.left + 1
 
-abbrev pub invariant-solve_last-loop-status : goal.invariant-solve_last-loop-status
-invariant-solve_last-loop-status l =
+abbrev pub invariant-solve_last-loop-end : goal.invariant-solve_last-loop-end
+invariant-solve_last-loop-end l =
     (0 < l.left) × (l.left ≤ l.sizes.blocks) × (length l.sets ≡ block_limit) × (length l.initial.work ≡ (sizes_of l.file).cells)
     × Started l.file (l.sizes.blocks - l.left) l.sets
     × Ready l.file l.sizes l.work
-    × Going l.file l.sets (l.sizes.blocks - l.left) l.initial.rounds l.limit l.s l.rounds
+    × Going l.file l.sets (l.sizes.blocks - l.left) l.initial.budget l.s l.budget
 
-abbrev pub decreases-solve_last-loop-status : goal.decreases-solve_last-loop-status
-decreases-solve_last-loop-status l = l.limit - l.rounds
+abbrev pub decreases-solve_last-loop-end : goal.decreases-solve_last-loop-end
+decreases-solve_last-loop-end l = l.budget

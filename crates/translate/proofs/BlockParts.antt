@@ -1,41 +1,28 @@
 -- Laws of the blocks that shapes give, and of their numbers.
-use mathlib.Core.Path.{◌≡◌, refl, ap, ◌∙◌}
-use mathlib.Core.Bool.{Bool, true, false, cond}
-use mathlib.Core.List.{List, [], ◌∷◌, ◌++◌}
+use mathlib.Core.Path.{◌≡◌, refl, sym, ap, ap₂, ◌∙◌}
+use mathlib.Core.Bool.{cond}
+use mathlib.Core.List.{List, [], ◌∷◌, ◌++◌, append_assoc, append-nil}
 use Prim.Native.Nat.{ℕ, ◌+◌, ◌-◌, ◌*◌, ◌≤◌, ◌<◌}
 use native.Mathlib.Numerals.{add-one}
 use native.Mathlib.Omega.{arith}
-use borrow.Author.Tests.{le-leb, lt-leb}
-use lib.Dec.{eqb, leb}
 use lib.ListN.{length, take, drop, length-append}
 use lib.Seq.{take-suc, take-add, length-take-le}
-use Rattle.sets.specs.Words.{bit}
+use Rattle.std.specs.Prelude.{Option, Some, None, is_some, count_by}
+use Rattle.std.proofs.lemmas.List.Sums.{sum_by-cons}
 use Rattle.solver.specs.File.{Block}
 use Rattle.translate.specs.declared.Shape.{Shape}
 use Rattle.translate.specs.Bytes.{block_numbers}
-use Rattle.translate.specs.internal.Shapes.{shape_blocks}
-use Rattle.translate.specs.internal.Parts.{WroteMore}
+use Rattle.translate.specs.internal.Shapes.{shape_sign, shape_block, shape_blocks}
 use Rattle.translate.specs.internal.Sources.{shape_at}
 use Rattle.translate.proofs.NumberBytes.{length_block_numbers}
-use Rattle.translate.proofs.Putting.{wrote_no_more}
-
--- the block that a node of a shape has if it is a binder
-abbrev block_of : ℕ → ℕ → Shape → Block
-block_of n i x = record { sign = eqb x.kind 8; first = (i + 1) * n }
 
 -- the blocks of two lists of shapes follow one another
-cond_append : (b : Bool) (y : Block) (whole left right : List Block) → whole ≡ left ++ right
-    → cond b (y ∷ whole) whole ≡ cond b (y ∷ left) left ++ right
-cond_append true y whole left right e = ap (λ (l : List Block). y ∷ l) e
-cond_append false y whole left right e = e
-
 pub blocks_append : (n i : ℕ) (xs ys : List Shape) → shape_blocks n i (xs ++ ys) ≡ shape_blocks n i xs ++ shape_blocks n (i + length xs) ys
 unfolding shape_blocks
 blocks_append n i [] ys = let e : i ≡ i + 0 = omega arith in ap (λ (j : ℕ). shape_blocks n j ys) e
 blocks_append n i (x ∷ xs) ys =
     let e : i + 1 + length xs ≡ i + length (x ∷ xs) = omega arith in
-    cond_append (leb 7 x.kind) (block_of n i x) _ _ (shape_blocks n (i + length (x ∷ xs)) ys)
-    (blocks_append n (i + 1) xs ys ∙ ap (λ (j : ℕ). shape_blocks n (i + 1) xs ++ shape_blocks n j ys) e)
+    rw (blocks_append n (i + 1) xs ys, e, append_assoc)
 
 -- the numbers of two lists of blocks follow one another
 pub block_numbers_append : (bs cs : List Block) → block_numbers (bs ++ cs) ≡ block_numbers bs ++ block_numbers cs
@@ -43,53 +30,65 @@ unfolding block_numbers
 block_numbers_append [] cs = refl
 block_numbers_append (b ∷ bs) cs = rw (block_numbers_append bs cs)
 
+-- the block of one node
+one_block : (n i : ℕ) (x : Shape) → shape_blocks n i (x ∷ []) ≡ shape_block n i x
+unfolding shape_blocks
+one_block n i x = append-nil (shape_block n i x)
+
 -- a node has one block if it is a binder, and else none
-block_of_binder : (n i : ℕ) (x : Shape) → leb 7 x.kind ≡ true
-    → shape_blocks n i (x ∷ []) ≡ block_of n i x ∷ []
+length_block : (n i : ℕ) (x : Shape) → length (shape_block n i x) ≡ cond (is_some (shape_sign x)) 1 0
+unfolding shape_block
+length_block n i Shape.False = refl
+length_block n i Shape.True = refl
+length_block n i (Shape.And second) = refl
+length_block n i (Shape.Or second) = refl
+length_block n i (Shape.Box labels) = refl
+length_block n i (Shape.Diamond labels) = refl
+length_block n i (Shape.Variable block) = refl
+length_block n i (Shape.Mu block) = refl
+length_block n i (Shape.Nu block) = refl
+
+-- there are as many blocks as shapes with a sign
+pub blocks_counted : (n i : ℕ) (xs : List Shape) → length (shape_blocks n i xs) ≡ count_by (λ x. is_some (shape_sign x)) xs
 unfolding shape_blocks
-block_of_binder n i x e = rw e
+blocks_counted n i [] = refl
+blocks_counted n i (x ∷ xs) =
+    length-append (shape_block n i x) (shape_blocks n (i + 1) xs) ∙ ap₂ ◌+◌ (length_block n i x) (blocks_counted n (i + 1) xs)
+    ∙ sym (sum_by-cons (λ x. cond (is_some (shape_sign x)) 1 0) x xs)
 
-block_of_other : (n i : ℕ) (x : Shape) → leb 7 x.kind ≡ false → shape_blocks n i (x ∷ []) ≡ []
-unfolding shape_blocks
-block_of_other n i x e = rw e
+-- its numbers, where it has a sign, or none
+numbers_by : ℕ → ℕ → Option ℕ → List ℕ
+numbers_by n i (Some sign) = sign ∷ (i + 1) * n ∷ []
+numbers_by n i None = []
 
-length_one : (b : Bool) (y : Block) → length (cond b (y ∷ []) []) ≡ bit b
-length_one true y = refl
-length_one false y = refl
+numbers_of_one : (n i : ℕ) (x : Shape) → block_numbers (shape_blocks n i (x ∷ [])) ≡ numbers_by n i (shape_sign x)
+unfolding shape_block block_numbers numbers_by
+numbers_of_one n i x = ap block_numbers (one_block n i x) ∙ go x
+  where
+    go : (x : Shape) → block_numbers (shape_block n i x) ≡ numbers_by n i (shape_sign x)
+    go Shape.False = refl
+    go Shape.True = refl
+    go (Shape.And second) = refl
+    go (Shape.Or second) = refl
+    go (Shape.Box labels) = refl
+    go (Shape.Diamond labels) = refl
+    go (Shape.Variable block) = refl
+    go (Shape.Mu block) = refl
+    go (Shape.Nu block) = refl
 
-pub blocks_of_one : (n i : ℕ) (x : Shape) → length (shape_blocks n i (x ∷ [])) ≡ bit (leb 7 x.kind)
-unfolding shape_blocks
-blocks_of_one n i x = length_one (leb 7 x.kind) (block_of n i x)
+pub numbers_of_binder : (n i : ℕ) (x : Shape) {sign : ℕ} → Some sign ≡ shape_sign x → block_numbers (shape_blocks n i (x ∷ [])) ≡ sign ∷ (i + 1) * n ∷ []
+unfolding numbers_by
+numbers_of_binder n i x e = numbers_of_one n i x ∙ sym (ap (numbers_by n i) e)
 
--- its numbers
-numbers_of_binder : (n i : ℕ) (x : Shape) → 7 ≤ x.kind → block_numbers (shape_blocks n i (x ∷ [])) ≡ bit (eqb x.kind 8) ∷ (i + 1) * n ∷ []
-unfolding block_numbers
-numbers_of_binder n i x h = rw (block_of_binder n i x (le-leb 7 x.kind h))
-
-numbers_of_other : (n i : ℕ) (x : Shape) → x.kind < 7 → block_numbers (shape_blocks n i (x ∷ [])) ≡ []
-unfolding block_numbers
-numbers_of_other n i x h = rw (block_of_other n i x (lt-leb 7 x.kind h))
-
-pub length_of_binder : (n i : ℕ) (x : Shape) → 7 ≤ x.kind → length (block_numbers (shape_blocks n i (x ∷ []))) ≡ 2
-length_of_binder n i x h = rw (numbers_of_binder n i x h)
-
--- they are written behind `done` others
-pub wrote_block : (n i : ℕ) (x : Shape) {done sign r : ℕ} {s t : List ℕ} → 7 ≤ x.kind → sign ≡ bit (eqb x.kind 8)
-    → WroteMore done (sign ∷ (i + 1) * n ∷ []) s t r → WroteMore done (block_numbers (shape_blocks n i (x ∷ []))) s t r
-wrote_block n i x h e w = rw (numbers_of_binder n i x h, ← e) w
-
-pub wrote_no_block : (n i : ℕ) (x : Shape) (done : ℕ) (s : List ℕ) → x.kind < 7 → WroteMore done (block_numbers (shape_blocks n i (x ∷ []))) s s done
-wrote_no_block n i x done s h = rw (numbers_of_other n i x h) (wrote_no_more done s)
+pub numbers_of_other : (n i : ℕ) (x : Shape) → None ≡ shape_sign x → block_numbers (shape_blocks n i (x ∷ [])) ≡ []
+unfolding numbers_by
+numbers_of_other n i x e = numbers_of_one n i x ∙ sym (ap (numbers_by n i) e)
 
 -- the blocks of the first k shapes
 abbrev pub blocks_to : ℕ → List Shape → ℕ → List Block
 blocks_to n xs k = shape_blocks n 0 (take k xs)
 
 -- of none
-pub count_none : (n : ℕ) (xs : List Shape) → 0 ≡ length (blocks_to n xs 0)
-unfolding shape_blocks
-count_none n xs = refl
-
 pub numbers_none : (n : ℕ) (xs : List Shape) → block_numbers (blocks_to n xs 0) ≡ []
 unfolding shape_blocks block_numbers
 numbers_none n xs = refl
@@ -101,12 +100,6 @@ blocks_more n xs i h =
     let l : 0 + length (take i xs) ≡ i = omega (arith, length-take-le i xs (omega arith)) in
     let e : take (i + 1) xs ≡ take i xs ++ (shape_at xs i ∷ []) = rw add-one (take-suc xs i _ h) in
     rw e (blocks_append n 0 (take i xs) (shape_at xs i ∷ []) ∙ ap (λ (j : ℕ). blocks_to n xs i ++ shape_blocks n j (shape_at xs i ∷ [])) l)
-
-pub count_more : (n : ℕ) (xs : List Shape) (i : ℕ) → i < length xs
-    → length (blocks_to n xs (i + 1)) ≡ length (blocks_to n xs i) + bit (leb 7 (shape_at xs i).kind)
-count_more n xs i h =
-    ap length (blocks_more n xs i h) ∙ length-append (blocks_to n xs i) (shape_blocks n i (shape_at xs i ∷ []))
-    ∙ ap (λ (r : ℕ). length (blocks_to n xs i) + r) (blocks_of_one n i (shape_at xs i))
 
 pub numbers_more : (n : ℕ) (xs : List Shape) (i : ℕ) → i < length xs
     → block_numbers (blocks_to n xs (i + 1)) ≡ block_numbers (blocks_to n xs i) ++ block_numbers (shape_blocks n i (shape_at xs i ∷ []))

@@ -30,7 +30,8 @@ use Rattle.cases.proofs.ModelRules.{labels_inside, transitions_inside, actions_i
 use Rattle.translate.specs.declared.Shape.{Shape}
 use Rattle.translate.specs.Whole.{whole, block_in}
 use Rattle.translate.specs.Bytes.{System, system_of, all_operands}
-use Rattle.translate.specs.internal.Shapes.{shapes_from, shape_in, table_shapes}
+use Rattle.translate.specs.internal.Writing.{second_of}
+use Rattle.translate.specs.internal.Shapes.{shapes_from, shape_by, shape_in, table_shapes}
 use Rattle.translate.specs.internal.Parts.{distinct_in}
 use Rattle.translate.specs.internal.Sources.{shape_system, shape_at, Sources}
 use Rattle.translate.specs.internal.Tabled.{Tables, HoldsShapes}
@@ -68,53 +69,45 @@ unfolding table_shapes
 length_table_shapes action t = go (is_binder (node_at t 0))
   where
     go : (r : Bool) → length (cond r (map (shape_in action t 0) (numbers_from 0 (length t)))
-        (record { kind = 8; second = 0; block = 0; labels = 0 } ∷ map (shape_in action t 1) (numbers_from 0 (length t)))) ≡ cond r 0 1 + length t
+        (Shape.Nu 0 ∷ map (shape_in action t 1) (numbers_from 0 (length t)))) ≡ cond r 0 1 + length t
     go true = omega (arith, length_table (shape_in action t 0) (length t))
     go false = omega (arith, length_table (shape_in action t 1) (length t))
 
--- a shape of a known kind, whose second operand, a node number, is within the limit
-record Fine (x : Shape) : Type 0 where
-  known : x.kind ≤ 8
-  second : x.second ≤ node_limit
-
 -- a second operand is within the limit: only the kinds with two operands, and and or, have one
-second_small : (next k : ℕ) → k ≤ 8 → (get_or formula_arities k 0 ≡ 2 → next ≤ node_limit) → cond (eqb k 2 || eqb k 3) next 0 ≤ node_limit
-second_small next =
-    each_kind (λ k. (get_or formula_arities k 0 ≡ 2 → next ≤ node_limit) → cond (eqb k 2 || eqb k 3) next 0 ≤ node_limit)
+second_small : (next labels bound own k : ℕ) → k ≤ 8 → (get_or formula_arities k 0 ≡ 2 → next ≤ node_limit) → second_of (shape_by next labels bound own k) ≤ node_limit
+second_small next labels bound own =
+    each_kind (λ k. (get_or formula_arities k 0 ≡ 2 → next ≤ node_limit) → second_of (shape_by next labels bound own k) ≤ node_limit)
     (λ h. omega arith) (λ h. omega arith) (λ h. h refl) (λ h. h refl) (λ h. omega arith) (λ h. omega arith) (λ h. omega arith)
     (λ h. omega arith) (λ h. omega arith)
 
 module _ (action : ℕ → Action) (t : List Node) (table : FormulaTable t) (few : length t ≤ node_limit) where
-  -- the shape of a node
-  shape_fine : (added : ℕ) → added ≤ 1 → (i : ℕ) → i < length t → Fine (shape_in action t added i)
+  -- the second operand of a node
+  shape_fine : (added : ℕ) → added ≤ 1 → (i : ℕ) → i < length t → second_of (shape_in action t added i) ≤ node_limit
   unfolding shape_in
   shape_fine added l i h =
       let ks : List ℕ = map (arity_in formula_arities) t in
       let long : length ks ≡ length t = length-map t (arity_in formula_arities) in
       let inside : i < length ks = omega arith in
-      record {
-        known = table.kinds i h;
-        second = second_small (end_of ks (i + 1) + added) (node_at t i).kind (table.kinds i h)
-            (λ two. omega (arith, second_node 1 ks (exactly_whole 1 ks table.whole) i inside (arity_at formula_arities t i h ∙ two)));
-      }
+      second_small _ _ _ _ (node_at t i).kind (table.kinds i h)
+      (λ two. omega (arith, second_node 1 ks (exactly_whole 1 ks table.whole) i inside (arity_at formula_arities t i h ∙ two)))
 
   -- and of every node, with the nu that is put before the root
-  shapes_fine : (i : ℕ) → i < length (table_shapes action t) → Fine (shape_at (table_shapes action t) i)
+  shapes_fine : (i : ℕ) → i < length (table_shapes action t) → second_of (shape_at (table_shapes action t) i) ≤ node_limit
   unfolding table_shapes
   shapes_fine = go (is_binder (node_at t 0))
     where
       rows : ℕ → List Shape
       rows added = map (shape_in action t added) (numbers_from 0 (length t))
 
-      row_fine : (added : ℕ) → added ≤ 1 → (i : ℕ) → i < length (rows added) → Fine (shape_at (rows added) i)
+      row_fine : (added : ℕ) → added ≤ 1 → (i : ℕ) → i < length (rows added) → second_of (shape_at (rows added) i) ≤ node_limit
       row_fine added l i h =
           let inside : i < length t = omega (arith, length_table (shape_in action t added) (length t)) in
           rw (table_at (shape_in action t added) (length t) i _ inside) (shape_fine added l i inside)
 
-      go : (r : Bool) (i : ℕ) → i < length (cond r (rows 0) (record { kind = 8; second = 0; block = 0; labels = 0 } ∷ rows 1))
-          → Fine (shape_at (cond r (rows 0) (record { kind = 8; second = 0; block = 0; labels = 0 } ∷ rows 1)) i)
+      go : (r : Bool) (i : ℕ) → i < length (cond r (rows 0) (Shape.Nu 0 ∷ rows 1))
+          → second_of (shape_at (cond r (rows 0) (Shape.Nu 0 ∷ rows 1)) i) ≤ node_limit
       go true i h = row_fine 0 (omega arith) i h
-      go false zero h = record { known = omega arith; second = omega arith }
+      go false zero h = omega arith
       go false (suc i) h = row_fine 1 (omega arith) i (omega arith)
 
 module _ (b : List ℕ) (accepted : Accepted b) where
@@ -233,8 +226,8 @@ module _ (b : List ℕ) (accepted : Accepted b) where
     pub system_of_lem : shape_system (header_of b).states (header_of b).initial (distinct_in (transition_part b) first (header_of b).transitions) (take k shapes) ≡ system_of (case_of b)
     system_of_lem = rw (transitions_same, shapes_taken, ← shapes_of_table) system_of_shapes
 
-    -- a shape of the array is one of the table
-    shape_known : (i : ℕ) → i < k → Fine (shape_at shapes i)
+    -- a shape of the array is one of the table, so its second operand is within the limit
+    shape_known : (i : ℕ) → i < k → second_of (shape_at shapes i) ≤ node_limit
     shape_known i h =
         let inside : i < length (table_shapes action table) = omega (arith, shape_count) in
         let few : length table ≤ node_limit = omega (arith, length_formula b, good.lies.counts.few_nodes) in
@@ -254,8 +247,7 @@ module _ (b : List ℕ) (accepted : Accepted b) where
           held = omega (arith, holds_shapes.long);
           few_nodes = few;
           few_states = l.counts.few_states;
-          known = λ i h. (shape_known i h).known;
-          second = λ i h. (shape_known i h).second;
+          second = shape_known;
           few_operands = omega (arith, operands, operands_high (case_of b) (fit b accepted));
         }
       where

@@ -7,13 +7,15 @@ use native.Mathlib.Omega.{arith}
 use native.Mathlib.Nat.{mul-le-mul}
 use lib.Dec.{ltb}
 use lib.ListN.{length, take, drop, length-append}
+use lib.Seq.{length-take-le}
 use borrow.Author.Tests.{lt-ltb, le-ltb}
 use Rattle.cases.specs.declared.Transition.{Transition}
 use Rattle.translate.specs.declared.Shape.{Shape}
 use Rattle.translate.specs.declared.Cause.TheVariants.{Memory}
-use Rattle.std.specs.Prelude.{Ok, Err}
+use Rattle.std.specs.Prelude.{Ok, Err, is_some, count_by}
+use Rattle.std.proofs.lemmas.List.Sums.{count_by-le-length}
 use Rattle.translate.specs.Bytes.{System, all_operands, block_numbers, cell_numbers, numbers, bytes}
-use Rattle.translate.specs.internal.Shapes.{shape_blocks, shape_cells}
+use Rattle.translate.specs.internal.Shapes.{shape_sign, shape_blocks, shape_cells}
 use Rattle.translate.specs.internal.Parts.{Wrote, WroteAt, WroteAll, WroteCells, distinct_in}
 use Rattle.solver.specs.File.{cell_limit, blocks_at}
 use Rattle.translate.specs.internal.Sources.{Sources, RoomFor, shape_system, Emitted}
@@ -21,6 +23,7 @@ use Rattle.translate.proofs.NumberBytes.{length_bytes, length_block_numbers, len
 use Rattle.translate.proofs.Putting.{wrote_lent, wrote_more}
 use Rattle.translate.proofs.ReadBack.{length_file}
 use Rattle.translate.proofs.NodeParts.{length_cells_to}
+use Rattle.translate.proofs.BlockParts.{blocks_counted}
 
 -- the header of a file of some equations
 abbrev header : ℕ → ℕ → ℕ → ℕ → ℕ → List ℕ
@@ -69,21 +72,21 @@ module _ {part first : List ℕ} {m : ℕ} {shapes : List Shape} {k n : ℕ} (sr
   cells_few = mul-le-mul src.few_nodes src.few_states
 
   -- counted sizes are those of the equations
-  pub sizes : (initial : ℕ) {d p room : ℕ} → d ≡ length (shape_blocks n 0 (take k shapes)) → d ≤ k → p ≡ length (all_operands (shape_cells n ts 0 (take k shapes)))
+  pub sizes : (initial : ℕ) {d p room : ℕ} → d ≡ count_by (λ x. is_some (shape_sign x)) (take k shapes) → p ≡ length (all_operands (shape_cells n ts 0 (take k shapes)))
       → blocks_at + 8 * d + 12 * (k * n) + 4 * p ≤ room → RoomFor (shape_system n initial ts (take k shapes)) (k * n) d p room
   unfolding shape_system
-  sizes initial b l o r = record {
-    blocks = b;
+  sizes initial b o r = record {
+    blocks = b ∙ sym (blocks_counted n 0 (take k shapes));
     cells = sym (length_cells_to n ts shapes k src.held);
     operands = o;
-    few_blocks = omega (arith, l, src.few_nodes);
+    few_blocks = omega (arith, b, count_by-le-length (λ x. is_some (shape_sign x)) (take k shapes), length-take-le k shapes src.held, src.few_nodes);
     roomy = r;
   }
 
   -- in a buffer that has just room
-  pub sizes_just : (initial : ℕ) {d p : ℕ} → d ≡ length (shape_blocks n 0 (take k shapes)) → d ≤ k → p ≡ length (all_operands (shape_cells n ts 0 (take k shapes)))
+  pub sizes_just : (initial : ℕ) {d p : ℕ} → d ≡ count_by (λ x. is_some (shape_sign x)) (take k shapes) → p ≡ length (all_operands (shape_cells n ts 0 (take k shapes)))
       → RoomFor (shape_system n initial ts (take k shapes)) (k * n) d p (blocks_at + 8 * d + 12 * (k * n) + 4 * p)
-  sizes_just initial b l o = sizes initial b l o (omega arith)
+  sizes_just initial b o = sizes initial b o (omega arith)
 
   module _ (initial : ℕ) {d p room : ℕ} (sized : RoomFor (shape_system n initial ts (take k shapes)) (k * n) d p room) where
     pub blocks_are : d ≡ length (shape_blocks n 0 (take k shapes))

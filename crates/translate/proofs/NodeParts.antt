@@ -50,7 +50,7 @@ module _ (n : ℕ) (ts : List Transition) where
   pub cells_more : (xs : List Shape) (i : ℕ) → i < length xs → cells_to xs (i + 1) ≡ cells_to xs i ++ row (shape_at xs i) i
   cells_more xs i h =
       let x : Shape = shape_at xs i in
-      let next : take (i + 1) xs ≡ take i xs ++ (x ∷ []) = rw add-one (take-suc xs i (record { kind = 0; second = 0; block = 0; labels = 0 }) h) in
+      let next : take (i + 1) xs ≡ take i xs ++ (x ∷ []) = rw add-one (take-suc xs i Shape.False h) in
       let l : 0 + length (take i xs) ≡ i = omega (arith, length-take-le i xs (omega arith)) in
       ap (shape_cells n ts 0) next ∙ cells_append 0 (take i xs) (x ∷ [])
       ∙ ap (λ (j : ℕ). cells_to xs i ++ shape_cells n ts j (x ∷ [])) l ∙ ap (λ (cs : List Cell). cells_to xs i ++ cs) (cells_of_one x i)

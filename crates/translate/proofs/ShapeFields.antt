@@ -4,9 +4,8 @@ use mathlib.Core.Bool.{Bool, true, false, cond, ◌||◌}
 use mathlib.Core.List.{List, [], ◌∷◌, ◌++◌, map, append_assoc}
 use Prim.Native.Nat.{ℕ, zero, suc, ◌+◌, ◌<◌, ◌≤◌}
 use native.Mathlib.Omega.{arith}
-use borrow.Author.Tests.{eq-eqb, ne_eqb}
 use lib.Dec.{eqb}
-use lib.ListN.{length, take, drop, set, replicate, length-append, length-replicate, length-set, length-map, length-drop}
+use lib.ListN.{length, get_or-eq_default, take, drop, set, replicate, length-append, length-replicate, length-set, length-map, length-drop}
 use lib.Seq.{take-suc-set}
 use Rattle.sets.specs.Lists.{numbers_from}
 use Rattle.sets.proofs.Lists.{length_table}
@@ -22,12 +21,12 @@ use Rattle.cases.proofs.Copies.{take_map_range}
 use Rattle.cases.proofs.Spans.{span_length}
 use Rattle.cases.proofs.PrefixRules.{node_in_lem}
 use Rattle.translate.specs.declared.Shape.{Shape}
-use Rattle.translate.specs.internal.Shapes.{shape_in, table_shapes}
+use Rattle.translate.specs.internal.Shapes.{shape_by, shape_in, table_shapes}
 use Rattle.translate.specs.internal.Tabled.{CountableBlocks, Tables}
 use Rattle.translate.proofs.ShapeLaws.{map_range_more}
 
 -- the first j nodes of a part's f nodes
-take_nodes : (part : List ℕ) (j f : ℕ) → j ≤ f → take j (nodes_in part f) ≡ nodes_in part j
+pub take_nodes : (part : List ℕ) (j f : ℕ) → j ≤ f → take j (nodes_in part f) ≡ nodes_in part j
 unfolding nodes_in
 take_nodes part j f h = take_map_range (node_in part) 0 j f h
 
@@ -46,68 +45,27 @@ module _ (part : List ℕ) (f i : ℕ) (h : i < f) (x : Node) (e : x ≡ node_in
   pub variable_arg : CountableBlocks part f → x.kind ≡ 6 → x.arg ≤ f
   variable_arg t = rw node_read at (t.variable i h)
 
-  pub modal_arg : (masks : List ℕ) (a : ℕ) → Tables masks a part f → (b : Bool) → b ≡ (eqb x.kind 4 || eqb x.kind 5) → b ≡ true → x.arg < a
-  modal_arg masks a t b p q = (rw node_read at (t.modal i h)) (sym p ∙ q)
+  pub modal_arg : (masks : List ℕ) (a : ℕ) → Tables masks a part f → (eqb x.kind 4 || eqb x.kind 5) ≡ true → x.arg < a
+  modal_arg masks a t p = (rw node_read at (t.modal i h)) p
 
-  module _ (action : ℕ → Action) (added : ℕ) where
-    abbrev here : Shape
-    here = shape_in action (nodes_in part f) added i
+  -- the shape of node i by its kind
+  pub shape_read : (action : ℕ → Action) (added k : ℕ) → x.kind ≡ k
+      → shape_by (end_of (map (arity_in formula_arities) (nodes_in part f)) (i + 1) + added) (mask_of (action x.arg))
+      (binder_count (take x.arg (nodes_in part f)) + added) (binder_count (take i (nodes_in part f)) + added) k
+      ≡ shape_in action (nodes_in part f) added i
+  unfolding shape_in
+  shape_read action added k e = rw (node_read, ← e)
 
-    pub kind_read : x.kind ≡ here.kind
-    unfolding shape_in
-    kind_read = rw node_read
-
-    -- and, or; any other kind
-    pub second_there : (b : Bool) → b ≡ (eqb x.kind 2 || eqb x.kind 3) → b ≡ true
-        → (r : ℕ) → r ≡ end_of (map (arity_in formula_arities) (nodes_in part f)) (i + 1) → r + added ≡ here.second
-    unfolding shape_in
-    second_there b p q r s =
-        let t : (eqb x.kind 2 || eqb x.kind 3) ≡ true = sym p ∙ q in
-        rw (node_read, t, s)
-
-    pub second_none : (b : Bool) → b ≡ (eqb x.kind 2 || eqb x.kind 3) → b ≡ false → 0 ≡ here.second
-    unfolding shape_in
-    second_none b p q =
-        let t : (eqb x.kind 2 || eqb x.kind 3) ≡ false = sym p ∙ q in
-        rw (node_read, t)
-
-    -- a variable has the block of its binder
-    pub block_variable : x.kind ≡ 6 → x.arg ≤ f → (r : ℕ) → r ≡ binder_count (nodes_in part x.arg) → r + added ≡ here.block
-    unfolding shape_in
-    block_variable k l r s = rw (node_read, eq-eqb x.kind 6 k, take_nodes part x.arg f l, s)
-
-    -- a binder has its own; any other kind none
-    pub block_binder : (x.kind ≡ 6 → ⊥) → (b : Bool) → b ≡ is_binder x → b ≡ true → (r : ℕ) → r ≡ binder_count (nodes_in part i) → r + added ≡ here.block
-    unfolding shape_in
-    block_binder k b p q r s =
-        let t : is_binder x ≡ true = sym p ∙ q in
-        let l : i ≤ f = omega arith in
-        rw (node_read, ne_eqb x.kind 6 k, t, take_nodes part i f l, s)
-
-    pub block_none : (x.kind ≡ 6 → ⊥) → (b : Bool) → b ≡ is_binder x → b ≡ false → 0 ≡ here.block
-    unfolding shape_in
-    block_none k b p q =
-        let t : is_binder x ≡ false = sym p ∙ q in
-        rw (node_read, ne_eqb x.kind 6 k, t)
-
-    -- box, diamond; any other kind
-    pub labels_there : (b : Bool) → b ≡ (eqb x.kind 4 || eqb x.kind 5) → b ≡ true
-        → (r : ℕ) → r ≡ mask_of (action x.arg) → r ≡ here.labels
-    unfolding shape_in
-    labels_there b p q r s =
-        let t : (eqb x.kind 4 || eqb x.kind 5) ≡ true = sym p ∙ q in
-        rw (node_read, t) s
-
-    pub labels_none : (b : Bool) → b ≡ (eqb x.kind 4 || eqb x.kind 5) → b ≡ false → 0 ≡ here.labels
-    unfolding shape_in
-    labels_none b p q =
-        let t : (eqb x.kind 4 || eqb x.kind 5) ≡ false = sym p ∙ q in
-        rw (node_read, t)
-
--- a shape by its fields
-pub by_fields : (k s b l : ℕ) (y : Shape) → k ≡ y.kind → s ≡ y.second → b ≡ y.block → l ≡ y.labels
-    → record { kind = k; second = s; block = b; labels = l } ≡ y
-by_fields k s b l y p q t u = rw (p, q, t, u)
+  -- where it is none of the first eight, it is a nu
+  pub shape_last : (action : ℕ → Action) (added : ℕ) → 8 ≤ x.kind
+      → Shape.Nu (binder_count (take i (nodes_in part f)) + added) ≡ shape_in action (nodes_in part f) added i
+  shape_last action added l =
+      let own : ℕ = binder_count (take i (nodes_in part f)) + added in
+      let others : List Shape =
+      Shape.False ∷ Shape.True ∷ Shape.And (end_of (map (arity_in formula_arities) (nodes_in part f)) (i + 1) + added)
+      ∷ Shape.Or (end_of (map (arity_in formula_arities) (nodes_in part f)) (i + 1) + added) ∷ Shape.Box (mask_of (action x.arg)) ∷ Shape.Diamond (mask_of (action x.arg))
+      ∷ Shape.Variable (binder_count (take x.arg (nodes_in part f)) + added) ∷ Shape.Mu own ∷ [] in
+      sym (get_or-eq_default others (Shape.Nu own) {n = x.kind} l) ∙ shape_read action added x.kind refl
 
 -- ---- the shapes of all nodes
 
@@ -118,7 +76,7 @@ root_added part f h x e b p = rw (node_read part f 0 h x e) (ap (λ (t : Bool). 
 
 -- the nu that is put before a root
 abbrev pub nu : Shape
-nu = record { kind = 8; second = 0; block = 0; labels = 0 }
+nu = Shape.Nu 0
 
 module _ (action : ℕ → Action) (table : List Node) (added : ℕ) where
   -- the nodes that are put before the root, and the first i nodes

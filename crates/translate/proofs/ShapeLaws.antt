@@ -1,5 +1,6 @@
 -- The cell of a formula's shape is the formula's cell, where all labels have a bit in the mask.
 use mathlib.Core.Path.{◌≡◌, refl, sym, ap, ◌∙◌}
+use mathlib.Core.Logic.{◌⊎◌, inl, inr}
 use mathlib.Core.Bool.{Bool, true, false, cond, ◌&&◌, ◌||◌}
 use mathlib.Core.List.{List, [], ◌∷◌, ◌++◌, map, map-append, append_assoc, append-nil}
 use Prim.Native.Nat.{ℕ, zero, suc, ◌+◌, ◌-◌, ◌*◌, ◌/◌, ◌%◌, ◌^◌, ◌<◌, ◌≤◌}
@@ -54,7 +55,7 @@ module _ (n : ℕ) (ts : List Transition) (low : T (every (λ t. ltb t.label lab
       (λ t l. ap (λ (b : Bool). eqb t.source s && b) (mask_bit α t.label (ltb→lt _ _ l))) ts low
 
   pub shape_cell_lem : (a : Formula) (i s : ℕ) → shape_cell n ts (shape_of block a i) i s ≡ cell_of n ts block a i s
-  unfolding shape_cell shape_of shape_kind shape_operands cell_of targets
+  unfolding shape_cell shape_of cell_of targets
   shape_cell_lem False i s = refl
   shape_cell_lem True i s = refl
   shape_cell_lem (And a b) i s = refl
@@ -243,98 +244,77 @@ wrote_cells_on {used} {next} {r} {at} {cs} {ds} {s} {t} {u} e p q =
 
 -- The cell of a shape at node i in state s.
 module _ (n : ℕ) (ts : List Transition) (x : Shape) (i s : ℕ) where
-  -- the kind of a cell is at most 2
-  kind_small : (k : ℕ) → shape_kind k ≤ 2
-  unfolding shape_kind
-  kind_small zero = omega arith
-  kind_small (suc zero) = omega arith
-  kind_small (suc (suc zero)) = omega arith
-  kind_small (suc (suc (suc zero))) = omega arith
-  kind_small (suc (suc (suc (suc zero)))) = omega arith
-  kind_small (suc (suc (suc (suc (suc zero))))) = omega arith
-  kind_small (suc (suc (suc (suc (suc (suc zero)))))) = omega arith
-  kind_small (suc (suc (suc (suc (suc (suc (suc zero))))))) = omega arith
-  kind_small (suc (suc (suc (suc (suc (suc (suc (suc zero)))))))) = omega arith
-  kind_small (suc (suc (suc (suc (suc (suc (suc (suc (suc k))))))))) = omega arith
-
-  -- a cell by its kind
-  abbrev cell_by : ℕ → List ℕ → Cell
-  cell_by k os = cond (eqb k 2) (Cell.Variable x.block s) (cond (eqb k 0) (Cell.And os) (Cell.Or os))
-
-  -- operands by the kind of the node
-  abbrev operands_by : ℕ → List ℕ → List ℕ → List ℕ
-  operands_by k two many = cond (eqb k 2 || eqb k 3) two (cond (eqb k 4 || eqb k 5) many [])
-
   -- a variable's cell is written
-  pub wrote_variable : {used at k : ℕ} {before after : List ℕ} → k ≡ shape_kind x.kind → k ≡ 2
-      → WroteAt at (2 ∷ x.block ∷ s ∷ []) before after → WroteCellsAt at used (shape_cell n ts x i s ∷ []) before after used
-  unfolding shape_cell cell_numbers all_operands operands_of
-  wrote_variable is h w = rw (← is, h) (record { wrote = w; count = sym (add-zero _) })
+  variable_cell : {block : ℕ} → (x ≡ Shape.Variable block) ⊎ ((x ≡ Shape.Mu block) ⊎ (x ≡ Shape.Nu block)) → shape_cell n ts x i s ≡ Cell.Variable block s
+  unfolding shape_cell
+  variable_cell (inl e) = rw e
+  variable_cell (inr (inl e)) = rw e
+  variable_cell (inr (inr e)) = rw e
+
+  pub wrote_variable : {used at block : ℕ} {before after : List ℕ} → (x ≡ Shape.Variable block) ⊎ ((x ≡ Shape.Mu block) ⊎ (x ≡ Shape.Nu block))
+      → WroteAt at (2 ∷ block ∷ s ∷ []) before after → WroteCellsAt at used (shape_cell n ts x i s ∷ []) before after used
+  unfolding cell_numbers all_operands operands_of
+  wrote_variable is w = rw (variable_cell is) (record { wrote = w; count = sym (add-zero _) })
 
   -- a list's cell is written
-  pub wrote_list : {used at k count : ℕ} {before after : List ℕ} → k ≡ shape_kind x.kind → ¬ (k ≡ 2) → count ≡ length (shape_operands n ts x i s)
-      → WroteAt at (k ∷ used ∷ count ∷ []) before after → WroteCellsAt at used (shape_cell n ts x i s ∷ []) before after (used + count)
+  pub wrote_list : {used at count : ℕ} {before after : List ℕ} → ((k : ℕ) → ¬ (x ≡ Shape.Variable k)) → ((k : ℕ) → ¬ (x ≡ Shape.Mu k)) → ((k : ℕ) → ¬ (x ≡ Shape.Nu k))
+      → count ≡ length (shape_operands n ts x i s)
+      → WroteAt at (shape_kind x ∷ used ∷ count ∷ []) before after → WroteCellsAt at used (shape_cell n ts x i s ∷ []) before after (used + count)
   unfolding shape_cell cell_numbers all_operands operands_of
-  wrote_list {used} {at} {k} {count} {before} {after} is h e w =
-      rw (← is) (go k (omega (arith, kind_small x.kind)) h (shape_operands n ts x i s) e w)
+  wrote_list {used} {at} {count} {before} {after} no_variable no_mu no_nu = go x refl
     where
-      go : (k : ℕ) → k ≤ 2 → ¬ (k ≡ 2) → (os : List ℕ) → count ≡ length os → WroteAt at (k ∷ used ∷ count ∷ []) before after
-          → WroteCellsAt at used (cell_by k os ∷ []) before after (used + count)
-      go zero l h os e w = record { wrote = rw e at w; count = ap (λ (c : ℕ). used + c) (e ∙ ap length (sym (append-nil os))) }
-      go (suc zero) l h os e w = record { wrote = rw e at w; count = ap (λ (c : ℕ). used + c) (e ∙ ap length (sym (append-nil os))) }
-      go (suc (suc k)) l h os e w = absurd (h (omega arith))
+      by_and : (os : List ℕ) → count ≡ length os → WroteAt at (0 ∷ used ∷ count ∷ []) before after → WroteCellsAt at used (Cell.And os ∷ []) before after (used + count)
+      by_and os e w = record { wrote = rw e at w; count = ap (λ (c : ℕ). used + c) (e ∙ ap length (sym (append-nil os))) }
 
-  -- the operands of the cell are those of the shape
-  pub operands_shape : operands_of (shape_cell n ts x i s) ≡ shape_operands n ts x i s
-  unfolding shape_cell shape_operands shape_kind operands_of
-  operands_shape = go x.kind _ _
+      by_or : (os : List ℕ) → count ≡ length os → WroteAt at (1 ∷ used ∷ count ∷ []) before after → WroteCellsAt at used (Cell.Or os ∷ []) before after (used + count)
+      by_or os e w = record { wrote = rw e at w; count = ap (λ (c : ℕ). used + c) (e ∙ ap length (sym (append-nil os))) }
+
+      go : (y : Shape) → x ≡ y → count ≡ length (shape_operands n ts y i s)
+          → WroteAt at (shape_kind y ∷ used ∷ count ∷ []) before after → WroteCellsAt at used (shape_cell n ts y i s ∷ []) before after (used + count)
+      go Shape.False is e w = by_or _ e w
+      go Shape.True is e w = by_and _ e w
+      go (Shape.And second) is e w = by_and _ e w
+      go (Shape.Or second) is e w = by_or _ e w
+      go (Shape.Box labels) is e w = by_and _ e w
+      go (Shape.Diamond labels) is e w = by_or _ e w
+      go (Shape.Variable block) is e w = absurd (no_variable block is)
+      go (Shape.Mu block) is e w = absurd (no_mu block is)
+      go (Shape.Nu block) is e w = absurd (no_nu block is)
+
+  -- the operands of an and or an or, of a box or a diamond, and of the others
+  pub operands_pair : {second : ℕ} → (x ≡ Shape.And second) ⊎ (x ≡ Shape.Or second) → shape_operands n ts x i s ≡ ((i + 1) * n + s) ∷ (second * n + s) ∷ []
+  unfolding shape_cell operands_of
+  operands_pair (inl e) = rw e
+  operands_pair (inr e) = rw e
+
+  pub pair_count : ((k : ℕ) × (x ≡ Shape.And k)) ⊎ ((k : ℕ) × (x ≡ Shape.Or k)) → 2 ≡ length (shape_operands n ts x i s)
+  pair_count (inl e) = rw (operands_pair (inl e.1))
+  pair_count (inr e) = rw (operands_pair (inr e.1))
+
+  pub operands_modal : {labels : ℕ} → (x ≡ Shape.Box labels) ⊎ (x ≡ Shape.Diamond labels)
+      → shape_operands n ts x i s ≡ target_cells ((i + 1) * n) (keep (leaves s labels) ts)
+  unfolding shape_cell operands_of target_cells
+  operands_modal (inl e) = rw e
+  operands_modal (inr e) = rw e
+
+  pub modal_count : {labels : ℕ} → (x ≡ Shape.Box labels) ⊎ (x ≡ Shape.Diamond labels) → length (keep (leaves s labels) ts) ≡ length (shape_operands n ts x i s)
+  modal_count e = rw (operands_modal e) (sym (length_targets ((i + 1) * n) _))
+
+  pub operands_none : ((k : ℕ) → ¬ (x ≡ Shape.And k)) → ((k : ℕ) → ¬ (x ≡ Shape.Or k)) → ((k : ℕ) → ¬ (x ≡ Shape.Box k)) → ((k : ℕ) → ¬ (x ≡ Shape.Diamond k))
+      → shape_operands n ts x i s ≡ []
+  unfolding shape_cell operands_of
+  operands_none no_and no_or no_box no_diamond = go x refl
     where
-      go : (k : ℕ) (two many : List ℕ) → operands_of (cell_by (shape_kind k) (operands_by k two many)) ≡ operands_by k two many
-      go zero two many = refl
-      go (suc zero) two many = refl
-      go (suc (suc zero)) two many = refl
-      go (suc (suc (suc zero))) two many = refl
-      go (suc (suc (suc (suc zero)))) two many = refl
-      go (suc (suc (suc (suc (suc zero))))) two many = refl
-      go (suc (suc (suc (suc (suc (suc zero)))))) two many = refl
-      go (suc (suc (suc (suc (suc (suc (suc zero))))))) two many = refl
-      go (suc (suc (suc (suc (suc (suc (suc (suc zero)))))))) two many = refl
-      go (suc (suc (suc (suc (suc (suc (suc (suc (suc k))))))))) two many = refl
-
-  -- The operands of an and or an or, of a box or a diamond, and of the others: b and d are the answers to the tests of the kind.
-  module _ {b : Bool} (is_pair : b ≡ (eqb x.kind 2 || eqb x.kind 3)) where
-    operands_pair : b ≡ true → shape_operands n ts x i s ≡ ((i + 1) * n + s) ∷ (x.second * n + s) ∷ []
-    unfolding shape_operands
-    operands_pair h = rw (← is_pair, h)
-
-    pub pair_count : b ≡ true → 2 ≡ length (shape_operands n ts x i s)
-    pair_count h = rw (operands_pair h)
-
-    pub wrote_pair : b ≡ true → {low high done r : ℕ} {before after : List ℕ} → low ≡ (i + 1) * n → high ≡ x.second * n
-        → WroteMore done ((low + s) ∷ (high + s) ∷ []) before after r → WroteMore done (shape_operands n ts x i s) before after r
-    wrote_pair h p q w = rw (operands_pair h, ← p, ← q) w
-
-    module _ {d : Bool} (is_modal : d ≡ (eqb x.kind 4 || eqb x.kind 5)) (no_pair : b ≡ false) where
-      operands_modal : d ≡ true → shape_operands n ts x i s ≡ target_cells ((i + 1) * n) (keep (leaves s x.labels) ts)
-      unfolding shape_operands target_cells
-      operands_modal h = rw (← is_pair, no_pair, ← is_modal, h)
-
-      pub modal_count : d ≡ true → length (keep (leaves s x.labels) ts) ≡ length (shape_operands n ts x i s)
-      modal_count h = rw (operands_modal h) (sym (length_targets ((i + 1) * n) (keep (leaves s x.labels) ts)))
-
-      pub wrote_modal : d ≡ true → {low done r : ℕ} {before after : List ℕ} → low ≡ (i + 1) * n
-          → WroteMore done (target_cells low (keep (leaves s x.labels) ts)) before after r → WroteMore done (shape_operands n ts x i s) before after r
-      wrote_modal h p w = rw (operands_modal h, ← p) w
-
-      operands_none : d ≡ false → shape_operands n ts x i s ≡ []
-      unfolding shape_operands
-      operands_none h = rw (← is_pair, no_pair, ← is_modal, h)
-
-      pub none_count : d ≡ false → 0 ≡ length (shape_operands n ts x i s)
-      none_count h = rw (operands_none h)
-
-      pub wrote_still : d ≡ false → (done : ℕ) (before : List ℕ) → WroteMore done (shape_operands n ts x i s) before before done
-      wrote_still h done before = rw (operands_none h) (wrote_no_more done before)
+      go : (y : Shape) → x ≡ y → shape_operands n ts y i s ≡ []
+      go Shape.False is = refl
+      go Shape.True is = refl
+      go (Shape.And second) is = absurd (no_and second is)
+      go (Shape.Or second) is = absurd (no_or second is)
+      go (Shape.Box labels) is = absurd (no_box labels is)
+      go (Shape.Diamond labels) is = absurd (no_diamond labels is)
+      go (Shape.Variable block) is = refl
+      go (Shape.Mu block) is = refl
+      go (Shape.Nu block) is = refl
 
 -- The cells of a node, state by state.
 module _ (n : ℕ) (ts : List Transition) (x : Shape) (i : ℕ) where
@@ -346,7 +326,7 @@ module _ (n : ℕ) (ts : List Transition) (x : Shape) (i : ℕ) where
   row_operands s =
       ap all_operands (map_range_more (shape_cell n ts x i) s)
       ∙ operands_append (row s) (shape_cell n ts x i s ∷ [])
-      ∙ ap (λ (l : List ℕ). all_operands (row s) ++ l) (operands_one (shape_cell n ts x i s) ∙ operands_shape n ts x i s)
+      ∙ ap (λ (l : List ℕ). all_operands (row s) ++ l) (operands_one (shape_cell n ts x i s))
 
   -- no cell is written
   pub wrote_no_cells : (used : ℕ) (before : List ℕ) → WroteCells used (row 0) before before used

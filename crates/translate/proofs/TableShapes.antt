@@ -8,7 +8,7 @@ use native.Mathlib.Numerals.{add-one}
 use native.Mathlib.Omega.{arith}
 use borrow.Author.Tests.{ne_eqb}
 use lib.Dec.{eqb, leb, eqb-suc-suc}
-use lib.ListN.{length, get_or, take, length-append}
+use lib.ListN.{length, get_or, take, length-append, get_or-map}
 use Rattle.sets.specs.Lists.{numbers_from}
 use Rattle.solver.specs.Cells.{Cell}
 use Rattle.solver.specs.File.{Block}
@@ -26,7 +26,7 @@ use Rattle.translate.specs.declared.Shape.{Shape}
 use Rattle.translate.specs.Cells.{cell_of, cells_from, blocks_from}
 use Rattle.translate.specs.Whole.{raise, binds_first, whole, binder_nodes, index_in, block_in}
 use Rattle.translate.specs.internal.Writing.{shape_of, shape_cell}
-use Rattle.translate.specs.internal.Shapes.{shapes_from, shape_cells, shape_blocks, shape_in, table_shapes}
+use Rattle.translate.specs.internal.Shapes.{shapes_from, shape_cells, shape_block, shape_blocks, shape_by, shape_in, table_shapes}
 use Rattle.translate.proofs.Counts.{nodes_raise}
 use Rattle.translate.proofs.Equations.{raised}
 use Rattle.translate.proofs.BinderNodes.{collect, operand_lists, second_at, listed_all, block_of_binder}
@@ -65,29 +65,14 @@ module _ {B : Type 0} (written : ℕ → List Shape → List B) (item : Shape �
   written_both block a i ys p q = written_append i (shapes_from block a i) ys ∙ rw (length_shapes block a i, p, q)
 
 -- ---- blocks
--- the block of one shape
-abbrev block_item : ℕ → Shape → ℕ → List Block
-block_item n x i = cond (leb 7 x.kind) (record { sign = eqb x.kind 8; first = (i + 1) * n } ∷ []) []
-
-blocks_more : (n i : ℕ) (x : Shape) (xs : List Shape) → shape_blocks n i (x ∷ xs) ≡ block_item n x i ++ shape_blocks n (i + 1) xs
-unfolding shape_blocks
-blocks_more n i x xs = go (leb 7 x.kind)
-  where
-    b : Block
-    b = record { sign = eqb x.kind 8; first = (i + 1) * n }
-
-    go : (r : Bool) → cond r (b ∷ shape_blocks n (i + 1) xs) (shape_blocks n (i + 1) xs) ≡ cond r (b ∷ []) [] ++ shape_blocks n (i + 1) xs
-    go true = refl
-    go false = refl
-
 blocks_both : (n : ℕ) (block : ℕ → ℕ) (a : Formula) (i : ℕ) (ys : List Shape) {us vs : List Block}
     → shape_blocks n i (shapes_from block a i) ≡ us → shape_blocks n (i + nodes a) ys ≡ vs → shape_blocks n i (shapes_from block a i ++ ys) ≡ us ++ vs
 unfolding shape_blocks
-blocks_both n = written_both (shape_blocks n) (block_item n) (λ i. refl) (blocks_more n)
+blocks_both n = written_both (shape_blocks n) (λ x i. shape_block n i x) (λ i. refl) (λ i x xs. refl)
 
 -- The blocks of a formula's shapes are the formula's blocks.
 pub shape_blocks_lem : (n : ℕ) (block : ℕ → ℕ) (a : Formula) (i : ℕ) → shape_blocks n i (shapes_from block a i) ≡ blocks_from n a i
-unfolding shapes_from shape_of shape_blocks blocks_from
+unfolding shapes_from shape_of shape_blocks shape_block blocks_from
 shape_blocks_lem n block False i = refl
 shape_blocks_lem n block True i = refl
 shape_blocks_lem n block (And a b) i =
@@ -127,14 +112,17 @@ module _ (n : ℕ) (ts : List Transition) (block : ℕ → ℕ)
   shape_cells_lem (Fix sign j a) i = ap₂ ◌++◌ (node_cells (Fix sign j a) i) (shape_cells_lem a (i + 1))
 
 -- ---- raised formulas
--- a shape whose node number and block are one higher, where its kind has them
+-- a shape whose node number or block is one higher, where its kind has one
 abbrev up : Shape → Shape
-up x = record {
-  kind = x.kind;
-  second = cond (eqb x.kind 2 || eqb x.kind 3) (x.second + 1) 0;
-  block = cond (eqb x.kind 6 || (eqb x.kind 7 || eqb x.kind 8)) (x.block + 1) 0;
-  labels = x.labels;
-}
+up Shape.False = Shape.False
+up Shape.True = Shape.True
+up (Shape.And second) = Shape.And (second + 1)
+up (Shape.Or second) = Shape.Or (second + 1)
+up (Shape.Box labels) = Shape.Box labels
+up (Shape.Diamond labels) = Shape.Diamond labels
+up (Shape.Variable block) = Shape.Variable (block + 1)
+up (Shape.Mu block) = Shape.Mu (block + 1)
+up (Shape.Nu block) = Shape.Nu (block + 1)
 
 -- blocks rise by one with the node numbers
 module _ (block higher : ℕ → ℕ) (rises : (j : ℕ) → higher (j + 1) ≡ block j + 1) where
@@ -189,26 +177,10 @@ block_raise a j =
     rw (ne_eqb (j + 1) 0 (λ q. omega arith), raised a, place_raise j (binder_nodes a)) (sym (add-one (index_in j (binder_nodes a))))
 
 -- ---- tables
--- the second operand of a table's shape, one higher
-second_up : (b : Bool) (m : ℕ) → cond b (cond b (m + 0) 0 + 1) 0 ≡ cond b (m + 1) 0
-second_up true m = omega arith
-second_up false m = refl
-
--- its block too
-block_up : (b c : Bool) (m n : ℕ) → cond (b || c) (cond b (m + 0) (cond c (n + 0) 0) + 1) 0 ≡ cond b (m + 1) (cond c (n + 1) 0)
-block_up true c m n = omega arith
-block_up false true m n = omega arith
-block_up false false m n = refl
-
 -- a shape of the table, one higher
 shape_up : (action : ℕ → Action) (t : List Node) (i : ℕ) → up (shape_in action t 0 i) ≡ shape_in action t 1 i
 unfolding shape_in
-shape_up action t i = λ q. record {
-  kind = (node_at t i).kind;
-  second = second_up (eqb (node_at t i).kind 2 || eqb (node_at t i).kind 3) (end_of (map (arity_in formula_arities) t) (i + 1)) q;
-  block = block_up (eqb (node_at t i).kind 6) (is_binder (node_at t i)) (binder_count (take (node_at t i).arg t)) (binder_count (take i t)) q;
-  labels = cond (eqb (node_at t i).kind 4 || eqb (node_at t i).kind 5) (mask_of (action (node_at t i).arg)) 0;
-}
+shape_up action t i = rw (← get_or-map up, add-zero, add-zero, add-zero)
 
 shapes_up : (action : ℕ → Action) (t : List Node) (is : List ℕ) → map up (map (shape_in action t 0) is) ≡ map (shape_in action t 1) is
 shapes_up action t [] = refl
@@ -226,12 +198,8 @@ abbrev MadeShapes : (ℕ → Action) → (ℕ → ℕ) → ℕ → ℕ → ℕ �
 MadeShapes action block i arg bound here next f g k =
     (k ≡ 6 → block arg ≡ bound) → ((eqb k 7 || eqb k 8) ≡ true → block i ≡ here) → (get_or formula_arities k 0 ≡ 2 → i + 1 + nodes f ≡ next)
     → shapes_from block (made (formula_operator action i arg k) f g) i
-    ≡ record {
-      kind = k;
-      second = cond (eqb k 2 || eqb k 3) (next + 0) 0;
-      block = cond (eqb k 6) (bound + 0) (cond (eqb k 7 || eqb k 8) (here + 0) 0);
-      labels = cond (eqb k 4 || eqb k 5) (mask_of (action arg)) 0;
-    } ∷ operand_lists (get_or formula_arities k 0) (shapes_from block f (i + 1)) (shapes_from block g (i + 1 + nodes f))
+    ≡ shape_by (next + 0) (mask_of (action arg)) (bound + 0) (here + 0) k
+    ∷ operand_lists (get_or formula_arities k 0) (shapes_from block f (i + 1)) (shapes_from block g (i + 1 + nodes f))
 
 made_shapes : (action : ℕ → Action) (block : ℕ → ℕ) (i arg bound here next : ℕ) (f g : Formula) (k : ℕ) → k ≤ 8
     → MadeShapes action block i arg bound here next f g k
@@ -282,9 +250,9 @@ module _ (action : ℕ → Action) (t : List Node) (table : FormulaTable t) wher
       where
         go : (r : Bool) → shapes_from (block_in (cond r root_formula (Fix true 0 (raise root_formula)))) (cond r root_formula (Fix true 0 (raise root_formula))) 0
             ≡ cond r (map (shape_in action t 0) (numbers_from 0 (length t)))
-            (record { kind = 8; second = 0; block = 0; labels = 0 } ∷ map (shape_in action t 1) (numbers_from 0 (length t)))
+            (Shape.Nu 0 ∷ map (shape_in action t 1) (numbers_from 0 (length t)))
         go true = formula_shapes
         go false =
-            ap (λ (xs : List Shape). record { kind = 8; second = 0; block = 0; labels = 0 } ∷ xs)
+            ap (λ (xs : List Shape). Shape.Nu 0 ∷ xs)
             (shapes_raise (block_in root_formula) (block_in (Fix true 0 (raise root_formula))) (block_raise root_formula) root_formula 0
             ∙ ap (map up) formula_shapes ∙ shapes_up action t (numbers_from 0 (length t)))

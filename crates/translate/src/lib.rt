@@ -58,14 +58,19 @@ impl From<Cause> for u64 {
 // The length of the file that was written, or why there is none.
 pub type Written = Result<usize, Cause>;
 
-// What the writers need of a node: its kind as in the formula table, the node of a second operand, the block of a binder or variable,
-// and the labels that a box or diamond accepts, bit x for label x. What a kind does not have is 0.
+// What the writers need of a node, by its kind: the node of a second operand, the labels that a box or diamond accepts, bit x for label x, and
+// the block of a variable or binder.
 #[derive(Clone, Copy)]
-pub struct Shape {
-    pub kind: usize,
-    pub second: usize,
-    pub block: usize,
-    pub labels: u64,
+pub enum Shape {
+    False,
+    True,
+    And { second: usize },
+    Or { second: usize },
+    Box { labels: u64 },
+    Diamond { labels: u64 },
+    Variable { block: usize },
+    Mu { block: usize },
+    Nu { block: usize },
 }
 
 // The equations of k nodes, with n states, written to a buffer that has room for them; there are d blocks and p operands.

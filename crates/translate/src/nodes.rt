@@ -9,7 +9,6 @@ ghost use Rattle.translate.specs.internal.Parts.{WroteMore, WroteCellsAt, WroteC
 
 use crate::Shape;
 use crate::bytes::{put_at, put_three_at, put_two_behind};
-use crate::shapes::{is_modal, is_pair};
 use cases::{number_at, transition_at};
 
 // Whether bit x of a mask of labels is 1. A label past its bits is not in it.
@@ -103,13 +102,15 @@ fn write_targets(
     next
 }
 
-// The kind of the cells of a node of this kind.
-fn cell_kind(kind: usize) -> usize
-    requires { kind ≤ 8 }
-    ensures { result ≡ shape_kind kind }
+// The kind of the cells of a node of a shape: 0 for an and, 1 for an or, 2 for a variable.
+fn cell_kind(x: Shape) -> usize
+    ensures { result ≡ shape_kind x }
 {
-    let kinds: [usize; 9] = [1, 0, 0, 1, 0, 1, 2, 2, 2];
-    kinds[kind]
+    match x {
+        Shape::True | Shape::And { .. } | Shape::Box { .. } => 0,
+        Shape::False | Shape::Or { .. } | Shape::Diamond { .. } => 1,
+        Shape::Variable { .. } | Shape::Mu { .. } | Shape::Nu { .. } => 2,
+    }
 }
 
 // How many operands a node of a shape has in state s.
@@ -117,13 +118,11 @@ pub fn operand_count(part: &[u8], first: &[u8], m: usize, x: Shape, s: usize) ->
     requires { Recorded part.now first.now m }
     ensures { ((n i : ℕ) → result ≡ length (shape_operands n (distinct_in part.now first.now m) x i s)) × (result ≤ m + 2) }
 {
-    if is_pair(x.kind) {
-        return 2;
+    match x {
+        Shape::And { .. } | Shape::Or { .. } => 2,
+        Shape::Box { labels } | Shape::Diamond { labels } => degree(part, first, m, s, labels),
+        _ => 0,
     }
-    if is_modal(x.kind) {
-        return degree(part, first, m, s, x.labels);
-    }
-    0
 }
 
 // The cell of a node of a shape in state s, from the byte `at` on, where `used` operands come before its own. Answers how many come before
@@ -138,18 +137,21 @@ fn write_cell(
     s: usize,
     used: usize,
 ) -> usize
-    requires { Recorded part.now first.now m × (x.kind ≤ 8) × (at + 12 ≤ length out.old) × (used + m + 2 < 2 ^ 64) }
+    requires { Recorded part.now first.now m × (at + 12 ≤ length out.old) × (used + m + 2 < 2 ^ 64) }
     ensures { ((n i : ℕ) → WroteCellsAt at used (shape_cell n (distinct_in part.now first.now m) x i s ∷ []) out.old out.new result)
         × (result ≤ used + m + 2) }
 {
-    let kind = cell_kind(x.kind);
-    if kind == 2 {
-        put_three_at(out, at, 2, x.block, s);
-        return used;
+    match x {
+        Shape::Variable { block } | Shape::Mu { block } | Shape::Nu { block } => {
+            put_three_at(out, at, 2, block, s);
+            used
+        }
+        _ => {
+            let count = operand_count(part, first, m, x, s);
+            put_three_at(out, at, cell_kind(x), used, count);
+            used + count
+        }
     }
-    let count = operand_count(part, first, m, x, s);
-    put_three_at(out, at, kind, used, count);
-    used + count
 }
 
 // The cells of a node of a shape, one for each of n states. Answers how many operands come before those of the next node.
@@ -162,7 +164,7 @@ pub fn write_cells(
     x: Shape,
     used: usize,
 ) -> usize
-    requires { Recorded part.now first.now m × (x.kind ≤ 8) × (12 * n ≤ length out.old) × (m ≤ transition_limit) × (n ≤ state_limit) × (used < 2 ^ 32) }
+    requires { Recorded part.now first.now m × (12 * n ≤ length out.old) × (m ≤ transition_limit) × (n ≤ state_limit) × (used < 2 ^ 32) }
     ensures { (i : ℕ) → WroteCells used (map (shape_cell n (distinct_in part.now first.now m) x i) (numbers_from 0 n)) out.old out.new result }
 {
     let mut next = used;
@@ -197,13 +199,15 @@ fn write_state(
     ensures { WroteMore done (shape_operands n (distinct_in part.now first.now m) x i s) out.old out.new result }
 {
     let low = row(i + 1, n);
-    if is_pair(x.kind) {
-        return put_two_behind(out, done, low + s, row(x.second, n) + s);
+    match x {
+        Shape::And { second } | Shape::Or { second } => {
+            put_two_behind(out, done, low + s, row(second, n) + s)
+        }
+        Shape::Box { labels } | Shape::Diamond { labels } => {
+            write_targets(out, done, part, first, m, low, s, labels)
+        }
+        _ => done,
     }
-    if is_modal(x.kind) {
-        return write_targets(out, done, part, first, m, low, s, x.labels);
-    }
-    done
 }
 
 // The operands of node i, of a shape, in each of n states, behind `done` numbers. Answers how many numbers are then written.

@@ -24,7 +24,7 @@ fn write_cells_behind(
     x: Shape,
     used: usize,
 ) -> usize
-    requires { Recorded part.now first.now m × (x.kind ≤ 8) × (12 * (i * n + n) ≤ length out.old) × (m ≤ transition_limit) × (n ≤ state_limit) × (used < 2 ^ 32) }
+    requires { Recorded part.now first.now m × (12 * (i * n + n) ≤ length out.old) × (m ≤ transition_limit) × (n ≤ state_limit) × (used < 2 ^ 32) }
     ensures { WroteCellsAt (12 * (i * n)) used (map (shape_cell n (distinct_in part.now first.now m) x i) (numbers_from 0 n)) out.old out.new result }
 {
     let at = 12 * (i * n);

@@ -7,7 +7,7 @@ use Rattle.cases.specs.File.{transition_in, node_limit}
 use Rattle.cases.specs.declared.Transition.{Transition}
 use Rattle.translate.specs.declared.Shape.{Shape}
 use Rattle.translate.specs.Bytes.{bytes, all_operands, cell_numbers}
-use Rattle.translate.specs.internal.Writing.{leaves}
+use Rattle.translate.specs.internal.Writing.{leaves, second_of}
 
 -- the numbers xs were written from the byte `at` on, and no other byte changed
 pub record WroteAt (at : ℕ) (xs before after : List ℕ) : Type 0 where
@@ -70,4 +70,4 @@ pub record Recorded (part first : List ℕ) (m : ℕ) : Type 0 where
 pub record Placed (n : ℕ) (x : Shape) (i : ℕ) : Type 0 where
   pub states : n ≤ state_limit
   pub node : i ≤ node_limit + 1
-  pub second : x.second ≤ node_limit + 1
+  pub second : second_of x ≤ node_limit + 1

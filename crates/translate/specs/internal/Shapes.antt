@@ -1,5 +1,5 @@
 -- The shapes of all nodes: of a formula, as a formula table gives them, and what is written of them.
-use Rattle.std.specs.Prelude.{cond, ◌||◌, List, [], ◌∷◌, ◌++◌, map, ℕ, ◌+◌, ◌*◌, eqb, leb, length, take}
+use Rattle.std.specs.Prelude.{true, false, cond, List, [], ◌∷◌, ◌++◌, map, ℕ, ◌+◌, ◌*◌, length, get_or, take, Option, Some, None}
 use Rattle.sets.specs.Lists.{numbers_from}
 use Rattle.solver.specs.Cells.{Cell}
 use Rattle.solver.specs.File.{Block}
@@ -29,27 +29,42 @@ unfoldable pub shape_cells : ℕ → List Transition → ℕ → List Shape → 
 shape_cells n ts i [] = []
 shape_cells n ts i (x ∷ xs) = map (shape_cell n ts x i) (numbers_from 0 n) ++ shape_cells n ts (i + 1) xs
 
--- their blocks: one for each mu (7) and nu (8)
+-- the sign of a binder, as a file has it: 1 for nu, 0 for mu
+abbrev pub shape_sign : Shape → Option ℕ
+shape_sign (Shape.Mu block) = Some 0
+shape_sign (Shape.Nu block) = Some 1
+shape_sign _ = None
+
+-- the block of a node of this shape, at node i, if it is a binder
+unfoldable pub shape_block : ℕ → ℕ → Shape → List Block
+shape_block n i (Shape.Mu block) = record { sign = false; first = (i + 1) * n } ∷ []
+shape_block n i (Shape.Nu block) = record { sign = true; first = (i + 1) * n } ∷ []
+shape_block n i _ = []
+
+-- the blocks of nodes with these shapes
 unfoldable pub shape_blocks : ℕ → ℕ → List Shape → List Block
 shape_blocks n i [] = []
-shape_blocks n i (x ∷ xs) =
-    cond (leb 7 x.kind) (record { sign = eqb x.kind 8; first = (i + 1) * n } ∷ shape_blocks n (i + 1) xs) (shape_blocks n (i + 1) xs)
+shape_blocks n i (x ∷ xs) = shape_block n i x ++ shape_blocks n (i + 1) xs
+
+-- the shape of a node by its kind, where its second operand is node `second`, it accepts `labels`, `bound` is the block of its variable and `own`
+-- that of the binder that it is
+abbrev pub shape_by : ℕ → ℕ → ℕ → ℕ → ℕ → Shape
+shape_by second labels bound own kind =
+    get_or
+    (Shape.False ∷ Shape.True ∷ Shape.And second ∷ Shape.Or second ∷ Shape.Box labels ∷ Shape.Diamond labels ∷ Shape.Variable bound ∷ Shape.Mu own ∷ [])
+    kind (Shape.Nu own)
 
 -- The shape of node i of a formula table, where `action j` is the action formula at action node j. `added` is 1 where a nu was put before
 -- the root, and 0 otherwise: node numbers and blocks rise by it.
 unfoldable pub shape_in : (ℕ → Action) → List Node → ℕ → ℕ → Shape
 shape_in action table added i =
     let x : Node = node_at table i in
-    record {
-      kind = x.kind;
-      second = cond (eqb x.kind 2 || eqb x.kind 3) (end_of (map (arity_in formula_arities) table) (i + 1) + added) 0;
-      block = cond (eqb x.kind 6) (binder_count (take x.arg table) + added) (cond (is_binder x) (binder_count (take i table) + added) 0);
-      labels = cond (eqb x.kind 4 || eqb x.kind 5) (mask_of (action x.arg)) 0;
-    }
+    shape_by (end_of (map (arity_in formula_arities) table) (i + 1) + added) (mask_of (action x.arg))
+    (binder_count (take x.arg table) + added) (binder_count (take i table) + added) x.kind
 
 -- the shapes of all nodes of a formula table
 unfoldable pub table_shapes : (ℕ → Action) → List Node → List Shape
 table_shapes action table =
     cond (is_binder (node_at table 0))
     (map (shape_in action table 0) (numbers_from 0 (length table)))
-    (record { kind = 8; second = 0; block = 0; labels = 0 } ∷ map (shape_in action table 1) (numbers_from 0 (length table)))
+    (Shape.Nu 0 ∷ map (shape_in action table 1) (numbers_from 0 (length table)))

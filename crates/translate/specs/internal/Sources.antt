@@ -5,6 +5,7 @@ use Rattle.solver.specs.File.{blocks_at, operand_limit}
 use Rattle.cases.specs.File.{transition_limit, node_limit}
 use Rattle.cases.specs.declared.Transition.{Transition}
 use Rattle.translate.specs.Bytes.{System, all_operands, bytes, numbers}
+use Rattle.translate.specs.internal.Writing.{second_of}
 use Rattle.translate.specs.internal.Shapes.{shape_cells, shape_blocks}
 use Rattle.translate.specs.internal.Parts.{Recorded, distinct_in}
 use Rattle.translate.specs.declared.Shape.{Shape}
@@ -16,7 +17,7 @@ unfoldable pub shape_system : ℕ → ℕ → List Transition → List Shape →
 shape_system n initial ts xs = record { states = n; initial = initial; blocks = shape_blocks n 0 xs; cells = shape_cells n ts 0 xs }
 
 abbrev pub shape_at : List Shape → ℕ → Shape
-shape_at xs i = get_or xs i (record { kind = 0; second = 0; block = 0; labels = 0 })
+shape_at xs i = get_or xs i Shape.False
 
 -- m records with their flags, k shapes and n states, as an accepted case has them
 pub record Sources (part first : List ℕ) (m : ℕ) (shapes : List Shape) (k n : ℕ) : Type 0 where
@@ -25,8 +26,7 @@ pub record Sources (part first : List ℕ) (m : ℕ) (shapes : List Shape) (k n 
   pub held : k ≤ length shapes
   pub few_nodes : k ≤ node_limit + 1
   pub few_states : n ≤ state_limit
-  pub known : (i : ℕ) → i < k → (shape_at shapes i).kind ≤ 8
-  pub second : (i : ℕ) → i < k → (shape_at shapes i).second ≤ node_limit
+  pub second : (i : ℕ) → i < k → second_of (shape_at shapes i) ≤ node_limit
   pub few_operands : length (all_operands (shape_cells n (distinct_in part first m) 0 (take k shapes))) ≤ operand_limit
 
 -- so many cells, blocks and operands, and a buffer of `room` bytes has room for their file

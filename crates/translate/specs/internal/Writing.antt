@@ -1,43 +1,58 @@
 -- What the writers hold and write: nodes by their shape.
-use Rattle.std.specs.Prelude.{Bool, cond, ◌&&◌, ◌||◌, List, [], ◌∷◌, map, ℕ, ◌+◌, ◌*◌, eqb, get_or}
+use Rattle.std.specs.Prelude.{Bool, cond, ◌&&◌, List, [], ◌∷◌, map, ℕ, ◌+◌, ◌*◌, eqb}
 use Rattle.sets.specs.Words.{marked}
-use Rattle.solver.specs.Cells.{Cell}
+use Rattle.solver.specs.Cells.{Cell, operands_of}
 use Rattle.cases.specs.Formula.{Formula, False, True, And, Or, Box, Diamond, Variable, Fix, nodes}
 use Rattle.cases.specs.internal.Masks.{mask_of}
 use Rattle.cases.specs.declared.Transition.{Transition}
 use Rattle.sets.specs.Lists.{keep}
 use Rattle.translate.specs.declared.Shape.{Shape}
 
-abbrev shape : ℕ → ℕ → ℕ → ℕ → Shape
-shape kind second block labels = record { kind = kind; second = second; block = block; labels = labels }
-
 -- the shape of a formula that stands at node i
 unfoldable pub shape_of : (ℕ → ℕ) → Formula → ℕ → Shape
-shape_of block False i = shape 0 0 0 0
-shape_of block True i = shape 1 0 0 0
-shape_of block (And a b) i = shape 2 (i + 1 + nodes a) 0 0
-shape_of block (Or a b) i = shape 3 (i + 1 + nodes a) 0 0
-shape_of block (Box α a) i = shape 4 0 0 (mask_of α)
-shape_of block (Diamond α a) i = shape 5 0 0 (mask_of α)
-shape_of block (Variable j) i = shape 6 0 (block j) 0
-shape_of block (Fix sign j a) i = shape (cond sign 8 7) 0 (block j) 0
+shape_of block False i = Shape.False
+shape_of block True i = Shape.True
+shape_of block (And a b) i = Shape.And (i + 1 + nodes a)
+shape_of block (Or a b) i = Shape.Or (i + 1 + nodes a)
+shape_of block (Box α a) i = Shape.Box (mask_of α)
+shape_of block (Diamond α a) i = Shape.Diamond (mask_of α)
+shape_of block (Variable j) i = Shape.Variable (block j)
+shape_of block (Fix sign j a) i = cond sign (Shape.Nu (block j)) (Shape.Mu (block j))
 
 -- a transition from s whose label is in a mask
 abbrev pub leaves : ℕ → ℕ → Transition → Bool
 leaves s labels t = eqb t.source s && marked (labels ∷ []) t.label
 
--- the operands of a node of this shape, at node i, in state s; ts are the distinct transitions
-unfoldable pub shape_operands : ℕ → List Transition → Shape → ℕ → ℕ → List ℕ
-shape_operands n ts x i s =
-    cond (eqb x.kind 2 || eqb x.kind 3) (((i + 1) * n + s) ∷ (x.second * n + s) ∷ [])
-    (cond (eqb x.kind 4 || eqb x.kind 5) (map (λ t. (i + 1) * n + t.target) (keep (leaves s x.labels) ts)) [])
-
--- the kind of its cell: an and for true, and, box; an or for false, or, diamond; else a variable
-unfoldable pub shape_kind : ℕ → ℕ
-shape_kind kind = get_or (1 ∷ 0 ∷ 0 ∷ 1 ∷ 0 ∷ 1 ∷ 2 ∷ 2 ∷ 2 ∷ []) kind 0
-
--- its cell
+-- the cell of a node of this shape, at node i, in state s; ts are the distinct transitions
 unfoldable pub shape_cell : ℕ → List Transition → Shape → ℕ → ℕ → Cell
-shape_cell n ts x i s =
-    cond (eqb (shape_kind x.kind) 2) (Cell.Variable x.block s)
-    (cond (eqb (shape_kind x.kind) 0) (Cell.And (shape_operands n ts x i s)) (Cell.Or (shape_operands n ts x i s)))
+shape_cell n ts Shape.False i s = Cell.Or []
+shape_cell n ts Shape.True i s = Cell.And []
+shape_cell n ts (Shape.And second) i s = Cell.And (((i + 1) * n + s) ∷ (second * n + s) ∷ [])
+shape_cell n ts (Shape.Or second) i s = Cell.Or (((i + 1) * n + s) ∷ (second * n + s) ∷ [])
+shape_cell n ts (Shape.Box labels) i s = Cell.And (map (λ t. (i + 1) * n + t.target) (keep (leaves s labels) ts))
+shape_cell n ts (Shape.Diamond labels) i s = Cell.Or (map (λ t. (i + 1) * n + t.target) (keep (leaves s labels) ts))
+shape_cell n ts (Shape.Variable block) i s = Cell.Variable block s
+shape_cell n ts (Shape.Mu block) i s = Cell.Variable block s
+shape_cell n ts (Shape.Nu block) i s = Cell.Variable block s
+
+-- its operands
+abbrev pub shape_operands : ℕ → List Transition → Shape → ℕ → ℕ → List ℕ
+shape_operands n ts x i s = operands_of (shape_cell n ts x i s)
+
+-- the kind of its cell: 0 for an and, 1 for an or, 2 for a variable
+abbrev pub shape_kind : Shape → ℕ
+shape_kind Shape.False = 1
+shape_kind Shape.True = 0
+shape_kind (Shape.And second) = 0
+shape_kind (Shape.Or second) = 1
+shape_kind (Shape.Box labels) = 0
+shape_kind (Shape.Diamond labels) = 1
+shape_kind (Shape.Variable block) = 2
+shape_kind (Shape.Mu block) = 2
+shape_kind (Shape.Nu block) = 2
+
+-- the node of its second operand; 0 where there is none
+abbrev pub second_of : Shape → ℕ
+second_of (Shape.And second) = second
+second_of (Shape.Or second) = second
+second_of _ = 0

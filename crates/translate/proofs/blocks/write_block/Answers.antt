@@ -1,25 +1,21 @@
-use mathlib.Core.Path.{◌≡◌}
-use mathlib.Core.List.{[], ◌∷◌}
 use native.Mathlib.Omega.{arith}
+use mathlib.Core.Path.{ap}
 use lib.ListN.{length}
-use Rattle.translate.specs.Bytes.{block_numbers}
-use Rattle.translate.specs.internal.Shapes.{shape_blocks}
-use Rattle.translate.proofs.BlockParts.{length_of_binder, wrote_block, wrote_no_block}
+use Rattle.translate.proofs.Putting.{wrote_no_more}
+use Rattle.translate.proofs.BlockParts.{numbers_of_binder, numbers_of_other}
 use Rattle.translate.proofs.blocks.write_block.Goals as goal
-
-pub returns-then-x-lt7 : goal.returns-then-x-lt7
-returns-then-x-lt7 c =
-    let p = c.args in
-    wrote_no_block p.n p.i p.x p.done p.out.now c.if-x-lt7.true
 
 pub put_two_behind-requires : goal.put_two_behind-requires
 put_two_behind-requires c =
     let p = c.args in
-    let room : length (block_numbers (shape_blocks p.n p.i (p.x ∷ []))) ≡ 2 = length_of_binder p.n p.i p.x c.if-x-lt7.false in
-    omega arith
+    omega (arith, ap length (numbers_of_binder p.n p.i p.x c.in-Some.ensures))
 
-pub returns : goal.returns
-returns c =
+pub returns-in-Some : goal.returns-in-Some
+returns-in-Some c =
     let p = c.args in
-    wrote_block p.n p.i p.x c.if-x-lt7.false c.sign_number.ensures
-    c.put_two_behind.ensures
+    rw (numbers_of_binder p.n p.i p.x c.in-Some.ensures) c.put_two_behind.ensures
+
+pub returns-in-None : goal.returns-in-None
+returns-in-None c =
+    let p = c.args in
+    rw (numbers_of_other p.n p.i p.x c.in-None.ensures) (wrote_no_more p.done p.out.now)

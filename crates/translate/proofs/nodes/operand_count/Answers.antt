@@ -1,21 +1,23 @@
-use mathlib.Core.Path.{◌∙◌}
+use mathlib.Core.Path.{sym, ap, ◌∙◌}
 use native.Mathlib.Omega.{arith}
+use lib.ListN.{length}
 use Rattle.translate.specs.internal.Parts.{distinct_in, leaving}
-use Rattle.translate.proofs.ShapeLaws.{pair_count, modal_count, none_count}
+use Rattle.translate.proofs.ShapeLaws.{pair_count, modal_count, operands_none}
 use Rattle.translate.proofs.nodes.operand_count.Goals as goal
 
-pub returns-then-is_pair : goal.returns-then-is_pair
-returns-then-is_pair c =
+pub returns-in-And : goal.returns-in-And
+returns-in-And c =
     let p = c.args in
-    (λ n i. pair_count n (distinct_in p.part.now p.first.now p.m) p.x i p.s c.is_pair.ensures c.if-is_pair.true, omega arith)
+    (λ n i. pair_count n (distinct_in p.part.now p.first.now p.m) p.x i p.s c.in-And.is, omega arith)
 
-pub returns-then-is_modal : goal.returns-then-is_modal
+pub returns-in-Box : goal.returns-in-Box
 unfolding leaving
-returns-then-is_modal c =
+returns-in-Box c =
     let p = c.args in
-    (λ n i. c.degree.ensures.0 ∙ modal_count n (distinct_in p.part.now p.first.now p.m) p.x i p.s c.is_pair.ensures c.is_modal.ensures c.if-is_pair.false c.if-is_modal.true, omega arith)
+    (λ n i. c.degree.ensures.0 ∙ modal_count n (distinct_in p.part.now p.first.now p.m) p.x i p.s c.in-Box.is, omega arith)
 
-pub returns : goal.returns
-returns c =
+pub returns-in_default : goal.returns-in_default
+returns-in_default c =
     let p = c.args in
-    (λ n i. none_count n (distinct_in p.part.now p.first.now p.m) p.x i p.s c.is_pair.ensures c.is_modal.ensures c.if-is_pair.false c.if-is_modal.false, omega arith)
+    let d = c.in_default in
+    (λ n i. sym (ap length (operands_none n (distinct_in p.part.now p.first.now p.m) p.x i p.s d.not-And d.not-Or d.not-Box d.not-Diamond)), omega arith)

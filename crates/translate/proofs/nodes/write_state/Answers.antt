@@ -1,31 +1,35 @@
+use mathlib.Core.Path.{sym, ap}
 use native.Mathlib.Omega.{arith}
+use lib.ListN.{length}
 use Rattle.translate.specs.internal.Parts.{distinct_in, leaving}
-use Rattle.translate.proofs.ShapeLaws.{pair_count, modal_count, wrote_pair, wrote_modal, wrote_still}
+use Rattle.translate.proofs.Putting.{wrote_no_more}
+use Rattle.translate.proofs.ShapeLaws.{operands_pair, operands_modal, modal_count, operands_none}
 use Rattle.translate.proofs.nodes.write_state.Goals as goal
 
 pub put_two_behind-requires : goal.put_two_behind-requires
 put_two_behind-requires c =
     let p = c.args in
-    omega (arith, pair_count p.n (distinct_in p.part.now p.first.now p.m) p.x p.i p.s c.is_pair.ensures c.if-is_pair.true)
+    omega (arith, ap length (operands_pair p.n (distinct_in p.part.now p.first.now p.m) p.x p.i p.s c.in-And.is))
 
-pub returns-then-is_pair : goal.returns-then-is_pair
-returns-then-is_pair c =
+pub returns-in-And : goal.returns-in-And
+returns-in-And c =
     let p = c.args in
-    wrote_pair p.n (distinct_in p.part.now p.first.now p.m) p.x p.i p.s c.is_pair.ensures c.if-is_pair.true c.row-low.ensures.0 c.row.ensures.0 c.put_two_behind.ensures
+    rw (operands_pair p.n (distinct_in p.part.now p.first.now p.m) p.x p.i p.s c.in-And.is, ← c.row-low.ensures.0, ← c.row.ensures.0) c.put_two_behind.ensures
 
 pub write_targets-requires : goal.write_targets-requires
 unfolding leaving
 write_targets-requires c =
     let p = c.args in
-    (c.requires.0, omega arith, omega (arith, modal_count p.n (distinct_in p.part.now p.first.now p.m) p.x p.i p.s c.is_pair.ensures c.is_modal.ensures c.if-is_pair.false c.if-is_modal.true))
+    (c.requires.0, omega arith, omega (arith, modal_count p.n (distinct_in p.part.now p.first.now p.m) p.x p.i p.s c.in-Box.is))
 
-pub returns-then-is_modal : goal.returns-then-is_modal
+pub returns-in-Box : goal.returns-in-Box
 unfolding leaving
-returns-then-is_modal c =
+returns-in-Box c =
     let p = c.args in
-    wrote_modal p.n (distinct_in p.part.now p.first.now p.m) p.x p.i p.s c.is_pair.ensures c.is_modal.ensures c.if-is_pair.false c.if-is_modal.true c.row-low.ensures.0 c.write_targets.ensures
+    rw (operands_modal p.n (distinct_in p.part.now p.first.now p.m) p.x p.i p.s c.in-Box.is, ← c.row-low.ensures.0) c.write_targets.ensures
 
-pub returns : goal.returns
-returns c =
+pub returns-in_default : goal.returns-in_default
+returns-in_default c =
     let p = c.args in
-    wrote_still p.n (distinct_in p.part.now p.first.now p.m) p.x p.i p.s c.is_pair.ensures c.is_modal.ensures c.if-is_pair.false c.if-is_modal.false p.done p.out.now
+    let d = c.in_default in
+    rw (operands_none p.n (distinct_in p.part.now p.first.now p.m) p.x p.i p.s d.not-And d.not-Or d.not-Box d.not-Diamond) (wrote_no_more p.done p.out.now)

@@ -18,7 +18,6 @@ write_cells_behind-used-requires c =
     let s = c.requires.0 in
     let ts : List Transition = distinct_in p.part.now p.first.now p.m in (
       s.recorded,
-      s.known c.loop-i.i (omega arith),
       omega (arith, rows_fit c.loop-i.i p.k p.n (omega arith)),
       s.few_transitions,
       s.few_states,

@@ -21,7 +21,7 @@ ghost use Rattle.translate.specs.Translating.{translate_number, written_number, 
 
 use blocks::{block_count, write_blocks};
 use bytes::put_header;
-use cases::{Header, Opened, TRANSITIONS, first_appearances};
+use cases::{Header, TRANSITIONS, first_appearances};
 use rows::{write_all_cells, write_all_operands};
 use shapes::{SHAPES, added_before, shapes_of};
 use solver::HEADER;
@@ -47,9 +47,10 @@ impl From<cases::Cause> for Cause {
 impl From<Cause> for u64 {
     ghost from_gives = { λ cause n. n ≡ translate_number cause };
 
+    #[tactic(auto, unfolding(crate::specs::Translating::translate_number))]
     fn from(cause: Cause) -> u64 {
         match cause {
-            Cause::Open(cause) => cases::number_of(cause) as u64,
+            Cause::Open(cause) => u64::from(cause),
             Cause::Memory => 13,
         }
     }
@@ -165,18 +166,6 @@ fn translate_opened(case: &[u8], h: Header, out: &mut [u8]) -> Written
 pub fn translate(case: &[u8], out: &mut [u8]) -> Written
     ensures { Translated case.now out.old (written_number result) (written_length result) out.new }
 {
-    match cases::open(case) {
-        Opened::Accepted(h) => translate_opened(case, h, out),
-        Opened::Refused(cause) => Err(Cause::from(cause)),
-    }
-}
-
-// The number of a cause.
-pub fn number_of(cause: Cause) -> u8
-    ensures { result ≡ translate_number cause }
-{
-    match cause {
-        Cause::Open(cause) => cases::number_of(cause),
-        Cause::Memory => 13,
-    }
+    let h = cases::open(case)?;
+    translate_opened(case, h, out)
 }

@@ -1,12 +1,14 @@
-use mathlib.Core.Path.{refl}
+use Rattle.std.proofs.lemmas.Result.{err_from_is_err_and}
 use Rattle.cases.proofs.Openings.{accepted, refused}
 use Rattle.translate.specs.Translating.{translate_number, written_number, written_length}
 use Rattle.translate.proofs.Translations.{case_refused}
 use Rattle.translate.proofs.translate.Goals as goal
 
 pub translate_opened-requires : goal.translate_opened-requires
-translate_opened-requires c = accepted c.in-Accepted.ensures refl
+translate_opened-requires c = accepted c.«open».ensures c.in_ok-h.was
 
-pub returns-in-Refused : goal.returns-in-Refused
+pub returns-in_err-h : goal.returns-in_err-h
 unfolding written_number written_length translate_number
-returns-in-Refused c = rw c.from.ensures (case_refused _ _ (refused c.in-Refused.ensures refl))
+returns-in_err-h c =
+    let p = err_from_is_err_and c.from_residual.result c.from_residual.ensures.1 in
+    rw (p.1, p.2) (case_refused _ _ (refused c.«open».ensures c.in_err-h.was))

@@ -7,8 +7,9 @@ use native.Mathlib.Nat.{add_assoc}
 use native.Mathlib.Decide.{ℕ_discrete}
 use native.Mathlib.Omega.{arith}
 use borrow.Author.Rules.{part_to_end}
+use borrow.Rule.Slice.PartMut.{put_mid}
 use lib.ListN.{length, take, drop, set, length-append, length-drop, length-set, take-append-drop}
-use lib.Seq.{length-take-le, take_at, drop_at, drop-drop, take-suc, take_all, get_or-take, get_or-drop, get_or-set_same, get_or-set_other, set-append_left, drop-append-add}
+use lib.Seq.{paste, length-take-le, take_at, drop_at, drop-drop, take-suc, take_all, get_or-take, get_or-drop, get_or-set_same, get_or-set_other, set-append_left, drop-append-add}
 use Rattle.sets.specs.Lists.{numbers_from}
 use Rattle.sets.proofs.Lists.{table_at}
 use Rattle.cases.specs.declared.Header.{Header}
@@ -118,10 +119,6 @@ last_behind ts k e = sym (take_all (suc k) ts (omega arith)) ∙ take-suc ts k _
 
 -- ---- a case as its parts
 
--- sums of the sizes of parts
-sizes : (own tail r m k : ℕ) {a x u behind : ℕ} → own ≡ tail → r + 6 * m ≡ a → a + tail ≤ x → k ≤ m → u ≡ x → behind ≡ u - (r + 6 * k) → own ≤ behind
-sizes own tail r m k e f g h p q = omega arith
-
 module _ {b : List ℕ} {h : Header} (l : Laid b h) where
   abbrev head : List ℕ
   head = take h.transitions_at b
@@ -141,6 +138,9 @@ module _ {b : List ℕ} {h : Header} (l : Laid b h) where
   pub rest_long : length rest ≡ tail
   rest_long = length-drop h.actions_at b ∙ omega (arith, l.actions, l.ends)
 
+  pub length_behind : length (part_at b h.actions_at) ≡ tail
+  length_behind = ap length (part_to_end b h.actions_at) ∙ rest_long
+
   -- what holds of a case that bytes start with: how its parts lie in them
   pub lies_in : (s : List ℕ) → length b ≤ length s
       → (h.transitions_at + 6 * h.transitions ≡ h.actions_at) × (h.actions_at + tail ≤ length s) × (common_header ≤ h.transitions_at)
@@ -148,16 +148,21 @@ module _ {b : List ℕ} {h : Header} (l : Laid b h) where
 
   -- Behind k of its m records there is room for what follows the table.
   pub rest_fits : (x y : List ℕ) (k : ℕ) → h.actions_at + tail ≤ length x → k ≤ h.transitions → length y ≡ length (part_at x h.transitions_at)
-      → length (part_at b h.actions_at) ≤ length (part_at (take h.transitions_at x ++ (y ++ drop (length x - h.transitions_at) (drop h.transitions_at x))) (h.transitions_at + 6 * k))
+      → h.transitions_at + 6 * k + length (part_at b h.actions_at) ≤ length (put_mid h.transitions_at (length x - h.transitions_at) x y)
   rest_fits x y k room few same =
       let r : ℕ = h.transitions_at in
-      let u : List ℕ = take r x ++ (y ++ drop (length x - r) (drop r x)) in
       let at : r + 6 * h.transitions ≡ h.actions_at = omega (arith, l.transitions, l.actions) in
       let part : length y ≡ length x - r = same ∙ ap length (part_to_end x r) ∙ length-drop r x in
-      let long : length u ≡ length x = ap length (lent_back x y r) ∙ length-append (take r x) y ∙ omega (arith, length-take-le r x (omega arith), part) in
-      let own : length (part_at b h.actions_at) ≡ tail = ap length (part_to_end b h.actions_at) ∙ rest_long in
-      let behind : length (part_at u (r + 6 * k)) ≡ length u - (r + 6 * k) = ap length (part_to_end u (r + 6 * k)) ∙ length-drop (r + 6 * k) u in
-      sizes (length (part_at b h.actions_at)) tail r h.transitions k own at room few long behind
+      let long : length (put_mid r (length x - r) x y) ≡ length x = ap length (lent_back x y r) ∙ length-append (take r x) y ∙ omega (arith, length-take-le r x (omega arith), part) in
+      omega (arith, long, length_behind)
+
+  -- and what follows is written there behind the head
+  pub least_stays : (x y w : List ℕ) (k n : ℕ) → h.actions_at + tail ≤ length x → k ≤ h.transitions → length y ≡ length (part_at x h.transitions_at)
+      → common_header ≤ length (put_mid (h.transitions_at + 6 * k) n (put_mid h.transitions_at (length x - h.transitions_at) x y) w)
+  least_stays x y w k n room few same =
+      let at : ℕ = h.transitions_at + 6 * k in
+      let u : List ℕ = put_mid h.transitions_at (length x - h.transitions_at) x y in
+      omega (arith, head_least, rest_fits x y k room few same, length-append (take at u) (w ++ drop n (drop at u)), length-take-le at u (omega (arith, rest_fits x y k room few same)))
 
   pub table_is : transition_table b ≡ transitions_in (drop h.transitions_at b) h.transitions
   unfolding transition_table transitions_in
@@ -207,8 +212,8 @@ module _ {b : List ℕ} {h : Header} (l : Laid b h) where
 
     -- A record was put behind the last one.
     pub inserted : (t : Transition) {x y : List ℕ} → 6 ≤ length z
-        → x ≡ take 6 (part_at s h.actions_at) ++ (take tail (part_at s h.actions_at) ++ drop (6 + tail) (part_at s h.actions_at))
-        → y ≡ over (take h.actions_at s ++ (x ++ drop (length s - h.actions_at) (drop h.actions_at s))) h.actions_at (record_bytes t)
+        → x ≡ paste s (h.actions_at + 6) (drop h.actions_at s) (h.actions_at + 4 * h.actions + 4 * h.nodes - h.actions_at)
+        → y ≡ over x h.actions_at (record_bytes t)
         → head_for h (h.transitions + 1) y ≡ written_to s (with_transitions b (transition_table b ++ (t ∷ [])))
     unfolding table_bytes
     inserted t {x} {y} room p q =
@@ -217,10 +222,9 @@ module _ {b : List ℕ} {h : Header} (l : Laid b h) where
         let us : List Transition = ts ++ (t ∷ []) in
         let more : length us ≡ h.transitions + 1 = omega (arith, length-append ts (t ∷ []), table_long) in
         let long : length (head ++ table_bytes ts) ≡ at = omega (arith, front_long ts, table_long, l.transitions, l.actions) in
-        let moved : y ≡ over (take at s ++ (take 6 (drop at s) ++ (take tail (drop at s) ++ drop (6 + tail) (drop at s)))) at (record_bytes t) =
-        q ∙ ap (λ (v : List ℕ). over v at (record_bytes t)) (lent_back s x at ∙ ap (λ (v : List ℕ). take at s ++ v) (p ∙ rw (part_to_end s at))) in
         let filled : y ≡ (head ++ table_bytes ts) ++ (record_bytes t ++ (rest ++ drop 6 z)) =
-        moved ∙ gap_filled (head ++ table_bytes ts) (record_bytes t) rest z at 6 tail long refl rest_long s (parts ∙ sym (append_assoc head (table_bytes ts) (rest ++ z))) room in
+        q ∙ ap (λ (v : List ℕ). over v at (record_bytes t)) p
+        ∙ gap_filled (head ++ table_bytes ts) (record_bytes t) rest z at 6 tail long refl rest_long s (parts ∙ sym (append_assoc head (table_bytes ts) (rest ++ z))) room (omega arith) in
         let is_table : y ≡ head ++ (table_bytes us ++ (rest ++ drop 6 z)) = filled ∙ append_assoc head (table_bytes ts) _
         ∙ ap (λ (v : List ℕ). head ++ v) (sym (append_assoc (table_bytes ts) (record_bytes t) (rest ++ drop 6 z)) ∙ ap (λ (v : List ℕ). v ++ (rest ++ drop 6 z)) (sym (table_append ts (t ∷ [])))) in
         let all : length b + 6 ≡ h.transitions_at + 6 * length us + tail = omega (arith, l.ends, l.transitions, more) in
@@ -254,12 +258,12 @@ module _ {b : List ℕ} {h : Header} (l : Laid b h) where
       without_long : length without ≡ k
       without_long = omega (arith, length-append without (last ∷ []), ap length set_is, length-set (transition_table b) i last, table_long)
 
-      pub removed : {x w : List ℕ} {at : ℕ} → at ≡ h.actions_at - 6
-          → x ≡ over s (h.transitions_at + 6 * i) (record_bytes (transition_in (part_at s h.transitions_at) k))
-          → w ≡ take tail (drop 6 (part_at x at)) ++ drop tail (part_at x at)
-          → head_for h k (take at x ++ (w ++ drop (length x - at) (drop at x))) ≡ written_to s (with_transitions b without)
+      pub removed : {x w : List ℕ} → x ≡ over s (h.transitions_at + 6 * i) (record_bytes (transition_in (part_at s h.transitions_at) k))
+          → w ≡ paste x (h.actions_at - 6) (drop h.actions_at x) (h.actions_at + 4 * h.actions + 4 * h.nodes - h.actions_at)
+          → head_for h k w ≡ written_to s (with_transitions b without)
       unfolding table_bytes
-      removed {x} {w} {at} where_at p q =
+      removed {x} {w} p q =
+          let at : ℕ = h.actions_at - 6 in
           let ts : List Transition = transition_table b in
           let rec : List ℕ = record_bytes last in
           let front : length (head ++ table_bytes without) ≡ at = omega (arith, front_long without, without_long, l.transitions, l.actions) in
@@ -278,36 +282,32 @@ module _ {b : List ℕ} {h : Header} (l : Laid b h) where
           parts ∙ ap (λ (us : List Transition). head ++ (table_bytes us ++ (rest ++ z))) (last_behind ts k (table_long ∙ count))
           ∙ ap (λ (v : List ℕ). head ++ (v ++ (rest ++ z))) (table_append (take k ts) (last ∷ []))
           ∙ ap (λ (v : List ℕ). head ++ v) (append_assoc (table_bytes (take k ts)) rec (rest ++ z)) ∙ sym (append_assoc head (table_bytes (take k ts)) _) in
-          let closed : take at x ++ (w ++ drop (length x - at) (drop at x)) ≡ head ++ (table_bytes without ++ (rest ++ drop tail (rec ++ (rest ++ z)))) =
-          lent_back x w at ∙ ap (λ (v : List ℕ). take at x ++ v) (q ∙ rw (part_to_end x at))
-          ∙ gap_closed (head ++ table_bytes without) rec rest z at 6 tail front refl rest_long x x_is ∙ append_assoc head (table_bytes without) _ in
-          let all : at + tail ≡ h.transitions_at + 6 * length without + tail = omega (arith, where_at, without_long, l.transitions, l.actions) in
+          let closed : w ≡ head ++ (table_bytes without ++ (rest ++ drop tail (rec ++ (rest ++ z)))) =
+          q ∙ gap_closed (head ++ table_bytes without) rec rest z at 6 tail front refl rest_long x x_is (omega (arith, l.actions, count)) (omega arith) ∙ append_assoc head (table_bytes without) _ in
+          let all : at + tail ≡ h.transitions_at + 6 * length without + tail = omega (arith, without_long, l.transitions, l.actions, count) in
           let behind : drop tail (rec ++ (rest ++ z)) ≡ drop (h.transitions_at + 6 * length without + tail) s =
           sym (ap (drop tail) (ap (drop at) s_is ∙ drop_at (head ++ table_bytes (take k ts)) (rec ++ (rest ++ z)) at old_front)) ∙ drop-drop tail at s ∙ ap (λ (j : ℕ). drop j s) all in
           ap (head_for h k) closed ∙ ap (λ (j : ℕ). head_for h j (head ++ (table_bytes without ++ (rest ++ drop tail (rec ++ (rest ++ z)))))) (sym without_long)
           ∙ with_written without s (drop tail (rec ++ (rest ++ z))) behind
 
   -- The head was written to the start of a buffer, records behind it, and behind those what follows the table.
-  pub opened : (out : List ℕ) (us : List Transition) {k at : ℕ} {x y w : List ℕ} → at ≡ h.transitions_at + 6 * k → h.transitions_at ≤ length out
-      → x ≡ head ++ drop (length head) out → RecordsWritten us (part_at x h.transitions_at) y k
-      → w ≡ part_at b h.actions_at ++ drop (length (part_at b h.actions_at)) (part_at (take h.transitions_at x ++ (y ++ drop (length x - h.transitions_at) (drop h.transitions_at x))) at)
-      → head_for h k (take at (take h.transitions_at x ++ (y ++ drop (length x - h.transitions_at) (drop h.transitions_at x)))
-      ++ (w ++ drop (length (take h.transitions_at x ++ (y ++ drop (length x - h.transitions_at) (drop h.transitions_at x))) - at)
-      (drop at (take h.transitions_at x ++ (y ++ drop (length x - h.transitions_at) (drop h.transitions_at x))))))
+  pub opened : (out : List ℕ) (us : List Transition) {k at : ℕ} {x y w : List ℕ} → at ≡ h.transitions_at + 6 * k
+      → x ≡ head ++ drop h.transitions_at out → RecordsWritten us (part_at x h.transitions_at) y k → w ≡ part_at b h.actions_at
+      → head_for h k (put_mid at (at + length (part_at b h.actions_at) - at) (put_mid h.transitions_at (length x - h.transitions_at) x y) w)
       ≡ written_to out (with_transitions b us)
-  opened out us {k} {at} {x} {y} {w} where_at room p wrote q =
+  opened out us {k} {at} {x} {y} {w} where_at p wrote q =
       let r : ℕ = h.transitions_at in
-      let front : take r x ≡ head = ap (take r) p ∙ take_at head (drop (length head) out) r head_long in
-      let behind : drop r x ≡ drop r out = ap (drop r) p ∙ drop_at head (drop (length head) out) r head_long ∙ ap (λ (j : ℕ). drop j out) head_long in
-      let u : List ℕ = take r x ++ (y ++ drop (length x - r) (drop r x)) in
+      let front : take r x ≡ head = ap (take r) p ∙ take_at head (drop r out) r head_long in
+      let behind : drop r x ≡ drop r out = ap (drop r) p ∙ drop_at head (drop r out) r head_long in
+      let u : List ℕ = put_mid r (length x - r) x y in
       let rests : List ℕ = drop (6 * length us) (drop r out) in
       let u_is : u ≡ (head ++ table_bytes us) ++ rests =
       lent_back x y r ∙ ap (λ (v : List ℕ). v ++ y) front ∙ ap (λ (v : List ℕ). head ++ v) (wrote.exact ∙ rw (part_to_end x r, behind)) ∙ sym (append_assoc head (table_bytes us) rests) in
       let long : length (head ++ table_bytes us) ≡ at = omega (arith, length-append head (table_bytes us), head_long, length_table_bytes us, wrote.count) in
       let u_front : take at u ≡ head ++ table_bytes us = ap (take at) u_is ∙ take_at (head ++ table_bytes us) rests at long in
       let u_behind : drop at u ≡ rests = ap (drop at) u_is ∙ drop_at (head ++ table_bytes us) rests at long in
-      let tail_is : w ≡ rest ++ drop tail rests = q ∙ rw (part_to_end b h.actions_at, part_to_end u at, u_behind, rest_long) in
-      let whole : take at u ++ (w ++ drop (length u - at) (drop at u)) ≡ head ++ (table_bytes us ++ (rest ++ drop tail rests)) =
-      lent_back u w at ∙ rw (u_front, tail_is) (append_assoc head (table_bytes us) (rest ++ drop tail rests)) in
+      let own : at + length (part_at b h.actions_at) - at ≡ tail = omega (arith, length_behind) in
+      let whole : put_mid at (at + length (part_at b h.actions_at) - at) u w ≡ head ++ (table_bytes us ++ (rest ++ drop tail rests)) =
+      rw (own, u_front, u_behind, q, part_to_end b h.actions_at) (append_assoc head (table_bytes us) (rest ++ drop tail rests)) in
       let all : drop tail rests ≡ drop (r + 6 * length us + tail) out = ap (drop tail) (drop-drop (6 * length us) r out) ∙ drop-drop tail (r + 6 * length us) out in
       ap (head_for h k) whole ∙ ap (λ (j : ℕ). head_for h j (head ++ (table_bytes us ++ (rest ++ drop tail rests)))) wrote.count ∙ with_written us out (drop tail rests) all

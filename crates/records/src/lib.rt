@@ -12,7 +12,7 @@ ghost use Rattle.records.specs.Replaced.{with_transitions, written_to};
 ghost use Rattle.records.specs.Places.{place_of, without_at};
 ghost use Rattle.records.specs.internal.Writing.{RecordsBehind, RecordsWritten};
 
-use bytes::{copy, move_down, move_up, put_head, put_record};
+use bytes::{put_head, put_record};
 use cases::{Header, Transition, same_transition, transition_at};
 
 // How many bytes a record has.
@@ -66,11 +66,11 @@ pub fn write_distinct(case: &[u8], h: Header, first: &[u8], out: &mut [u8])
     ensures { out.new ≡ written_to out.old (with_transitions case.now (distinct (transition_table case.now))) }
 {
     let records = h.transitions_at;
-    let actions = h.actions_at;
-    copy(&case[..records], out);
+    out[..records].copy_from_slice(&case[..records]);
     let k = put_distinct(&case[records..], h.transitions, first, &mut out[records..]);
+    let rest = &case[h.actions_at..];
     let at = records + RECORD * k;
-    copy(&case[actions..], &mut out[at..]);
+    out[at..at + rest.len()].copy_from_slice(rest);
     put_head(out, h, k);
 }
 
@@ -80,7 +80,8 @@ pub fn insert(bytes: &mut [u8], h: Header, t: Transition)
     ensures { bytes.new ≡ written_to bytes.old (with_transitions (case_within bytes.old) (transition_table (case_within bytes.old) ++ (t ∷ []))) }
 {
     let at = h.actions_at;
-    move_up(&mut bytes[at..], RECORD, 4 * h.actions + 4 * h.nodes);
+    let end = at + 4 * h.actions + 4 * h.nodes;
+    bytes.copy_within(at..end, at + RECORD);
     put_record(bytes, at, t);
     put_head(bytes, h, h.transitions + 1);
 }
@@ -93,7 +94,8 @@ pub fn remove(bytes: &mut [u8], h: Header, i: usize)
     let records = h.transitions_at;
     let last = transition_at(&bytes[records..], h.transitions - 1);
     put_record(bytes, records + RECORD * i, last);
-    let at = h.actions_at - RECORD;
-    move_down(&mut bytes[at..], RECORD, 4 * h.actions + 4 * h.nodes);
+    let at = h.actions_at;
+    let end = at + 4 * h.actions + 4 * h.nodes;
+    bytes.copy_within(at..end, at - RECORD);
     put_head(bytes, h, h.transitions - 1);
 }

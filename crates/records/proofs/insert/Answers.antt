@@ -17,4 +17,4 @@ returns c =
     let l = c.requires.0 in
     c.put_head.ensures
     ∙ inserted l m _ (within_behind m) (within_bytes m (search rules)) c.args.t (omega (arith, length-drop (length (case_within m)) m, l.ends, c.requires.2))
-    c.move_up.ensures c.put_record.ensures
+    c.copy_within.ensures.after c.put_record.ensures

@@ -1,4 +1,4 @@
-use mathlib.Core.Path.{refl, ap, ◌∙◌}
+use mathlib.Core.Path.{ap, ◌∙◌}
 use Prim.Native.Nat.{◌+◌, ◌-◌, ◌*◌}
 use native.Mathlib.Omega.{arith}
 use borrow.Author.Rules.{part_to_end, rules}
@@ -21,17 +21,11 @@ transition_at-last-requires c = let p = lies_in c.requires.0 c.args.bytes.now (w
 pub put_record-requires : goal.put_record-requires
 put_record-requires c = let p = lies_in c.requires.0 c.args.bytes.now (within_few c.args.bytes.now) in omega arith
 
-pub slice_bounds-move_down-count : goal.slice_bounds-move_down-count
-slice_bounds-move_down-count c = let p = lies_in c.requires.0 c.args.bytes.now (within_few c.args.bytes.now) in omega arith
+pub copy_within-requires-clause-in_bounds : goal.copy_within-requires-clause-in_bounds
+copy_within-requires-clause-in_bounds c = let p = lies_in c.requires.0 c.args.bytes.now (within_few c.args.bytes.now) in omega arith
 
-pub slice_bounds-move_down-start : goal.slice_bounds-move_down-start
-slice_bounds-move_down-start c = let p = lies_in c.requires.0 c.args.bytes.now (within_few c.args.bytes.now) in omega arith
-
-pub move_down-requires : goal.move_down-requires
-move_down-requires c =
-    let p = lies_in c.requires.0 c.args.bytes.now (within_few c.args.bytes.now) in
-    let x = c.put_record.new.bytes in
-    rw (part_to_end x (c.args.h.actions_at - 6)) (omega (arith, length-drop (c.args.h.actions_at - 6) x))
+pub copy_within-requires-clause-dest_in_bounds : goal.copy_within-requires-clause-dest_in_bounds
+copy_within-requires-clause-dest_in_bounds c = let p = lies_in c.requires.0 c.args.bytes.now (within_few c.args.bytes.now) in omega arith
 
 pub put_head-requires : goal.put_head-requires
 put_head-requires c =
@@ -44,4 +38,4 @@ returns c =
     let m = c.args.bytes.now in
     c.put_head.ensures
     ∙ removed c.requires.0 m _ (within_behind m) (within_bytes m (search rules)) c.args.i (c.args.h.transitions - 1) (omega (arith, c.requires.1)) (omega (arith, c.requires.1))
-    refl (c.put_record.ensures ∙ ap (λ (t : Transition). over m (c.args.h.transitions_at + 6 * c.args.i) (record_bytes t)) c.transition_at-last.ensures) c.move_down.ensures
+    (c.put_record.ensures ∙ ap (λ (t : Transition). over m (c.args.h.transitions_at + 6 * c.args.i) (record_bytes t)) c.transition_at-last.ensures) c.copy_within.ensures.after

@@ -4,4 +4,4 @@ use Rattle.records.proofs.bytes.put_number.Goals as goal
 
 pub returns : goal.returns
 unfolding with_number
-returns c = refl
+returns c = rw c.to_le_bytes.ensures refl

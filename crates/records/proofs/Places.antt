@@ -1,17 +1,25 @@
 -- Laws of the place of a transition, of a table without a record, and of which transitions there are.
 use mathlib.Core.Path.{◌≡◌, refl, sym, ap, ◌∙◌}
-use mathlib.Core.Bool.{Bool, true, false, cond, ◌||◌}
-use mathlib.Core.List.{List, [], ◌∷◌}
+use mathlib.Core.Logic.{by_cases}
+use mathlib.Core.Bool.{Bool, true, false, cond, not, ◌||◌}
+use mathlib.Core.List.{List, [], ◌∷◌, map}
 use Prim.Native.Nat.{ℕ, zero, suc, ◌+◌, ◌-◌, ◌≤◌, ◌<◌}
-use native.Mathlib.Nat.{zero-add, add-zero}
+use native.Mathlib.Nat.{add-zero}
+use native.Mathlib.Decide.{dec_lt}
+use native.Mathlib.Numerals.{add-one, one-add}
 use native.Mathlib.Omega.{arith}
-use lib.ListN.{length, take, drop, set, drop_of_length-le, length-set}
-use Rattle.sets.specs.Lists.{for_some}
-use Rattle.sets.proofs.Lists.{length_table, table_at, drop_next}
+use borrow.Author.Tests.{lt-ltb, le-ltb}
+use lib.Dec.{ltb}
+use lib.ListN.{length, take, set, length-set}
+use Rattle.std.specs.List.{range_with_len, position_or_len}
+use Rattle.std.specs.Option.{MatchOption}
+use Rattle.std.proofs.Common.{Option, Some, None}
+use Rattle.std.proofs.lemmas.List.Sums.{prefix_len-le-length}
+use Rattle.std.proofs.lemmas.List.Recursion.{is_position_or_len}
+use Rattle.sets.specs.Lists.{numbers_from, for_some}
+use Rattle.sets.proofs.Lists.{length_range}
 use Rattle.cases.specs.declared.Transition.{Transition}
-use Rattle.cases.specs.File.{transition_in}
 use Rattle.cases.specs.Case.{same_transition, copies, transition_at}
-use Rattle.cases.specs.internal.Checks.{transitions_in}
 use Rattle.cases.proofs.MeaningLaws.{same_equal}
 use Rattle.cases.proofs.Distinct.{copies_append}
 use Rattle.records.specs.Places.{place_of, without_at}
@@ -19,34 +27,29 @@ use Rattle.records.proofs.Files.{last_behind, last_stays}
 
 -- ---- looking for a place
 
-pub place_start : (t : Transition) (ts : List Transition) → place_of t ts ≡ 0 + place_of t ts
-place_start t ts = sym (zero-add (place_of t ts))
+-- the numbers of a range are those that count from its start
+range_is : (i k : ℕ) → range_with_len i k ≡ numbers_from i k
+unfolding numbers_from
+range_is i zero = refl
+range_is i (suc k) = rw (add-one i) (ap (λ (l : List ℕ). i ∷ l) (range_is (suc i) k))
 
-module _ (part : List ℕ) (m : ℕ) (t : Transition) (i : ℕ) (none : place_of t (transitions_in part m) ≡ i + place_of t (drop i (transitions_in part m))) where
-  -- the record at place i is the next
-  next : i < m → drop i (transitions_in part m) ≡ transition_in part i ∷ drop (i + 1) (transitions_in part m)
-  unfolding transitions_in
-  next h = drop_next (transitions_in part m) i t (transition_in part i) (rw (length_table (transition_in part) m) h) (table_at (transition_in part) m i t h)
+module _ (t : Transition) (record_at : ℕ → Transition) (m : ℕ) where
+  abbrev test : ℕ → Bool
+  test i = same_transition (record_at i) t
 
-  -- it is the one that is looked for,
-  pub place_here : i < m → same_transition (transition_in part i) t ≡ true → i ≡ place_of t (transitions_in part m)
+  place_is_first : place_of t (map record_at (numbers_from 0 m)) ≡ position_or_len test (numbers_from 0 m)
   unfolding place_of
-  place_here h e = let here : place_of t (drop i (transitions_in part m)) ≡ 0 = ap (place_of t) (next h) ∙ rw e in omega (arith, none, here)
+  place_is_first = is_position_or_len (λ is. place_of t (map record_at is)) test refl (λ i is. rw (one-add (place_of t (map record_at is))) refl) (numbers_from 0 m)
 
-  -- or it is not,
-  pub place_next : i < m → same_transition (transition_in part i) t ≡ false → place_of t (transitions_in part m) ≡ i + 1 + place_of t (drop (i + 1) (transitions_in part m))
-  unfolding place_of
-  place_next h e =
-      let later : place_of t (drop i (transitions_in part m)) ≡ suc (place_of t (drop (i + 1) (transitions_in part m))) = ap (place_of t) (next h) ∙ rw e in
-      omega (arith, none, later)
-
-  -- or none is left.
-  pub place_none : m ≤ i → i ≤ m → i ≡ place_of t (transitions_in part m)
-  unfolding place_of transitions_in
-  place_none h g =
-      let left : drop i (transitions_in part m) ≡ [] = drop_of_length-le (transitions_in part m) {i = i} (rw (length_table (transition_in part) m) h) in
-      let zero_left : place_of t (drop i (transitions_in part m)) ≡ 0 = ap (place_of t) left in
-      omega (arith, none, zero_left)
+  -- What a search of the numbers of the records answers says where the transition stands.
+  pub place_found : {r : Option ℕ} → r ≡ cond (ltb (position_or_len test (range_with_len 0 m)) (length (range_with_len 0 m))) (Some (position_or_len test (range_with_len 0 m))) None
+      → MatchOption r (place_of t (map record_at (numbers_from 0 m)) ≡ m) (λ i. (place_of t (map record_at (numbers_from 0 m)) ≡ i) × (i < m))
+  place_found {r} e = rw (e ∙ ap (λ (is : List ℕ). cond (ltb (position_or_len test is) (length is)) (Some (position_or_len test is)) None) (range_is 0 m), length_range 0 m, place_is_first) (go (position_or_len test (numbers_from 0 m)) (omega (arith, prefix_len-le-length (λ i. not (test i)) (numbers_from 0 m), length_range 0 m)))
+    where
+      go : (p : ℕ) → p ≤ m → MatchOption (cond (ltb p m) (Some p) None) (p ≡ m) (λ i. (p ≡ i) × (i < m))
+      go p h = by_cases (dec_lt p m)
+          (λ l. rw (lt-ltb p m l) (refl, l))
+          (λ d. rw (le-ltb p m (omega arith)) (omega arith))
 
 -- ---- whether there is one
 

@@ -3,7 +3,7 @@
 
 mod bytes;
 
-ghost use Rattle.std.specs.Prelude.{◌≡◌, cond, [], ◌∷◌, ◌++◌, ◌+◌, ◌*◌, ◌≤◌, ◌<◌, eqb, length, drop};
+ghost use Rattle.std.specs.Prelude.{◌≡◌, cond, [], ◌∷◌, ◌++◌, ◌+◌, ◌*◌, ◌≤◌, ◌<◌, eqb, length, drop, MatchOption};
 ghost use Rattle.cases.specs.File.{file_end, transition_in, transition_table, case_within, transition_limit};
 ghost use Rattle.cases.specs.Case.{distinct};
 ghost use Rattle.cases.specs.internal.Checks.{transitions_in, Laid};
@@ -13,24 +13,17 @@ ghost use Rattle.records.specs.Places.{place_of, without_at};
 ghost use Rattle.records.specs.internal.Writing.{RecordsBehind, RecordsWritten};
 
 use bytes::{put_head, put_record};
-use cases::{Header, Transition, same_transition, transition_at};
+use cases::{Header, Transition, transition_at};
 
 // How many bytes a record has.
 const RECORD: usize = 6;
 
-// The first place of t among the m records of a part, or m.
-pub fn find(part: &[u8], m: usize, t: Transition) -> usize
+// The first place of t among the m records of a part, if it is one of them.
+pub fn find(part: &[u8], m: usize, t: Transition) -> Option<usize>
     requires { 6 * m ≤ length part.now }
-    ensures { result ≡ place_of t (transitions_in part.now m) }
+    ensures { MatchOption result (place_of t (transitions_in part.now m) ≡ m) (λ i. (place_of t (transitions_in part.now m) ≡ i) × (i < m)) }
 {
-    let mut i = 0;
-    while i < m {
-        if same_transition(transition_at(part, i), t) {
-            return i;
-        }
-        i += 1;
-    }
-    i
+    (0..m).position(|i| transition_at(part, i) == t)
 }
 
 // Writes record i of a part behind k others, if it is flagged. Answers how many are then written.

@@ -1,14 +1,16 @@
 use native.Mathlib.Omega.{arith}
+use borrow.Author.Rules.{rules}
+use borrow.Author.Tests.{tests}
+use Rattle.std.proofs.lemmas.Iterator.{YieldsList-from_range}
+use Rattle.std.proofs.lemmas.Iterator.Search.{position_from_yields_List}
+use Rattle.cases.specs.File.{transition_in}
 use Rattle.cases.specs.Case.{same_transition}
-use Rattle.cases.proofs.Checking.{tested}
-use Rattle.records.proofs.Places.{place_here, place_next, place_none}
+use Rattle.cases.specs.internal.Checks.{transitions_in}
+use Rattle.records.proofs.Places.{place_found}
 use Rattle.records.proofs.find.Goals as goal
 
-pub returns-then-same_transition : goal.returns-then-same_transition
-returns-then-same_transition c = place_here _ _ _ _ c.loop-i.invariant.1 c.loop-i-test.true (tested (λ x. same_transition x c.args.t) c.same_transition.ensures c.transition_at.ensures c.if-same_transition.true)
-
-pub loop-i-preserved : goal.loop-i-preserved
-loop-i-preserved c = (omega arith, place_next _ _ _ _ c.loop-i.invariant.1 c.loop-i-test.true (tested (λ x. same_transition x c.args.t) c.same_transition.ensures c.transition_at.ensures c.if-same_transition.false))
-
 pub returns : goal.returns
-returns c = place_none _ _ _ _ c.loop-i.invariant.1 (omega arith) (omega arith)
+unfolding transitions_in same_transition
+returns c =
+    place_found c.args.t (transition_in c.args.part.now) c.args.m
+    (position_from_yields_List (λ i. same_transition (transition_in c.args.part.now i) c.args.t) _ _ _ c.position.ensures.ran (YieldsList-from_range 0 c.args.m c.args.m (cc) (omega arith)) (λ x b q k. search (rules, tests)))

@@ -26,29 +26,17 @@ pub fn find(part: &[u8], m: usize, t: Transition) -> Option<usize>
     (0..m).position(|i| transition_at(part, i) == t)
 }
 
-// Writes record i of a part behind k others, if it is flagged. Answers how many are then written.
-fn put_flagged(part: &[u8], i: usize, flag: u8, out: &mut [u8], k: usize) -> usize
-    requires { (6 * i + 6 ≤ length part.now) × (6 * k + 6 ≤ length out.old) }
-    ensures { RecordsBehind k (cond (eqb flag 1) (transition_in part.now i ∷ []) []) out.old out.new result }
-{
-    if flag != 1 {
-        return k;
-    }
-    put_record(out, 6 * k, transition_at(part, i));
-    k + 1
-}
-
 // Writes those of the m records of a part that are flagged as the first of their kind. Answers how many they are.
 fn put_distinct(part: &[u8], m: usize, first: &[u8], out: &mut [u8]) -> usize
     requires { (6 * m ≤ length part.now) × FirstFlags part.now m first.now × (6 * m ≤ length out.old) }
     ensures { RecordsWritten (distinct (transitions_in part.now m)) out.old out.new result }
 {
     let mut k = 0;
-    let mut i = 0;
-    while i < m {
-        let more = put_flagged(part, i, first[i], out, k);
-        k = more;
-        i += 1;
+    for i in 0..m {
+        if first[i] == 1 {
+            put_record(out, RECORD * k, transition_at(part, i));
+            k += 1;
+        }
     }
     k
 }

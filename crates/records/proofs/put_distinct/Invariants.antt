@@ -1,12 +1,8 @@
 use mathlib.Core.Path.{◌≡◌}
-use Prim.Native.Nat.{◌-◌, ◌≤◌}
 use lib.ListN.{length}
 use Rattle.records.specs.internal.Writing.{RecordsWritten}
 use Rattle.records.proofs.Writing.{flagged}
 use Rattle.records.proofs.put_distinct.Given as goal
 
 abbrev pub invariant-loop-i : goal.invariant-loop-i
-invariant-loop-i l = (l.i ≤ l.m) × (length l.out ≡ length l.initial.out) × RecordsWritten (flagged l.part l.first l.i) l.initial.out l.out l.k
-
-abbrev pub decreases-loop-i : goal.decreases-loop-i
-decreases-loop-i l = l.m - l.i
+invariant-loop-i l = (length l.out ≡ length l.initial.out) × RecordsWritten (flagged l.part l.first l.i) l.initial.out l.out l.k

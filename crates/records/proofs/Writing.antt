@@ -1,14 +1,14 @@
 -- Laws of records that are written one after another.
 use mathlib.Core.Path.{◌≡◌, refl, sym, ap, ◌∙◌}
 use mathlib.Core.Bool.{Bool, true, false, cond}
-use mathlib.Core.List.{List, [], ◌∷◌, ◌++◌, map, append_assoc}
+use mathlib.Core.List.{List, [], ◌∷◌, ◌++◌, map, append_assoc, append-nil}
 use Prim.Native.Nat.{ℕ, zero, suc, ◌+◌, ◌*◌, ◌≤◌}
 use native.Mathlib.Nat.{add-zero, zero-add}
 use native.Mathlib.Numerals.{add-one}
 use native.Mathlib.Omega.{arith}
 use borrow.Author.Tests.{eq-eqb, ne_eqb}
 use lib.Dec.{eqb}
-use lib.ListN.{length, get_or, take, drop, length-append, length-map, take-append-drop}
+use lib.ListN.{length, get_or, take, drop, length-append, length-map}
 use lib.Seq.{take_at, drop_at, drop-drop}
 use Rattle.sets.specs.Lists.{numbers_from, keep}
 use Rattle.sets.proofs.Lists.{length_range, length_table}
@@ -20,31 +20,22 @@ use Rattle.cases.specs.internal.Links.{FirstFlags}
 use Rattle.cases.proofs.Distinct.{length_keep, length_distinct}
 use Rattle.cases.proofs.FirstAppearances.{flagged_distinct}
 use Rattle.records.specs.Replaced.{record_bytes, table_bytes}
-use Rattle.records.specs.internal.Writing.{over, RecordsBehind, RecordsWritten}
+use Rattle.records.specs.internal.Writing.{over, RecordsWritten}
 use Rattle.records.proofs.Tables.{length_table_bytes, table_append}
 
--- a record that is not flagged
-pub wrote_none : (part : List ℕ) (i flag k : ℕ) (out : List ℕ) → ¬ (flag ≡ 1) → RecordsBehind k (cond (eqb flag 1) (transition_in part i ∷ []) []) out out k
+-- one record more, behind those that are written
+pub wrote_one : {ts : List Transition} {s u v : List ℕ} {k : ℕ} (t : Transition) → RecordsWritten ts s u k → v ≡ over u (6 * k) (record_bytes t)
+    → RecordsWritten (ts ++ (t ∷ [])) s v (k + 1)
 unfolding table_bytes
-wrote_none part i flag k out d = rw (ne_eqb flag 1 d) (record { exact = rw (add-zero (6 * k)) (sym (take-append-drop (6 * k) out)); count = omega arith })
-
--- one that is
-pub wrote_one : (part : List ℕ) (i k : ℕ) {flag : ℕ} (out : List ℕ) {t : Transition} {after : List ℕ} → 6 * k + 6 ≤ length out → flag ≡ 1 → t ≡ transition_in part i
-    → after ≡ over out (6 * k) (record_bytes t) → RecordsBehind k (cond (eqb flag 1) (transition_in part i ∷ []) []) out after (k + 1)
-unfolding table_bytes
-wrote_one part i k {flag} out h f is e = rw (eq-eqb flag 1 f, ← is) (record { exact = e; count = refl })
-
--- records behind others
-pub wrote_on : {ts us : List Transition} {s u v : List ℕ} {k r : ℕ} → RecordsWritten ts s u k → RecordsBehind k us u v r → RecordsWritten (ts ++ us) s v r
-wrote_on {ts} {us} {s} {u} {v} {k} p q =
+wrote_one {ts} {s} {u} {v} {k} t p q =
     let long : length (table_bytes ts) ≡ 6 * k = omega (arith, length_table_bytes ts, p.count) in
     let rest : List ℕ = drop (6 * length ts) s in
     let front : take (6 * k) u ≡ table_bytes ts = ap (take (6 * k)) p.exact ∙ take_at (table_bytes ts) rest (6 * k) long in
     let behind : drop (6 * k) u ≡ rest = ap (drop (6 * k)) p.exact ∙ drop_at (table_bytes ts) rest (6 * k) long in
-    let all : 6 * length ts + length (table_bytes us) ≡ 6 * length (ts ++ us) = omega (arith, length-append ts us, length_table_bytes us) in
+    let all : 6 * length ts + length (record_bytes t) ≡ 6 * length (ts ++ (t ∷ [])) = omega (arith, length-append ts (t ∷ [])) in
     record {
-      exact = q.exact ∙ rw (front, ← drop-drop (length (table_bytes us)) (6 * k) u, behind, drop-drop (length (table_bytes us)) (6 * length ts) s, all, table_append ts us) (sym (append_assoc (table_bytes ts) (table_bytes us) _));
-      count = omega (arith, p.count, q.count, length-append ts us);
+      exact = q ∙ rw (front, ← drop-drop (length (record_bytes t)) (6 * k) u, behind, drop-drop (length (record_bytes t)) (6 * length ts) s, all, table_append ts (t ∷ [])) (sym (append_assoc (table_bytes ts) (record_bytes t) _));
+      count = omega (arith, p.count, length-append ts (t ∷ []));
     }
 
 -- ---- the flagged ones of the first records of a part
@@ -70,10 +61,17 @@ kept_next f p s (suc k) = let sum : s + suc k ≡ suc s + k = omega arith in rw 
 abbrev pub flagged : List ℕ → List ℕ → ℕ → List Transition
 flagged part first i = map (transition_in part) (keep (λ j. eqb (get_or first j 0) 1) (numbers_from 0 i))
 
-pub flagged_next : (part first : List ℕ) (i : ℕ) → flagged part first (i + 1) ≡ flagged part first i ++ cond (eqb (get_or first i 0) 1) (transition_in part i ∷ []) []
+flagged_next : (part first : List ℕ) (i : ℕ) → flagged part first (i + 1) ≡ flagged part first i ++ cond (eqb (get_or first i 0) 1) (transition_in part i ∷ []) []
 flagged_next part first i =
     let here : 0 + i ≡ i = zero-add i in
     rw (add-one i) (rw here at (kept_next (transition_in part) (λ j. eqb (get_or first j 0) 1) 0 i))
+
+-- record i is one of them, or is none
+pub flagged_more : (part first : List ℕ) (i : ℕ) → get_or first i 0 ≡ 1 → flagged part first (i + 1) ≡ flagged part first i ++ (transition_in part i ∷ [])
+flagged_more part first i e = rw (eq-eqb (get_or first i 0) 1 e) at (flagged_next part first i)
+
+pub flagged_same : (part first : List ℕ) (i : ℕ) → ¬ (get_or first i 0 ≡ 1) → flagged part first (i + 1) ≡ flagged part first i
+flagged_same part first i d = rw (ne_eqb (get_or first i 0) 1 d) at (flagged_next part first i) ∙ append-nil (flagged part first i)
 
 -- they are no more than those records
 pub flagged_few : (part first : List ℕ) (i : ℕ) {s u : List ℕ} {k : ℕ} → RecordsWritten (flagged part first i) s u k → k ≤ i

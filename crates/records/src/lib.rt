@@ -10,7 +10,7 @@ ghost use Rattle.cases.specs.internal.Checks.{transitions_in, Laid};
 ghost use Rattle.cases.specs.internal.Links.{FirstFlags};
 ghost use Rattle.records.specs.Replaced.{with_transitions, written_to};
 ghost use Rattle.records.specs.Places.{place_of, without_at};
-ghost use Rattle.records.specs.internal.Writing.{RecordsBehind, RecordsWritten};
+ghost use Rattle.records.specs.internal.Writing.{RecordsWritten};
 
 use bytes::{put_head, put_record};
 use cases::{Header, Transition, transition_at};

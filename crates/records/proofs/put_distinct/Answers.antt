@@ -1,6 +1,6 @@
 use mathlib.Core.Path.{◌≡◌, refl}
 use native.Mathlib.Omega.{arith}
-use Rattle.records.proofs.Writing.{flagged_none, flagged_next, flagged_few, flagged_all, wrote_on, wrote_none, wrote_one}
+use Rattle.records.proofs.Writing.{flagged_none, flagged_more, flagged_same, flagged_few, flagged_all, wrote_one}
 use Rattle.records.proofs.put_distinct.Goals as goal
 use Rattle.records.proofs.put_distinct.Goals.{then-first-i-eq1, else-first-i-eq1}
 
@@ -18,17 +18,12 @@ loop-i-preserved c =
     let l = c.loop-i in
     let part = c.args.part.now in
     let first = c.args.first.now in
-    let few = flagged_few part first l.i l.invariant.1 in
     elim c.if-first-i-eq1.branch [
       | then-first-i-eq1 w ↦ (
         omega arith,
-        rw (flagged_next part first l.i, w.out-is, w.k-is)
-            (wrote_on l.invariant.1 (wrote_one part l.i l.k l.out (omega arith) w.if-first-i-eq1.true w.transition_at.ensures w.put_record.ensures)),
+        rw (flagged_more part first l.i w.if-first-i-eq1.true, w.out-is, w.k-is) (wrote_one _ l.invariant.1 (rw w.transition_at.ensures at w.put_record.ensures)),
       )
-      | else-first-i-eq1 w ↦ (
-        omega arith,
-        rw (flagged_next part first l.i, w.out-is, w.k-is) (wrote_on l.invariant.1 (wrote_none part l.i _ l.k l.out w.if-first-i-eq1.false)),
-      )
+      | else-first-i-eq1 w ↦ (omega arith, rw (flagged_same part first l.i w.if-first-i-eq1.false, w.out-is, w.k-is) l.invariant.1)
     ]
 
 pub returns : goal.returns

@@ -12,11 +12,6 @@ AllBytes b = (i : ℕ) → get_or b i 0 < 256
 abbrev pub over : List ℕ → ℕ → List ℕ → List ℕ
 over s at vs = take at s ++ (vs ++ drop (at + length vs) s)
 
--- records were written behind `done` others, and now there are r
-pub record RecordsBehind (done : ℕ) (ts : List Transition) (before after : List ℕ) (r : ℕ) : Type 0 where
-  pub exact : after ≡ over before (6 * done) (table_bytes ts)
-  pub count : r ≡ done + length ts
-
 -- records were written from the first byte on, and there are r
 pub record RecordsWritten (ts : List Transition) (before after : List ℕ) (r : ℕ) : Type 0 where
   pub exact : after ≡ table_bytes ts ++ drop (6 * length ts) before

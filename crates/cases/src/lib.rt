@@ -4,6 +4,7 @@
 mod actions;
 mod conditions;
 mod file;
+mod kinds;
 mod labels;
 mod tables;
 mod transitions;
@@ -11,6 +12,7 @@ mod transitions;
 pub use actions::action_masks;
 pub use conditions::{binders, check_layout, is_binder, open, subtree_end, transition_holds};
 pub use file::{case_end, node_at, number_at, transition_at};
+pub use kinds::{ActionKind, FormulaKind};
 pub use tables::{LabelRecords, LaidCase, Nodes, OpenCase, Table, Transitions};
 pub use transitions::{first_appearances, same_transition};
 

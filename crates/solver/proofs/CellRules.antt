@@ -1,57 +1,23 @@
 -- Condition 12: the cells one by one, and the operands of each list.
 use mathlib.Core.Path.{◌≡◌, refl, sym, ◌∙◌}
 use mathlib.Core.Bool.{Bool, true, false, cond, ◌&&◌}
-use mathlib.Core.List.{List, [], ◌∷◌}
+use mathlib.Core.List.{List, []}
 use Prim.Native.Nat.{ℕ, ◌+◌, ◌≤◌, ◌<◌}
 use native.Mathlib.Omega.{arith}
-use borrow.Author.Tests.{lt-ltb, le-ltb, le-leb, lt-leb, eq-eqb, ne_eqb}
-use lib.Dec.{eqb, ltb}
+use native.Mathlib.Decide.{dec_le, ℕ_discrete}
+use borrow.Author.Tests.{le-leb, lt-leb, eq-eqb, ne_eqb}
+use lib.Dec.{eqb, ltb, leb}
 use lib.ListN.{length, drop, drop_of_length-le}
 use Rattle.sets.specs.Lists.{numbers_from, every, sum}
-use Rattle.sets.proofs.Lists.{length_range, range_at, and_false, false_true, drop_next, loop_ends, loop_next}
+use Rattle.sets.proofs.Lists.{length_range, range_at, and_false, false_true, drop_next}
 use Rattle.solver.specs.declared.Sizes.{Sizes}
-use Rattle.solver.specs.declared.Span.{Span}
-use Rattle.solver.specs.File.{sizes_of, Entry, entry_at, operands, list_of}
-use Rattle.solver.specs.Conditions.{is_list, arity, operands_before, operand_ok, operands_ok, cell_ok}
+use Rattle.std.specs.Prelude.{Option, Some, None, ◌-◌}
+use Rattle.std.specs.Bool.{then_some}
+use Rattle.std.proofs.lemmas.Option.{none-some, same_Some}
+use Rattle.solver.specs.File.{sizes_of, Entry, entry_at}
+use Rattle.solver.specs.Conditions.{is_list, arity, operands_before, operands_ok, cell_ok}
 use Rattle.solver.specs.internal.Checks.{Read, rest_ok, Spans}
-use Rattle.solver.proofs.Tables.{counted, operand_at, length_list, list_at, before_next, before_grows}
-
--- whether the operands of a list of cell i from operand j on keep their rule
-abbrev pub list_left : List ℕ → ℕ → ℕ → ℕ → ℕ → Bool
-list_left e i from count j = every (operand_ok e i) (drop j (list_of (operands e) from count))
-
--- the loop over a list, at operand j
-module _ (e : List ℕ) (s : Sizes) (r : Read e s) (i from count j : ℕ) (fits : from + count ≤ s.operands)
-    (left : operands_ok e i from count ≡ list_left e i from count j) where
-  room : from + count ≤ (sizes_of e).operands
-  room = omega (arith, (counted r.sizes_are).operands)
-
-  -- every operand has passed
-  pub list_ends : count ≤ j → true ≡ operands_ok e i from count
-  unfolding every
-  list_ends h = sym (loop_ends (every (operand_ok e i)) _ j left (omega (arith, length_list e from count room)))
-
-  -- o is operand j
-  module _ (more : j < count) (o : ℕ) (is : o ≡ operand_at e (from + j)) where
-    list_next : operands_ok e i from count ≡ every (operand_ok e i) (o ∷ drop (j + 1) (list_of (operands e) from count))
-    list_next = loop_next (every (operand_ok e i)) _ j left 0 o (omega (arith, length_list e from count room)) (list_at e from count room j more ∙ sym is)
-
-    -- it is not above its cell
-    pub operand_low : o ≤ i → false ≡ operands_ok e i from count
-    unfolding every
-    operand_low h = sym (list_next ∙ rw (le-ltb i o h) refl)
-
-    -- it is no cell
-    pub operand_high : s.cells ≤ o → false ≡ operands_ok e i from count
-    unfolding every
-    operand_high h =
-        let broken : operand_ok e i o ≡ false = and_false (ltb i o) _ (le-ltb o (sizes_of e).cells (omega (arith, (counted r.sizes_are).cells))) in
-        sym (list_next ∙ rw broken refl)
-
-    -- it keeps its rule
-    pub operand_goes_on : i < o → o < s.cells → operands_ok e i from count ≡ list_left e i from count (j + 1)
-    unfolding every
-    operand_goes_on h g = list_next ∙ rw (lt-ltb i o h, lt-ltb o (sizes_of e).cells (omega (arith, (counted r.sizes_are).cells))) refl
+use Rattle.solver.proofs.Tables.{counted, before_next, before_grows}
 
 -- the rule of cell i by its kind
 module _ (e : List ℕ) (i : ℕ) {x : Entry} (is : x ≡ entry_at e i) where
@@ -101,48 +67,50 @@ module _ {e : List ℕ} {s : Sizes} (r : Read e s) {i used : ℕ} (inside : i < 
   next_is = before_next e i own ∙ rw (is, ← before) refl
 
   -- an answer that is its test
-  spans : (answer : Bool) (count : ℕ) → answer ≡ cell_ok e i → (answer ≡ true → count ≡ arity x) → used + count ≤ s.operands → Spans e i used (record { ok = answer; count = count })
-  spans answer count a b h = record {
-    broken = λ f. rest_step e i own ∙ rw (sym a ∙ f) refl;
-    holds = λ t. sym a ∙ t;
-    next = λ t. omega (arith, b t, next_is);
-    fits = omega (arith, (counted r.sizes_are).operands);
+  spans : (answer : Bool) (count : ℕ) → answer ≡ cell_ok e i → (answer ≡ true → count ≡ arity x) → (answer ≡ true → used + count ≤ s.operands) → Spans e i used (then_some answer count)
+  spans true count a b f = record {
+    broken = λ n. absurd (none-some count (sym n));
+    holds = λ m q. sym a;
+    next = λ m q. omega (arith, b refl, next_is, same_Some count m q);
+    fits = λ m q. omega (arith, f refl, same_Some count m q, (counted r.sizes_are).operands);
+  }
+  spans false count a b f = record {
+    broken = λ n. rest_step e i own ∙ rw (sym a) refl;
+    holds = λ m q. absurd (none-some m q);
+    next = λ m q. absurd (none-some m q);
+    fits = λ m q. absurd (none-some m q);
   }
 
-  -- a cell that breaks its rule
-  fails : cell_ok e i ≡ false → Spans e i used (record { ok = false; count = 0 })
-  fails f = spans false 0 (sym f) (λ t. cc) (omega arith)
+  -- no kind
+  pub found_other : 2 < x.kind → Spans e i used None
+  found_other k = spans false 0 (sym (cell_other e i is k)) (λ t. absurd (false_true t)) (λ t. absurd (false_true t))
 
   -- a variable
-  pub found_variable : x.kind ≡ 2 → (answer : Bool) → answer ≡ (ltb x.one s.blocks && ltb x.two s.states) → Spans e i used (record { ok = answer; count = 0 })
-  found_variable k answer a =
-      spans answer 0 (a ∙ rw ((counted r.sizes_are).blocks, (counted r.sizes_are).states) (sym (cell_variable e i is k))) (λ t. sym (arity_other x (omega arith))) (omega arith)
-
-  -- no kind
-  pub found_other : 2 < x.kind → Spans e i used (record { ok = false; count = 0 })
-  found_other k = fails (cell_other e i is k)
-
-  -- a list that does not start where the lists before it end
-  pub found_elsewhere : x.kind ≤ 1 → ¬ (x.one ≡ used) → Spans e i used (record { ok = false; count = 0 })
-  found_elsewhere k h = fails (cell_list e i is k ∙ rw (← before, ne_eqb x.one used h) refl)
+  pub found_variable : x.kind ≡ 2 → {answer : Bool} → answer ≡ (ltb x.one s.blocks && ltb x.two s.states) → Spans e i used (then_some answer 0)
+  found_variable k {answer} a =
+      spans answer 0 (a ∙ rw ((counted r.sizes_are).blocks, (counted r.sizes_are).states) (sym (cell_variable e i is k))) (λ t. sym (arity_other x (omega arith))) (λ t. omega arith)
 
   -- a list that runs past the operand table: the sum of all is then above p
-  pub found_past : x.kind ≤ 1 → s.operands < used + x.two → Spans e i used (record { ok = false; count = 0 })
+  found_past : x.kind ≤ 1 → s.operands < used + x.two → Spans e i used None
   found_past k h = record {
     broken = λ f. and_false (every (cell_ok e) (drop i (numbers_from 0 (sizes_of e).cells))) _ (ne_eqb (operands_before e (sizes_of e).cells) (sizes_of e).operands (λ q.
         omega (arith, before_grows e (i + 1) (sizes_of e).cells (omega (arith, own)), next_is, arity_list x k, (counted r.sizes_are).operands)));
-    holds = λ t. absurd (false_true t);
-    next = λ t. absurd (false_true t);
-    fits = omega (arith, (counted r.sizes_are).operands);
+    holds = λ m q. absurd (none-some m q);
+    next = λ m q. absurd (none-some m q);
+    fits = λ m q. absurd (none-some m q);
   }
 
-  -- a list that fits
-  pub found_list :
-      x.kind ≤ 1 → x.one ≡ used → used + x.two ≤ s.operands → (answer : Bool)
-      → answer ≡ operands_ok e i used x.two
-      → Spans e i used (record { ok = answer; count = x.two })
-  found_list k h f answer a =
-      spans answer x.two (a ∙ sym (cell_list e i is k ∙ rw (← before, eq-eqb x.one used h, h) refl)) (λ t. sym (arity_list x k)) f
+  -- a list
+  pub found_list : x.kind ≤ 1 → {answer : Bool} → answer ≡ (eqb x.one used && leb x.two (s.operands - used) && operands_ok e i used x.two) → Spans e i used (then_some answer x.two)
+  found_list k {answer} a = by (dec_le x.two (s.operands - used))
+    where
+      by : Dec (x.two ≤ s.operands - used) → Spans e i used (then_some answer x.two)
+      by (yes h) = spans answer x.two (a ∙ rw (le-leb x.two (s.operands - used) h) (starts (ℕ_discrete x.one used))) (λ t. sym (arity_list x k)) (λ t. omega arith)
+        where
+          starts : Dec (x.one ≡ used) → (eqb x.one used && true && operands_ok e i used x.two) ≡ cell_ok e i
+          starts (yes q) = rw (eq-eqb x.one used q) (sym (cell_list e i is k ∙ rw (q, ← before, eq-eqb used used refl) refl))
+          starts (no q) = rw (ne_eqb x.one used q) (sym (cell_list e i is k ∙ rw (← before, ne_eqb x.one used q) refl))
+      by (no h) = rw (a, lt-leb x.two (s.operands - used) (omega arith), and_false (eqb x.one used) false refl) (found_past k (omega arith))
 
 -- no operands stand before the first cell
 pub none_before : (e : List ℕ) → 0 ≡ operands_before e 0
@@ -159,11 +127,11 @@ module _ (e : List ℕ) (s : Sizes) (r : Read e s) (i used : ℕ) (before : used
       let none : drop i (numbers_from 0 (sizes_of e).cells) ≡ [] = drop_of_length-le (numbers_from 0 (sizes_of e).cells) {i = i} (omega (arith, length_range 0 (sizes_of e).cells)) in
       sym (left ∙ rw (none, ← all, ← before, ← (counted r.sizes_are).operands) refl)
 
-  module _ (found : Span) (f : Spans e i used found) where
+  module _ {found : Option ℕ} (f : Spans e i used found) where
     -- cell i is broken
-    pub cell_breaks : found.ok ≡ false → false ≡ rest_ok e 0
+    pub cell_breaks : found ≡ None → false ≡ rest_ok e 0
     cell_breaks b = sym (left ∙ f.broken b)
 
     -- cell i keeps its rule
-    pub cell_goes_on : i < s.cells → found.ok ≡ true → rest_ok e 0 ≡ rest_ok e (i + 1)
-    cell_goes_on h t = left ∙ rest_step e i (omega (arith, (counted r.sizes_are).cells)) ∙ rw (f.holds t) refl
+    pub cell_goes_on : i < s.cells → (count : ℕ) → found ≡ Some count → rest_ok e 0 ≡ rest_ok e (i + 1)
+    cell_goes_on h count t = left ∙ rest_step e i (omega (arith, (counted r.sizes_are).cells)) ∙ rw (f.holds count t) refl

@@ -1,5 +1,6 @@
 -- Laws of the crate's definitions. `Promises` says what the whole promises.
 pub mod Promises
+pub mod Ranges
 pub mod Tables
 pub mod Reading
 pub mod WellFormed

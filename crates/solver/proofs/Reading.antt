@@ -16,7 +16,6 @@ use Rattle.sets.specs.Words.{state_limit}
 use Rattle.sets.specs.internal.DecidedBy.{DecidedBy}
 use Rattle.sets.proofs.Lists.{test}
 use Rattle.solver.specs.declared.Cause.TheVariants.{Layout, Table}
-use Rattle.solver.specs.declared.Cause.{Cause}
 use Rattle.solver.specs.declared.Sizes.{Sizes}
 use Rattle.solver.specs.File.{sizes_of, blocks_at, cells_at, operands_at, block_limit, cell_limit, operand_limit}
 use Rattle.solver.specs.Conditions.{layout_ok, tables_ok}

@@ -13,13 +13,16 @@ use Rattle.sets.specs.States.{has, Valuation}
 use Rattle.sets.specs.Words.{marked, bit, word_count, state_limit}
 use Rattle.sets.proofs.Lists.{kept_equal}
 use Rattle.sets.proofs.Words.{marked_words}
-use Rattle.solver.specs.Cells.{Cell, value, Values}
+use Rattle.solver.specs.Cells.{Cell, And, Or, value, Values}
+use Rattle.solver.specs.declared.Cell.TheVariants.{And as IsAnd, Or as IsOr, Variable as IsVariable}
+use Rattle.solver.specs.declared.Operands.{Operands}
+use Rattle.solver.specs.internal.Reading.{cell_read}
 use Rattle.solver.specs.internal.Forms.{Ordered}
 use Rattle.solver.specs.File.{sizes_of, operands, Entry, entry_at, entry_cell, cells, list_of, block_limit}
 use Rattle.solver.specs.internal.Checks.{SizesFit}
 use Rattle.solver.specs.internal.Working.{Ready, ListAt, HoldsRows, Shows, Valued, CellsValued, truths}
 use Rattle.solver.specs.declared.Sizes.{Sizes}
-use Rattle.solver.proofs.Tables.{counted, length_cells, cell_at_lem, operand_at_lem}
+use Rattle.solver.proofs.Tables.{counted, length_cells, cell_at_lem, operand_at_lem, and_numbers, or_numbers, variable_numbers}
 use Rattle.solver.proofs.Reading.{layout_facts}
 use Rattle.solver.proofs.WellFormed.{Keeps, ordered, cell_kept}
 use Rattle.solver.proofs.Values.{value_kept}
@@ -42,7 +45,7 @@ unfolding truths
 length_truths work = length-map work (λ x. eqb x 1)
 
 -- ---- lists: what a search among the operands' bytes tells
-module _ (work : List ℕ) (bits : (i : ℕ) → get_or work i 0 ≤ 1) (ops : List ℕ) (from count : ℕ) (ρ : Valuation) where
+module _ (work : List ℕ) (bits : (i : ℕ) → get_or work i 0 ≤ 1) (ρ : Valuation) where
   abbrev wanted : ℕ → List ℕ → Bool
   wanted x os = for_some (λ o. eqb (get_or work o 0) x) os
 
@@ -68,15 +71,13 @@ module _ (work : List ℕ) (bits : (i : ℕ) → get_or work i 0 ≤ 1) (ops : L
   some_one [] = refl
   some_one (o ∷ os) = rw (truth_at work o, some_one os) refl
 
-  pub and_value : {kind : ℕ} {found : Bool} → kind ≡ 0 → found ≡ wanted 0 (list_of ops from count) → bit (not found) ≡ bit (value ρ (truths work) (entry_cell ops kind from count))
-  unfolding value entry_cell
-  and_value k e = rw (k, e, no_zero (list_of ops from count)) refl
+  pub and_value : (os : List ℕ) {found : Bool} → found ≡ wanted 0 os → bit (not found) ≡ bit (value ρ (truths work) (And os))
+  unfolding value
+  and_value os e = rw (e, no_zero os) refl
 
-  pub or_value : {kind : ℕ} {found : Bool} → ¬ (kind ≡ 0) → kind ≤ 1 → found ≡ wanted 1 (list_of ops from count) → bit found ≡ bit (value ρ (truths work) (entry_cell ops kind from count))
-  unfolding value entry_cell
-  or_value {kind} n h e =
-      let k : kind ≡ 1 = omega arith in
-      rw (k, e, some_one (list_of ops from count)) refl
+  pub or_value : (os : List ℕ) {found : Bool} → found ≡ wanted 1 os → bit found ≡ bit (value ρ (truths work) (Or os))
+  unfolding value
+  or_value os e = rw (e, some_one os) refl
 
 -- ---- a cell's value, by its kind
 abbrev pub cell_at : List ℕ → ℕ → Cell
@@ -105,49 +106,78 @@ module _ {e : List ℕ} {sizes : Sizes} {work : List ℕ} (r : Ready e sizes wor
       value_kept kept_equal ρ ρ (λ k x. refl) i (truths work) vs (above vs v.sized s) (cell_at e i) (rw at at (ordered e r.opens.formed i g))
       ∙ sym (v.rule i g ∙ ap (value ρ vs) at)
 
-  -- x is what was read of cell i
-  module _ {x : Entry} (is : x ≡ entry_at e i) where
-    abbrev facts : Keeps e i (entry_at e i).kind (entry_at e i).one (entry_at e i).two
-    facts = cell_kept e r.opens.formed i own
+  abbrev entry : Entry
+  entry = entry_at e i
 
-    abbrev few : SizesFit (sizes_of e)
-    few = (layout_facts e r.opens.formed.layout).counts
+  abbrev facts : Keeps e i entry.kind entry.one entry.two
+  facts = cell_kept e r.opens.formed i own
 
-    pub variable_fits : x.kind ≡ 2 → (x.one < block_limit) × (x.two < state_limit)
-    variable_fits k =
-        let b = facts.variable (rw is at k) in
-        rw is (omega (arith, few.few_blocks, b.0), omega (arith, few.few_states, b.1))
+  abbrev few : SizesFit (sizes_of e)
+  few = (layout_facts e r.opens.formed.layout).counts
 
-    pub list_fits : ¬ (x.kind ≡ 2) → ListAt e x.one x.two × (x.kind ≤ 1)
-    list_fits n =
-        let m : ¬ ((entry_at e i).kind ≡ 2) = rw is at n in
-        let k : (entry_at e i).kind ≤ 1 = omega (arith, facts.kinds) in
-        let l : ListAt e (entry_at e i).one (entry_at e i).two = record {
-          fits = facts.list k;
-          below = λ j g. let m = facts.list k in omega (arith, (facts.operand k j g).1, operand_at_lem e ((entry_at e i).one + j) (omega arith));
-        } in
-        rw is (l, k)
+  -- a list's operands are in the table
+  pub list_fits : {first count : ℕ} → entry.kind ≤ 1 → first ≡ entry.one → count ≡ entry.two → ListAt e first count
+  list_fits k f c =
+      let l = facts.list k in
+      rw (f, c) (record {
+        fits = l;
+        below = λ j g. omega (arith, (facts.operand k j g).1, operand_at_lem e (entry.one + j) (omega arith));
+      })
 
-    pub list_valued : {rows : List (List ℕ)} {answer : ℕ} →
-        ((ρ : Valuation) → answer ≡ bit (value ρ (truths work) (entry_cell (operands e) x.kind x.one x.two))) → Valued e rows i work answer
-    list_valued {answer = answer} f = record {
-      low = rw (f (λ k. [])) (bit_low (value (λ k. []) (truths work) (entry_cell (operands e) x.kind x.one x.two)));
-      right = λ ρ vs holds v s. f ρ ∙ rw is (ap bit (by_rule ρ vs v s));
-    }
+  -- an answer that is the value by the cell's rule
+  valued : {rows : List (List ℕ)} {answer : ℕ} → ((ρ : Valuation) → answer ≡ bit (value ρ (truths work) (cell_at e i))) → Valued e rows i work answer
+  valued f = record {
+    low = rw (f (λ k. [])) (bit_low (value (λ k. []) (truths work) (cell_at e i)));
+    right = λ ρ vs holds v s. f ρ ∙ ap bit (by_rule ρ vs v s);
+  }
 
-    pub variable_valued : {rows : List (List ℕ)} {answer : ℕ} → x.kind ≡ 2 → answer ≡ bit (marked (get_or rows x.one []) x.two) → Valued e rows i work answer
+  -- the cell that was read is an and
+  module _ {l : Operands} (is : IsAnd l ≡ cell_read (entry_at e i)) where
+    abbrev and_of : (entry.kind ≡ 0) × (l.first ≡ entry.one) × (l.count ≡ entry.two)
+    and_of = and_numbers entry.kind entry.one entry.two is
+
+    pub and_fits : ListAt e l.first l.count
+    and_fits = list_fits (omega (arith, and_of.0)) and_of.1 and_of.2
+
+    pub and_valued : {rows : List (List ℕ)} {answer : ℕ} → ((ρ : Valuation) → answer ≡ bit (value ρ (truths work) (And (list_of (operands e) l.first l.count)))) → Valued e rows i work answer
+    unfolding entry_cell
+    and_valued f = valued (λ ρ. f ρ ∙ rw (and_of.0, ← and_of.1, ← and_of.2) refl)
+
+  -- an or
+  module _ {l : Operands} (is : IsOr l ≡ cell_read (entry_at e i)) where
+    abbrev or_of : (entry.kind ≡ 1) × (l.first ≡ entry.one) × (l.count ≡ entry.two)
+    or_of = or_numbers entry.kind entry.one entry.two is
+
+    pub or_fits : ListAt e l.first l.count
+    or_fits = list_fits (omega (arith, or_of.0)) or_of.1 or_of.2
+
+    pub or_valued : {rows : List (List ℕ)} {answer : ℕ} → ((ρ : Valuation) → answer ≡ bit (value ρ (truths work) (Or (list_of (operands e) l.first l.count)))) → Valued e rows i work answer
+    unfolding entry_cell
+    or_valued f = valued (λ ρ. f ρ ∙ rw (or_of.0, ← or_of.1, ← or_of.2) refl)
+
+  -- a variable
+  module _ {block state : ℕ} (is : IsVariable block state ≡ cell_read (entry_at e i)) where
+    abbrev variable_of : (1 < entry.kind) × (block ≡ entry.one) × (state ≡ entry.two)
+    variable_of = variable_numbers entry.kind entry.one entry.two is
+
+    second : entry.kind ≡ 2
+    second = omega (arith, variable_of.0, facts.kinds)
+
+    pub variable_fits : (block < block_limit) × (state < state_limit)
+    variable_fits =
+        let b = facts.variable second in
+        (omega (arith, few.few_blocks, b.0, variable_of.1), omega (arith, few.few_states, b.1, variable_of.2))
+
+    pub variable_valued : {rows : List (List ℕ)} {answer : ℕ} → answer ≡ bit (marked (get_or rows block []) state) → Valued e rows i work answer
     unfolding value entry_cell
-    variable_valued {rows} k f =
-        let b = variable_fits k in
-        let k' : (entry_at e i).kind ≡ 2 = rw is at k in
-        record {
-          low = rw f (bit_low (marked (get_or rows x.one []) x.two));
-          right = λ ρ vs holds v t.
-              let z : has (ρ x.one) x.two ≡ get_or vs i false = rw is (rw k' at (by_rule ρ vs v t)) in
-              f
-              ∙ ap (λ (w : List ℕ). bit (marked w x.two)) (holds.row x.one b.0)
-              ∙ ap bit (marked_words word_count (ρ x.one) x.two (omega (arith, b.1)) ∙ z);
-        }
+    variable_valued {rows} f = record {
+      low = rw f (bit_low (marked (get_or rows block []) state));
+      right = λ ρ vs holds v t.
+          let z : has (ρ block) state ≡ get_or vs i false = rw (variable_of.1, variable_of.2) (rw second at (by_rule ρ vs v t)) in
+          f
+          ∙ ap (λ (w : List ℕ). bit (marked w state)) (holds.row block variable_fits.0)
+          ∙ ap bit (marked_words word_count (ρ block) state (omega (arith, variable_fits.1)) ∙ z);
+    }
 
 -- ---- all cells, from the last down
 pub evaluated_none : {e : List ℕ} {sizes : Sizes} {work : List ℕ} {rows : List (List ℕ)} → Ready e sizes work → CellsValued e rows sizes.cells work

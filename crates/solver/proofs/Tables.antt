@@ -1,12 +1,17 @@
 -- The counts and tables of any file: how long each table is, and each element by the place where it stands.
-use mathlib.Core.Path.{◌≡◌, refl, ap, ◌∙◌}
+use mathlib.Core.Path.{◌≡◌, refl, ap, sym, ◌∙◌}
+use mathlib.Core.Logic.{◌⊎◌, inl, inr}
 use mathlib.Core.List.{List, [], ◌∷◌}
-use Prim.Native.Nat.{ℕ, ◌+◌, ◌*◌, ◌≤◌, ◌<◌}
+use Prim.Native.Nat.{ℕ, zero, suc, ◌+◌, ◌*◌, ◌≤◌, ◌<◌}
 use native.Mathlib.Omega.{arith}
 use lib.ListN.{length, get_or, drop, length-map, length-take, length-drop}
 use lib.Seq.{get_or-take, get_or-drop}
 use Rattle.sets.proofs.Lists.{get_or_map, length_table, table_at, drop_next, sum_next, sum_grows}
-use Rattle.solver.specs.Cells.{And}
+use Rattle.solver.specs.Cells.{And as AndOf}
+use Rattle.solver.specs.declared.Cell.{Cell}
+use Rattle.solver.specs.declared.Cell.TheVariants.{And, Or, Variable}
+use Rattle.solver.specs.declared.Operands.{Operands}
+use Rattle.solver.specs.internal.Reading.{cell_of, cell_read}
 use Rattle.solver.specs.File.{u32, sizes_of, cells_at, operands_at, Block, block_at, blocks, operands, Entry, entry_at, entries, list_of, entry_cell, cells}
 use Rattle.solver.specs.Conditions.{arity, operands_before}
 use Rattle.solver.specs.declared.Sizes.{Sizes}
@@ -28,14 +33,55 @@ counted are = record {
   initial = ap (λ (x : Sizes). x.initial) are;
 }
 
--- what is read number by number is read whole: the counts, and a cell
+-- what is read number by number is read whole: the counts
 pub sizes_read : (e : List ℕ) {n d c p i : ℕ} → n ≡ (sizes_of e).states → d ≡ (sizes_of e).blocks → c ≡ (sizes_of e).cells → p ≡ (sizes_of e).operands → i ≡ (sizes_of e).initial
     → ◌≡◌ {A = Sizes} (record { states = n; blocks = d; cells = c; operands = p; initial = i }) (sizes_of e)
 sizes_read e states blocks cells operands initial = rw (states, blocks, cells, operands, initial) refl
 
-pub entry_read : (e : List ℕ) (i at : ℕ) {k x y : ℕ} → at ≡ cells_at (sizes_of e) + 12 * i → k ≡ u32 e at → x ≡ u32 e (at + 4) → y ≡ u32 e (at + 8)
-    → ◌≡◌ {A = Entry} (record { kind = k; one = x; two = y }) (entry_at e i)
-entry_read e i at place kind one two = cc
+-- and a cell, by its kind
+module _ (e : List ℕ) (i at : ℕ) {k x y : ℕ} (place : at ≡ cells_at (sizes_of e) + 12 * i) (kind : k ≡ u32 e at) (one : x ≡ u32 e (at + 4)) (two : y ≡ u32 e (at + 8)) where
+  numbers_read : cell_of k x y ≡ cell_read (entry_at e i)
+  numbers_read = cc
+
+  pub and_read : k ≡ 0 → And (record { first = x; count = y }) ≡ cell_read (entry_at e i)
+  unfolding cell_of
+  and_read z = rw z at numbers_read
+
+  pub or_read : k ≡ 1 → Or (record { first = x; count = y }) ≡ cell_read (entry_at e i)
+  unfolding cell_of
+  or_read z = rw z at numbers_read
+
+  pub variable_read : ¬ (k ≡ 0) → ¬ (k ≡ 1) → Variable x y ≡ cell_read (entry_at e i)
+  unfolding cell_of
+  variable_read n m = go k n m ∙ numbers_read
+    where
+      go : (k : ℕ) → ¬ (k ≡ 0) → ¬ (k ≡ 1) → Variable x y ≡ cell_of k x y
+      go zero n m = absurd (n refl)
+      go (suc zero) n m = absurd (m refl)
+      go (suc (suc k)) n m = refl
+
+-- the numbers of a cell that was read
+pub and_numbers : (k x y : ℕ) {l : Operands} → And l ≡ cell_of k x y → (k ≡ 0) × (l.first ≡ x) × (l.count ≡ y)
+unfolding cell_of
+and_numbers zero x y h = (refl, cc, cc)
+and_numbers (suc zero) x y h = let n : ◌≡◌ {A = ℕ} 0 1 = cc in absurd (omega arith)
+and_numbers (suc (suc k)) x y h = let n : ◌≡◌ {A = ℕ} 0 1 = cc in absurd (omega arith)
+
+pub or_numbers : (k x y : ℕ) {l : Operands} → Or l ≡ cell_of k x y → (k ≡ 1) × (l.first ≡ x) × (l.count ≡ y)
+unfolding cell_of
+or_numbers zero x y h = let n : ◌≡◌ {A = ℕ} 0 1 = cc in absurd (omega arith)
+or_numbers (suc zero) x y h = (refl, cc, cc)
+or_numbers (suc (suc k)) x y h = let n : ◌≡◌ {A = ℕ} 0 1 = cc in absurd (omega arith)
+
+pub list_numbers : (k x y : ℕ) {cell : Cell} {l : Operands} → cell ≡ cell_of k x y → (cell ≡ And l) ⊎ (cell ≡ Or l) → (k ≤ 1) × (l.first ≡ x) × (l.count ≡ y)
+list_numbers k x y h (inl q) = let n = and_numbers k x y (sym q ∙ h) in (omega (arith, n.0), n.1, n.2)
+list_numbers k x y h (inr q) = let n = or_numbers k x y (sym q ∙ h) in (omega (arith, n.0), n.1, n.2)
+
+pub variable_numbers : (k x y : ℕ) {block state : ℕ} → Variable block state ≡ cell_of k x y → (1 < k) × (block ≡ x) × (state ≡ y)
+unfolding cell_of
+variable_numbers zero x y h = let n : ◌≡◌ {A = ℕ} 0 1 = cc in absurd (omega arith)
+variable_numbers (suc zero) x y h = let n : ◌≡◌ {A = ℕ} 0 1 = cc in absurd (omega arith)
+variable_numbers (suc (suc k)) x y h = (omega arith, cc, cc)
 
 -- operand j of the operand table
 abbrev pub operand_at : List ℕ → ℕ → ℕ
@@ -72,10 +118,10 @@ module _ (e : List ℕ) where
 
   -- a cell is made of its three numbers and the operand table
   pub cell_at_lem : (i : ℕ) → i < (sizes_of e).cells →
-      get_or (cells e) i (And []) ≡ entry_cell (operands e) (entry_at e i).kind (entry_at e i).one (entry_at e i).two
+      get_or (cells e) i (AndOf []) ≡ entry_cell (operands e) (entry_at e i).kind (entry_at e i).one (entry_at e i).two
   unfolding cells
   cell_at_lem i h =
-      get_or_map _ (entries e) i (entry_at e i) (And []) (omega (arith, length_entries))
+      get_or_map _ (entries e) i (entry_at e i) (AndOf []) (omega (arith, length_entries))
       ∙ ap (λ (x : Entry). entry_cell (operands e) x.kind x.one x.two) (entry_at_lem i (entry_at e i) h)
 
   -- the cells from cell i on

@@ -3,7 +3,6 @@ use Rattle.std.specs.Prelude.{Bool, List, map, ℕ, zero, suc, ◌+◌, ◌*◌,
 use Rattle.sets.specs.Lists.{numbers_from}
 use Rattle.sets.specs.Words.{state_limit}
 use Rattle.solver.specs.Cells.{Cell, And, Or, Variable}
-pub use Rattle.solver.specs.declared.Entry.{Entry}
 pub use Rattle.solver.specs.declared.Sizes.{Sizes}
 
 -- the 32-bit number at a place, low byte first
@@ -39,6 +38,11 @@ unfoldable pub operands : List ℕ → List ℕ
 operands e = map (λ j. u32 e (operands_at (sizes_of e) + 4 * j)) (numbers_from 0 (sizes_of e).operands)
 
 -- A cell is three numbers: its kind, and first operand and operand count, or block and state.
+pub record Entry : Type 0 where
+  pub kind : ℕ
+  pub one : ℕ
+  pub two : ℕ
+
 abbrev pub entry_at : List ℕ → ℕ → Entry
 entry_at e i = record { kind = u32 e (cells_at (sizes_of e) + 12 * i); one = u32 e (cells_at (sizes_of e) + 12 * i + 4); two = u32 e (cells_at (sizes_of e) + 12 * i + 8) }
 

@@ -3,12 +3,12 @@ ghost use Rattle.std.specs.Prelude.{◌≡◌, [], ◌<◌, ◌≤◌, eqb, get_
 ghost use Rattle.sets.specs.Lists.{for_some};
 ghost use Rattle.sets.specs.Words.{marked, bit, state_limit};
 ghost use Rattle.sets.specs.States.{Valuation};
-ghost use Rattle.solver.specs.Cells.{value};
-ghost use Rattle.solver.specs.File.{operands, list_of, entry_cell, block_limit};
+ghost use Rattle.solver.specs.Cells.{And, Or, value};
+ghost use Rattle.solver.specs.File.{operands, list_of, block_limit};
 ghost use Rattle.solver.specs.internal.Working.{Ready, ListAt, Valued, CellsValued, Applied, truths};
 
-use crate::file::{HEADER, entry_at, number_at, operand_at};
-use crate::{BLOCKS, Sizes};
+use crate::file::{HEADER, cell_at, number_at, operand_at};
+use crate::{BLOCKS, Cell, Operands, Sizes};
 use sets::WORDS;
 
 // Whether one of the operands from a place of the operand table on has the value wanted.
@@ -27,18 +27,23 @@ fn finds(file: &[u8], sizes: Sizes, from: usize, count: usize, wanted: u8, work:
     false
 }
 
-// The value of an and (kind 0), which is false if an operand is, or of an or (kind 1), which is true if one is.
-fn list_value(file: &[u8], sizes: Sizes, kind: usize, from: usize, count: usize, work: &[u8]) -> u8
-    requires { Ready file.now sizes work.now × ListAt file.now from count × (kind ≤ 1) }
-    ensures { (ρ : Valuation) → result ≡ bit (value ρ (truths work.now) (entry_cell (operands file.now) kind from count)) }
+// The value of an and, which is false if an operand is.
+fn and_value(file: &[u8], sizes: Sizes, list: Operands, work: &[u8]) -> u8
+    requires { Ready file.now sizes work.now × ListAt file.now list.first list.count }
+    ensures { (ρ : Valuation) → result ≡ bit (value ρ (truths work.now) (And (list_of (operands file.now) list.first list.count))) }
 {
-    if kind == 0 {
-        if finds(file, sizes, from, count, 0, work) {
-            return 0;
-        }
-        return 1;
+    if finds(file, sizes, list.first, list.count, 0, work) {
+        return 0;
     }
-    if finds(file, sizes, from, count, 1, work) {
+    1
+}
+
+// The value of an or, which is true if an operand is.
+fn or_value(file: &[u8], sizes: Sizes, list: Operands, work: &[u8]) -> u8
+    requires { Ready file.now sizes work.now × ListAt file.now list.first list.count }
+    ensures { (ρ : Valuation) → result ≡ bit (value ρ (truths work.now) (Or (list_of (operands file.now) list.first list.count))) }
+{
+    if finds(file, sizes, list.first, list.count, 1, work) {
         return 1;
     }
     0
@@ -60,11 +65,11 @@ fn value_of(file: &[u8], sizes: Sizes, sets: &[[u64; WORDS]; BLOCKS], i: usize, 
     requires { Ready file.now sizes work.now × (i < sizes.cells) }
     ensures { Valued file.now sets.now i work.now result }
 {
-    let x = entry_at(file, sizes, i);
-    if x.kind == 2 {
-        return variable_value(sets, x.one, x.two);
+    match cell_at(file, sizes, i) {
+        Cell::And(list) => and_value(file, sizes, list, work),
+        Cell::Or(list) => or_value(file, sizes, list, work),
+        Cell::Variable { block, state } => variable_value(sets, block, state),
     }
-    list_value(file, sizes, x.kind, x.one, x.two, work)
 }
 
 // Works out the cells from the last down to cell `from`.

@@ -1,5 +1,5 @@
 // Conditions 11 and 12.
-ghost use Rattle.std.specs.Prelude.{◌≡◌, ◌&&◌, ◌+◌, ◌<◌, ◌≤◌, ltb, length};
+ghost use Rattle.std.specs.Prelude.{◌≡◌, ◌&&◌, ◌+◌, ◌-◌, ◌<◌, ◌≤◌, eqb, ltb, leb, length};
 ghost use Rattle.sets.specs.Lists.{numbers_from, every};
 ghost use Rattle.sets.specs.internal.DecidedBy.{DecidedBy};
 ghost use Rattle.solver.specs.File.{sizes_of, cells_at, operands_at, blocks_at};
@@ -7,8 +7,8 @@ ghost use Rattle.solver.specs.Conditions.{layout_ok, block_ok, operands_before, 
 ghost use Rattle.solver.specs.internal.Forms.{opened};
 ghost use Rattle.solver.specs.internal.Checks.{SizesFit, Places, Read, rest_ok, Spans};
 
-use crate::file::{HEADER, entry_at, number_at, operand_at, sizes_of};
-use crate::{Cause, Sizes, Span};
+use crate::file::{HEADER, cell_at, kind_holds, number_at, operand_at, sizes_of};
+use crate::{Cause, Cell, Operands, Sizes};
 
 // Whether each count is in its range, and the initial state is a state.
 fn counts_hold(sizes: Sizes) -> bool
@@ -97,35 +97,32 @@ fn blocks_hold(file: &[u8], sizes: Sizes) -> bool
     requires { Read file.now sizes }
     ensures { result ≡ every (block_ok file.now) (numbers_from 0 (sizes_of file.now).blocks) }
 {
-    let mut k = 0;
-    while k < sizes.blocks {
-        if !block_holds(file, sizes, k) {
-            return false;
-        }
-        k += 1;
-    }
-    true
+    (0..sizes.blocks).all(|k| block_holds(file, sizes, k))
+}
+
+// Whether an operand of cell i is a cell number above i.
+fn operand_holds(sizes: Sizes, i: usize, operand: usize) -> bool
+    ensures { result ≡ (ltb i operand && ltb operand sizes.cells) }
+{
+    i < operand && operand < sizes.cells
 }
 
 // Whether every operand of a list of cell i is a cell number above i.
-fn operands_hold(file: &[u8], sizes: Sizes, i: usize, from: usize, count: usize) -> bool
+fn operands_hold(file: &[u8], sizes: Sizes, i: usize, list: Operands) -> bool
     requires layout_read { Read file.now sizes }
-    requires inside { from + count ≤ sizes.operands }
-    ensures { result ≡ operands_ok file.now i from count }
+    requires inside { list.first + list.count ≤ sizes.operands }
+    ensures { result ≡ operands_ok file.now i list.first list.count }
 {
-    let cells = sizes.cells;
-    let mut j = 0;
-    while j < count {
-        let operand = operand_at(file, sizes, from + j);
-        if operand <= i {
-            return false;
-        }
-        if cells <= operand {
-            return false;
-        }
-        j += 1;
-    }
-    true
+    (0..list.count).all(|j| operand_holds(sizes, i, operand_at(file, sizes, list.first + j)))
+}
+
+// Whether a list of cell i starts behind the `used` operands of the lists before it, ends in the operand table, and has the operands of its cell.
+fn list_holds(file: &[u8], sizes: Sizes, i: usize, used: usize, list: Operands) -> bool
+    requires layout_read { Read file.now sizes }
+    requires few { used ≤ sizes.operands }
+    ensures { result ≡ (eqb list.first used && leb list.count (sizes.operands - used) && operands_ok file.now i used list.count) }
+{
+    list.first == used && list.count <= sizes.operands - used && operands_hold(file, sizes, i, list)
 }
 
 // Whether a variable has a block and a state.
@@ -135,37 +132,22 @@ fn variable_holds(sizes: Sizes, block: usize, state: usize) -> bool
     block < sizes.blocks && state < sizes.states
 }
 
-// Whether cell i keeps its rule, where the lists before it have `used` operands, and how many operands it has.
-fn entry_span(file: &[u8], sizes: Sizes, i: usize, used: usize) -> Span
+// How many operands cell i has, if it keeps its rule, where the lists before it have `used` operands.
+fn operand_count(file: &[u8], sizes: Sizes, i: usize, used: usize) -> Option<usize>
     requires layout_read { Read file.now sizes }
     requires inside { i < sizes.cells }
     requires counted { used ≡ operands_before file.now i }
     requires few { used ≤ sizes.operands }
     ensures { Spans file.now i used result }
 {
-    let x = entry_at(file, sizes, i);
-    let broken = Span {
-        ok: false,
-        count: 0,
-    };
-    if x.kind == 2 {
-        return Span {
-            ok: variable_holds(sizes, x.one, x.two),
-            count: 0,
-        };
+    if !kind_holds(file, sizes, i) {
+        return None;
     }
-    if 2 < x.kind {
-        return broken;
-    }
-    if x.one != used {
-        return broken;
-    }
-    if sizes.operands - used < x.two {
-        return broken;
-    }
-    Span {
-        ok: operands_hold(file, sizes, i, used, x.two),
-        count: x.two,
+    match cell_at(file, sizes, i) {
+        Cell::And(list) | Cell::Or(list) => list_holds(file, sizes, i, used, list).then_some(
+            list.count,
+        ),
+        Cell::Variable { block, state } => variable_holds(sizes, block, state).then_some(0),
     }
 }
 
@@ -175,14 +157,11 @@ fn cells_hold(file: &[u8], sizes: Sizes) -> bool
     ensures { result ≡ rest_ok file.now 0 }
 {
     let mut used = 0;
-    let mut i = 0;
-    while i < sizes.cells {
-        let span = entry_span(file, sizes, i, used);
-        if !span.ok {
+    for i in 0..sizes.cells {
+        let Some(count) = operand_count(file, sizes, i, used) else {
             return false;
-        }
-        used += span.count;
-        i += 1;
+        };
+        used += count;
     }
     used == sizes.operands
 }

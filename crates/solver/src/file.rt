@@ -1,8 +1,9 @@
 // Reading an equation file.
-ghost use Rattle.std.specs.Prelude.{◌≡◌, ◌+◌, ◌*◌, ◌^◌, ◌<◌, ◌≤◌, length};
+ghost use Rattle.std.specs.Prelude.{◌≡◌, ◌+◌, ◌*◌, ◌^◌, ◌<◌, ◌≤◌, leb, length};
 ghost use Rattle.solver.specs.File.{u32, cells_at, operands_at, entry_at, sizes_of, blocks_at};
+ghost use Rattle.solver.specs.internal.Reading.{cell_read};
 
-use crate::{Entry, Sizes};
+use crate::{Cell, Operands, Sizes};
 
 // How many bytes stand before the first table.
 pub const HEADER: usize = 36;
@@ -38,16 +39,33 @@ pub fn sizes_of(file: &[u8]) -> Sizes
     }
 }
 
-// The three numbers of cell i.
-pub fn entry_at(file: &[u8], sizes: Sizes, i: usize) -> Entry
+// Whether the kind of cell i is that of an and, an or, or a variable.
+pub fn kind_holds(file: &[u8], sizes: Sizes, i: usize) -> bool
     requires { (sizes ≡ sizes_of file.now) × (cells_at (sizes_of file.now) + 12 * i + 12 ≤ length file.now) }
-    ensures { result ≡ entry_at file.now i }
+    ensures { result ≡ leb (entry_at file.now i).kind 2 }
+{
+    number_at(file, HEADER + 8 * sizes.blocks + 12 * i) <= 2
+}
+
+// Cell i. A kind above 2 reads as a variable: no opened file has one.
+pub fn cell_at(file: &[u8], sizes: Sizes, i: usize) -> Cell
+    requires { (sizes ≡ sizes_of file.now) × (cells_at (sizes_of file.now) + 12 * i + 12 ≤ length file.now) }
+    ensures { result ≡ cell_read (entry_at file.now i) }
 {
     let at = HEADER + 8 * sizes.blocks + 12 * i;
-    Entry {
-        kind: number_at(file, at),
-        one: number_at(file, at + 4),
-        two: number_at(file, at + 8),
+    let one = number_at(file, at + 4);
+    let two = number_at(file, at + 8);
+    let operands = Operands {
+        first: one,
+        count: two,
+    };
+    match number_at(file, at) {
+        0 => Cell::And(operands),
+        1 => Cell::Or(operands),
+        _ => Cell::Variable {
+            block: one,
+            state: two,
+        },
     }
 }
 

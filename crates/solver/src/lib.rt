@@ -34,12 +34,19 @@ pub struct Sizes {
     pub initial: usize,
 }
 
-// The three numbers of a cell: its kind, and first operand and operand count, or block and state.
-#[derive(Clone, Copy)]
-pub struct Entry {
-    pub kind: usize,
-    pub one: usize,
-    pub two: usize,
+// The operands of a cell: where they start in the operand table, and how many there are.
+#[derive(Clone, Copy, PartialEq, Eq)]
+pub struct Operands {
+    pub first: usize,
+    pub count: usize,
+}
+
+// A cell as it stands in a file: an and or an or of operands, or the variable of a block in a state.
+#[derive(Clone, Copy, PartialEq, Eq)]
+pub enum Cell {
+    And(Operands),
+    Or(Operands),
+    Variable { block: usize, state: usize },
 }
 
 // Why a file is not solved.
@@ -75,13 +82,6 @@ pub struct Report {
 }
 
 pub type Answer = Result<Report, Cause>;
-
-// Whether a cell keeps its rule, and how many operands it has.
-#[derive(Clone, Copy)]
-pub struct Span {
-    pub ok: bool,
-    pub count: usize,
-}
 
 // What solving all blocks finds: the set of block 0, and the rounds that it took.
 #[derive(Clone, Copy)]

@@ -1,9 +1,8 @@
 -- What the functions that check a file ask and promise.
-use Rattle.std.specs.Prelude.{◌≡◌, Bool, true, false, ◌&&◌, List, ℕ, ◌+◌, ◌*◌, ◌≤◌, ◌<◌, eqb, length, drop}
+use Rattle.std.specs.Prelude.{◌≡◌, Bool, true, false, ◌&&◌, List, ℕ, ◌+◌, ◌*◌, ◌≤◌, ◌<◌, eqb, length, drop, Option, Some, None}
 use Rattle.sets.specs.Lists.{numbers_from, every}
 use Rattle.sets.specs.Words.{state_limit}
 use Rattle.solver.specs.declared.Sizes.{Sizes}
-use Rattle.solver.specs.declared.Span.{Span}
 use Rattle.solver.specs.File.{u32, sizes_of, blocks_at, cells_at, operands_at, block_limit, cell_limit, operand_limit}
 use Rattle.solver.specs.Conditions.{operands_before, cell_ok}
 
@@ -36,10 +35,10 @@ pub record Read (e : List ℕ) (s : Sizes) : Type 0 where
 abbrev pub rest_ok : List ℕ → ℕ → Bool
 rest_ok e i = every (cell_ok e) (drop i (numbers_from 0 (sizes_of e).cells)) && eqb (operands_before e (sizes_of e).cells) (sizes_of e).operands
 
--- What is found of cell i, where the lists before it have `used` operands. A list that runs past the operand table is broken, since the lists
+-- What is found of cell i, where the lists before it have `used` operands: how many it has, or that it breaks its rule. A list that runs past the operand table is broken, since the lists
 -- then no longer fill the table.
-pub record Spans (e : List ℕ) (i used : ℕ) (found : Span) : Type 0 where
-  pub broken : found.ok ≡ false → rest_ok e i ≡ false
-  pub holds : found.ok ≡ true → cell_ok e i ≡ true
-  pub next : found.ok ≡ true → used + found.count ≡ operands_before e (i + 1)
-  pub fits : used + found.count ≤ (sizes_of e).operands
+pub record Spans (e : List ℕ) (i used : ℕ) (found : Option ℕ) : Type 0 where
+  pub broken : found ≡ None → rest_ok e i ≡ false
+  pub holds : (count : ℕ) → found ≡ Some count → cell_ok e i ≡ true
+  pub next : (count : ℕ) → found ≡ Some count → used + count ≡ operands_before e (i + 1)
+  pub fits : (count : ℕ) → found ≡ Some count → used + count ≤ (sizes_of e).operands

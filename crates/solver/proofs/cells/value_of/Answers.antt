@@ -1,24 +1,25 @@
 use Rattle.solver.proofs.Reading.{opens_read, cell_inside}
-use Rattle.solver.proofs.Shown.{variable_fits, list_fits, list_valued, variable_valued}
+use Rattle.solver.proofs.Shown.{and_fits, and_valued, or_fits, or_valued, variable_fits, variable_valued}
 use Rattle.solver.proofs.cells.value_of.Goals as goal
 
-pub entry_at-x-requires : goal.entry_at-x-requires
-entry_at-x-requires c =
+pub cell_at-requires : goal.cell_at-requires
+cell_at-requires c =
     (c.requires.0.opens.counts, cell_inside (opens_read c.requires.0.opens) c.requires.1)
 
+pub and_value-requires : goal.and_value-requires
+and_value-requires c = (c.requires.0, and_fits c.requires.0 c.requires.1 c.in-And.ensures)
+
+pub returns-in-And : goal.returns-in-And
+returns-in-And c = and_valued c.requires.0 c.requires.1 c.in-And.ensures c.and_value.ensures
+
+pub or_value-requires : goal.or_value-requires
+or_value-requires c = (c.requires.0, or_fits c.requires.0 c.requires.1 c.in-Or.ensures)
+
+pub returns-in-Or : goal.returns-in-Or
+returns-in-Or c = or_valued c.requires.0 c.requires.1 c.in-Or.ensures c.or_value.ensures
+
 pub variable_value-requires : goal.variable_value-requires
-variable_value-requires c =
-    variable_fits c.requires.0 c.requires.1 c.entry_at-x.ensures c.if-x-eq2.true
+variable_value-requires c = variable_fits c.requires.0 c.requires.1 c.in-Variable.ensures
 
-pub returns-then-x-eq2 : goal.returns-then-x-eq2
-returns-then-x-eq2 c =
-    variable_valued c.requires.0 c.requires.1 c.entry_at-x.ensures c.if-x-eq2.true c.variable_value.ensures
-
-pub list_value-requires : goal.list_value-requires
-list_value-requires c =
-    let f = list_fits c.requires.0 c.requires.1 c.entry_at-x.ensures c.if-x-eq2.false in
-    (c.requires.0, f.0, f.1)
-
-pub returns : goal.returns
-returns c =
-    list_valued c.requires.0 c.requires.1 c.entry_at-x.ensures c.list_value.ensures
+pub returns-in-Variable : goal.returns-in-Variable
+returns-in-Variable c = variable_valued c.requires.0 c.requires.1 c.in-Variable.ensures c.variable_value.ensures

@@ -1,13 +1,13 @@
-use mathlib.Core.Path.{sym, ◌∙◌}
+use mathlib.Core.Path.{◌≡◌, refl}
+use mathlib.Core.Bool.{true, false}
 use native.Mathlib.Omega.{arith}
-use Rattle.solver.proofs.BlockRules.{blocks_end, block_breaks, block_goes_on}
+use Rattle.std.proofs.Common.{rules}
+use Rattle.std.proofs.lemmas.Iterator.{cases_from_all, YieldsList-from_range}
+use Rattle.solver.specs.Conditions.{block_ok}
+use Rattle.solver.proofs.Tables.{counted}
+use Rattle.solver.proofs.Ranges.{every_decided}
 use Rattle.solver.proofs.conditions.blocks_hold.Goals as goal
 
-pub returns-then-not-block_holds : goal.returns-then-not-block_holds
-returns-then-not-block_holds c = block_breaks _ _ c.requires _ c.loop-k.invariant.1 c.loop-k-test.true (sym c.block_holds.ensures ∙ c.if-not-block_holds.true)
-
-pub loop-k-preserved : goal.loop-k-preserved
-loop-k-preserved c = (omega arith, block_goes_on _ _ c.requires _ c.loop-k.invariant.1 c.loop-k-test.true (sym c.block_holds.ensures ∙ c.if-not-block_holds.false))
-
 pub returns : goal.returns
-returns c = blocks_end _ _ c.requires _ c.loop-k.invariant.1 c.loop-k-test.false
+returns c =
+    rw (← (counted c.requires.sizes_are).blocks) (every_decided (block_ok c.args.file.now) c.args.sizes.blocks c.all.result (cases_from_all _ _ c.all.result (λ k. block_ok c.args.file.now k ≡ true) (λ k. block_ok c.args.file.now k ≡ false) c.all.ensures.ran (YieldsList-from_range 0 c.args.sizes.blocks c.args.sizes.blocks refl (omega arith)) (λ x q k. search rules) (λ x q k. search rules)))

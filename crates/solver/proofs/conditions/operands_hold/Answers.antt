@@ -1,18 +1,20 @@
+use mathlib.Core.Path.{◌≡◌, refl, sym, ◌∙◌}
+use mathlib.Core.Bool.{true, false}
+use Prim.Native.Nat.{◌+◌, ◌≤◌}
 use native.Mathlib.Omega.{arith}
-use Rattle.solver.proofs.CellRules.{list_ends, operand_low, operand_high, operand_goes_on}
+use Rattle.std.proofs.Common.{rules}
+use Rattle.std.proofs.lemmas.Iterator.{cases_from_all, YieldsList-from_range}
+use Rattle.solver.specs.File.{sizes_of, operands, list_of}
+use Rattle.solver.specs.Conditions.{operand_ok}
+use Rattle.solver.proofs.Tables.{counted, operand_at, length_list, list_at}
+use Rattle.solver.proofs.Ranges.{every_decided, every_places}
 use Rattle.solver.proofs.conditions.operands_hold.Goals as goal
 
-pub returns-then-operand-i : goal.returns-then-operand-i
-returns-then-operand-i c =
-    operand_low _ _ c.requires.layout_read _ _ _ _ c.requires.inside c.loop-j.invariant.1 c.loop-j-test.true _ c.operand_at-operand.ensures (omega arith)
-
-pub returns-then-cells-operand : goal.returns-then-cells-operand
-returns-then-cells-operand c =
-    operand_high _ _ c.requires.layout_read _ _ _ _ c.requires.inside c.loop-j.invariant.1 c.loop-j-test.true _ c.operand_at-operand.ensures c.if-cells-operand.true
-
-pub loop-j-preserved : goal.loop-j-preserved
-loop-j-preserved c =
-    (omega arith, operand_goes_on _ _ c.requires.layout_read _ _ _ _ c.requires.inside c.loop-j.invariant.1 c.loop-j-test.true _ c.operand_at-operand.ensures (omega arith) c.if-cells-operand.false)
-
 pub returns : goal.returns
-returns c = list_ends _ _ c.requires.layout_read _ _ _ _ c.requires.inside c.loop-j.invariant.1 c.loop-j-test.false
+returns c =
+    let e = c.args.file.now in
+    let a = c.args.list in
+    let room : a.first + a.count ≤ (sizes_of e).operands = omega (arith, c.requires.inside, (counted c.requires.layout_read.sizes_are).operands) in
+    every_decided (λ j. operand_ok e c.args.i (operand_at e (a.first + j))) a.count c.all.result
+    (cases_from_all _ _ c.all.result (λ j. operand_ok e c.args.i (operand_at e (a.first + j)) ≡ true) (λ j. operand_ok e c.args.i (operand_at e (a.first + j)) ≡ false) c.all.ensures.ran (YieldsList-from_range 0 a.count a.count refl (omega arith)) (λ x q k. search rules) (λ x q k. search rules))
+    ∙ sym (every_places (operand_ok e c.args.i) (λ j. operand_at e (a.first + j)) (list_of (operands e) a.first a.count) a.count 0 (length_list e a.first a.count room) (list_at e a.first a.count room))

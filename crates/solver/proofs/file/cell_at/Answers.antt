@@ -1,0 +1,14 @@
+use Prim.Native.Nat.{◌+◌, ◌*◌}
+use native.Mathlib.Omega.{arith}
+use Rattle.std.proofs.Common.{rules}
+use Rattle.solver.proofs.Tables.{counted, and_read, or_read, variable_read}
+use Rattle.solver.proofs.file.cell_at.Goals as goal
+
+pub returns-in-0 : goal.returns-in-0
+returns-in-0 c = let n = counted c.requires.0 in and_read _ _ (36 + 8 * c.args.sizes.blocks + 12 * c.args.i) (omega (arith, n.blocks)) c.number_at.ensures.0 c.number_at-one.ensures.0 c.number_at-two.ensures.0 c.in-0.is
+
+pub returns-in-1 : goal.returns-in-1
+returns-in-1 c = let n = counted c.requires.0 in or_read _ _ (36 + 8 * c.args.sizes.blocks + 12 * c.args.i) (omega (arith, n.blocks)) c.number_at.ensures.0 c.number_at-one.ensures.0 c.number_at-two.ensures.0 c.in-1.is
+
+pub returns-in_default : goal.returns-in_default
+returns-in_default c = let n = counted c.requires.0 in variable_read _ _ (36 + 8 * c.args.sizes.blocks + 12 * c.args.i) (omega (arith, n.blocks)) c.number_at.ensures.0 c.number_at-one.ensures.0 c.number_at-two.ensures.0 (search rules) (search rules)

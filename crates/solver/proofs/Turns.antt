@@ -4,7 +4,6 @@ use mathlib.Core.List.{List, [], ◌∷◌}
 use Prim.Native.Nat.{ℕ, suc, ◌+◌, ◌-◌, ◌<◌, ◌≤◌}
 use native.Mathlib.Omega.{arith}
 use native.Mathlib.Numerals.{add-one}
-use native.Mathlib.Decide.{ℕ_discrete}
 use lib.ListN.{length, get_or, set, drop, drop_of_length-le, length-replicate}
 use lib.Seq.{drop-cons, get_or-set_same, get_or-set_other}
 use Rattle.sets.specs.States.{States, start, Valuation, update}
@@ -14,7 +13,7 @@ use Rattle.sets.proofs.Turns.{Left, turn, stops_here, goes_on as goes_further}
 use Rattle.sets.proofs.Words.{words_inj}
 use Rattle.solver.specs.File.{Block, sizes_of, blocks, block_at, cells, block_limit}
 use Rattle.solver.specs.Solution.{Solves}
-use Rattle.solver.specs.internal.Working.{OpenFile, HoldsRows, Started, SolvesFrom, RightSidesOf, Applied, TooMany, Settled, Solving, TooManyInRound, RoundCounted, IsStable, IsReplaced, Turned}
+use Rattle.solver.specs.internal.Working.{OpenFile, HoldsRows, Started, SolvesFrom, RightSidesOf, Applied, TooMany, Settled, TooManyInRound, RoundCounted, IsStable, IsReplaced}
 use Rattle.solver.specs.declared.Sizes.{Sizes}
 use Rattle.solver.proofs.Tables.{length_blocks, block_at_lem, counted}
 use Rattle.solver.proofs.Reading.{opens_read, few_blocks, own_block}

@@ -225,9 +225,12 @@ words_none k n =
     words_by k (start n false) (replicate k 0) (length-replicate k 0) λ j h.
     get_or-replicate k j 0 0 h ∙ sym (rw (part_start n (64 * j) false) (number_none (min 64 (n - 64 * j))))
 
--- the word of the 64 states from `from` on, m of which are below n: its first m bits
-pub word_full : (n from m : ℕ) → min 64 (n - from) ≡ m → 2 ^ m - 1 ≡ number_of_bits (take 64 (drop from (start n true)))
-word_full n from m e = sym (rw (part_start n from true, e) (number_full m))
+-- The word of the 64 states from `from` on: all bits if each of them is below n, and else as many as are.
+pub word_whole : (n from : ℕ) → 64 ≤ n - from → number_of_bits (take 64 (drop from (start n true))) ≡ 2 ^ 64 - 1
+word_whole n from h = let e : min 64 (n - from) ≡ 64 = omega arith in rw (part_start n from true, e) (number_full 64)
+
+pub word_partial : (n from left : ℕ) → n - from ≡ left → left < 64 → number_of_bits (take 64 (drop from (start n true))) ≡ (1 * 2 ^ left) % 2 ^ 64 - 1
+word_partial n from left l h = let e : min 64 (n - from) ≡ left = omega arith in rw (part_start n from true, e, shifted_one left h) (number_full left)
 
 -- ---- words that are worked out one after the other
 

@@ -26,6 +26,7 @@ pub fn empty() -> Set
 }
 
 // The word of the 64 states from `from` on: those below n.
+#[tactic(auto, using(crate::proofs::Words::word_whole, crate::proofs::Words::word_partial))]
 fn word_below(n: usize, from: usize) -> u64
     ensures { result ≡ number_of_bits (take 64 (drop from (start n true))) }
 {

@@ -162,7 +162,7 @@ pub fn store(marks: &mut [u64], row: Set)
     requires { word_count ≤ length marks.old }
     ensures { marks.new ≡ row ++ drop word_count marks.old }
 {
-    marks[..WORDS].copy_from_slice(&row);
+    *marks.first_chunk_mut().unwrap() = row;
 }
 
 // The set in the first words.

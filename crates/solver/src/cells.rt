@@ -9,20 +9,21 @@ ghost use Rattle.solver.specs.internal.Working.{Ready, ListAt, Valued, CellsValu
 
 use crate::file::{HEADER, cell_at, number_at, operand_at};
 use crate::{BLOCKS, Cell, Operands, Sizes};
-use sets::WORDS;
+use sets::Set;
+
+// The sets of all blocks, by block.
+pub type BlockSets = [Set; BLOCKS];
 
 // Whether one of the operands from a place of the operand table on has the value wanted.
 fn finds(file: &[u8], sizes: Sizes, from: usize, count: usize, wanted: u8, work: &[u8]) -> bool
     requires { Ready file.now sizes work.now × ListAt file.now from count }
     ensures { result ≡ for_some (λ o. eqb (get_or work.now o 0) wanted) (list_of (operands file.now) from count) }
 {
-    let mut j = 0;
-    while j < count {
+    for j in 0..count {
         let o = operand_at(file, sizes, from + j);
         if work[o] == wanted {
             return true;
         }
-        j += 1;
     }
     false
 }
@@ -50,7 +51,7 @@ fn or_value(file: &[u8], sizes: Sizes, list: Operands, work: &[u8]) -> u8
 }
 
 // The value of the variable of a block in a state.
-fn variable_value(sets: &[[u64; WORDS]; BLOCKS], block: usize, state: usize) -> u8
+fn variable_value(sets: &BlockSets, block: usize, state: usize) -> u8
     requires { (block < block_limit) × (state < state_limit) }
     ensures { result ≡ bit (marked (get_or sets.now block []) state) }
 {
@@ -61,7 +62,7 @@ fn variable_value(sets: &[[u64; WORDS]; BLOCKS], block: usize, state: usize) -> 
 }
 
 // The value of cell i, from those of the cells above it.
-fn value_of(file: &[u8], sizes: Sizes, sets: &[[u64; WORDS]; BLOCKS], i: usize, work: &[u8]) -> u8
+fn value_of(file: &[u8], sizes: Sizes, sets: &BlockSets, i: usize, work: &[u8]) -> u8
     requires { Ready file.now sizes work.now × (i < sizes.cells) }
     ensures { Valued file.now sets.now i work.now result }
 {
@@ -73,19 +74,11 @@ fn value_of(file: &[u8], sizes: Sizes, sets: &[[u64; WORDS]; BLOCKS], i: usize, 
 }
 
 // Works out the cells from the last down to cell `from`.
-pub fn evaluate(
-    file: &[u8],
-    sizes: Sizes,
-    sets: [[u64; WORDS]; BLOCKS],
-    from: usize,
-    work: &mut [u8],
-)
+pub fn evaluate(file: &[u8], sizes: Sizes, sets: BlockSets, from: usize, work: &mut [u8])
     requires { Ready file.now sizes work.old × (from ≤ sizes.cells) }
     ensures { CellsValued file.now sets from work.new }
 {
-    let mut i = sizes.cells;
-    while from < i {
-        i -= 1;
+    for i in (from..sizes.cells).rev() {
         let v = value_of(file, sizes, &sets, i, work);
         work[i] = v;
     }
@@ -95,19 +88,17 @@ pub fn evaluate(
 pub fn right_sides(
     file: &[u8],
     sizes: Sizes,
-    sets: [[u64; WORDS]; BLOCKS],
+    sets: BlockSets,
     k: usize,
     work: &mut [u8],
-) -> [[u64; WORDS]; BLOCKS]
+) -> BlockSets
     requires { Ready file.now sizes work.old × (k < sizes.blocks) }
     ensures { Applied file.now sets k work.new result }
 {
     let first = number_at(file, HEADER + 8 * k + 4);
     evaluate(file, sizes, sets, first + sizes.states, work);
     let mut next = sets;
-    let mut s = sizes.states;
-    while 0 < s {
-        s -= 1;
+    for s in (0..sizes.states).rev() {
         let v = value_of(file, sizes, &sets, first + s, work);
         work[first + s] = v;
         sets::put(&mut next[k], s, v == 1);

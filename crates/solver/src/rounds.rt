@@ -5,13 +5,10 @@ ghost use Rattle.sets.specs.Words.{words, word_count};
 ghost use Rattle.solver.specs.File.{sizes_of, block_at};
 ghost use Rattle.solver.specs.internal.Working.{OpenFile, Ready, HoldsRows, Started, Solving, Turned, starting};
 
-use crate::cells::right_sides;
+use crate::cells::{BlockSets, right_sides};
 use crate::file::{HEADER, number_at};
 use crate::{BLOCKS, Sizes};
-use sets::WORDS;
-
-// The sets of all blocks, by block.
-pub type BlockSets = [[u64; WORDS]; BLOCKS];
+use sets::{Set, WORDS};
 
 // How a round of a block ends: its set is stable, and the later blocks are solved, or it is replaced.
 #[derive(Clone, Copy)]
@@ -21,7 +18,7 @@ pub enum Ending {
 }
 
 // Where block k starts: no state for mu, every state for nu.
-fn start_of(file: &[u8], sizes: Sizes, k: usize) -> [u64; WORDS]
+fn start_of(file: &[u8], sizes: Sizes, k: usize) -> Set
     requires { OpenFile file.now sizes × (k < sizes.blocks) }
     ensures { result ≡ words word_count (start (sizes_of file.now).states (block_at file.now k).sign) }
 {

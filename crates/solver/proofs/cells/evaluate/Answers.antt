@@ -6,18 +6,15 @@ use Rattle.solver.proofs.Shown.{evaluated_none, evaluated_more}
 use Rattle.solver.proofs.cells.evaluate.Goals as goal
 
 pub loop-i-init : goal.loop-i-init
-loop-i-init c = (c.requires.1, omega arith, evaluated_none c.requires.0)
+loop-i-init c = (c.requires.1, evaluated_none c.requires.0)
 
 pub loop-i-preserved : goal.loop-i-preserved
 loop-i-preserved c =
     let i : ℕ = c.loop-i.i - 1 in
-    let s : i + 1 ≡ c.loop-i.i = omega arith in (
-      omega arith,
-      omega arith,
-      evaluated_more (rw (← s) at c.loop-i.invariant.2) (omega (arith, (counted c.requires.0.opens.counts).cells)) c.value_of-v.ensures,
-    )
+    let s : i + 1 ≡ c.loop-i.i = omega arith in
+    (omega arith, evaluated_more (rw (← s) at c.loop-i.invariant.1) (omega (arith, (counted c.requires.0.opens.counts).cells)) c.value_of-v.ensures)
 
 pub returns : goal.returns
 returns c =
     let s : c.loop-i.i ≡ c.args.from = omega arith in
-    rw s at c.loop-i.invariant.2
+    rw s at c.loop-i.invariant.1

@@ -3,7 +3,4 @@ use Rattle.solver.specs.internal.Working.{CellsValued}
 use Rattle.solver.proofs.cells.evaluate.Given as goal
 
 abbrev pub invariant-loop-i : goal.invariant-loop-i
-invariant-loop-i l = (l.from ≤ l.i) × (l.i ≤ l.sizes.cells) × CellsValued l.file l.sets l.i l.work
-
-abbrev pub decreases-loop-i : goal.decreases-loop-i
-decreases-loop-i l = l.i
+invariant-loop-i l = (l.from ≤ l.i) × CellsValued l.file l.sets l.i l.work

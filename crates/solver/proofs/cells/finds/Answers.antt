@@ -17,14 +17,14 @@ bounds-work-o c =
 pub returns-then-work-o : goal.returns-then-work-o
 returns-then-work-o c =
     let pre = c.requires in
-    hit pre.0 pre.1 _ c.loop-j.invariant.1 c.loop-j-test.true c.operand_at-o.ensures c.if-work-o.true
+    hit pre.0 pre.1 _ c.loop-j.invariant c.loop-j-test.true c.operand_at-o.ensures c.if-work-o.true
 
 pub loop-j-preserved : goal.loop-j-preserved
 loop-j-preserved c =
     let pre = c.requires in
-    (omega arith, miss pre.0 pre.1 _ c.loop-j.invariant.1 c.loop-j-test.true c.operand_at-o.ensures c.if-work-o.false)
+    miss pre.0 pre.1 _ c.loop-j.invariant c.loop-j-test.true c.operand_at-o.ensures c.if-work-o.false
 
 pub returns : goal.returns
 returns c =
     let pre = c.requires in
-    search_ends pre.0 pre.1 _ c.loop-j.invariant.1 c.loop-j-test.false
+    search_ends pre.0 pre.1 _ c.loop-j.invariant c.loop-j-test.false

@@ -3,6 +3,3 @@ use Rattle.solver.proofs.cells.right_sides.Given as goal
 
 abbrev pub invariant-loop-s : goal.invariant-loop-s
 invariant-loop-s l = Replacing l.file l.sizes l.sets l.k l.first l.s l.work l.next
-
-abbrev pub decreases-loop-s : goal.decreases-loop-s
-decreases-loop-s l = l.s

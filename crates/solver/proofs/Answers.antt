@@ -135,24 +135,7 @@ module _ {e : List ℕ} {sizes : Sizes} (o : OpenFile e sizes) (work marks : Lis
         (m ∙ ap (λ (l : List ℕ). l ++ drop word_count marks) is)
         (ap₂ (λ (x y : List ℕ). x ++ y) r.values rest)
 
--- ---- opening a file: its counts, or the condition that holds
-pub opens_file : {e : List ℕ} {sizes : Sizes} → Ok sizes ≡ opened e → OpenFile e sizes
-unfolding opened
-opens_file {e} {sizes} h = go (layout_ok e) (tables_ok e) refl refl
-  where
-    go : (a b : Bool) → layout_ok e ≡ a → tables_ok e ≡ b → OpenFile e sizes
-    go true true p q =
-        let z : opened e ≡ Ok (sizes_of e) = rw (p, q, opened) refl in
-        record { formed = record { layout = p; tables = q }; counts = cc }
-    go true false p q =
-        let z : opened e ≡ Err Table = rw (p, q, opened) refl in
-        let n : ◌≡◌ {A = ℕ} 0 1 = cc in
-        absurd (omega arith)
-    go false b p q =
-        let z : opened e ≡ Err Layout = rw (p, opened) refl in
-        let n : ◌≡◌ {A = ℕ} 0 1 = cc in
-        absurd (omega arith)
-
+-- ---- opening a file: the condition that holds
 pub unfit : {e : List ℕ} {cause : Cause} → Err cause ≡ opened e → (work marks : List ℕ) (limit : ℕ) → Answered e work marks limit (solve_answer (Err cause)) work marks
 unfolding opened solve_number
 unfit {e} {cause} h work marks limit = go (layout_ok e) (tables_ok e) refl refl

@@ -1,5 +1,5 @@
 -- Condition 11: what its tests come to, and what opening a file answers.
-use mathlib.Core.Path.{◌≡◌, refl, sym}
+use mathlib.Core.Path.{◌≡◌, refl}
 use mathlib.Core.Bool.{Bool, true, false}
 use mathlib.Core.List.{List}
 use Prim.Native.Nat.{ℕ, ◌+◌, ◌*◌, ◌≤◌, ◌<◌}
@@ -8,12 +8,11 @@ use mir.Syntax.{w64}
 use mir.Val.{Fits}
 use borrow.Author.Tests.{le-leb, lt-leb, lt-ltb, eq-eqb}
 use lib.Dec.{T, leb-zero, ltb→lt, eqb→eq}
-use Rattle.std.specs.Prelude.{Ok, Err}
+use Rattle.std.specs.Prelude.{Err}
 use lib.ListN.{length}
 use Rattle.sets.proofs.Refusals.{bounds}
 use Rattle.sets.specs.Lists.{every}
 use Rattle.sets.specs.Words.{state_limit}
-use Rattle.sets.specs.internal.DecidedBy.{DecidedBy}
 use Rattle.sets.proofs.Lists.{test}
 use Rattle.solver.specs.declared.Cause.TheVariants.{Layout, Table}
 use Rattle.solver.specs.declared.Sizes.{Sizes}
@@ -76,17 +75,8 @@ layout_from e r =
     )
 
 -- a file of which condition 11 does not hold, for counts that are those of the file
-pub layout_read : (e : List ℕ) (s : Sizes) → s ≡ sizes_of e → layout_ok e ≡ true → Read e s
+layout_read : (e : List ℕ) (s : Sizes) → s ≡ sizes_of e → layout_ok e ≡ true → Read e s
 layout_read e s are h = rw are (layout_facts e h)
-
--- an answer to whether the file can be read is the test of condition 11
-pub layout_decided : (e : List ℕ) (s : Sizes) → s ≡ sizes_of e → (answer : Bool) → DecidedBy (Read e s) answer → answer ≡ layout_ok e
-layout_decided e s are true d = sym (layout_from e (rw are at (d.yes_if refl)))
-layout_decided e s are false d = go (layout_ok e) refl
-  where
-    go : (b : Bool) → layout_ok e ≡ b → false ≡ b
-    go true h = absurd (d.no_if refl (layout_read e s are h))
-    go false h = refl
 
 -- a file too short for the header
 pub layout_short : (e : List ℕ) → length e < 36 → layout_ok e ≡ false
@@ -119,20 +109,28 @@ module _ {e : List ℕ} {s : Sizes} (r : Read e s) where
   pub operand_inside : {j : ℕ} → j < s.operands → operands_at (sizes_of e) + 4 * j + 4 ≤ length e
   operand_inside h = let n = counted r.sizes_are in omega (arith, r.places.ends)
 
--- what opening a file answers
-module _ (e : List ℕ) where
-  -- condition 11 holds
-  pub opened_layout : layout_ok e ≡ false → Err Layout ≡ opened e
+-- What opening a file answers: condition 11 holds,
+pub opened_layout : (e : List ℕ) → layout_ok e ≡ false → Err Layout ≡ opened e
+unfolding opened
+opened_layout e f = rw (opened, f) refl
+
+-- since the file cannot be read,
+pub opened_unread : (e : List ℕ) (s : Sizes) → s ≡ sizes_of e → ¬ Read e s → Err Layout ≡ opened e
+opened_unread e s are n = go (layout_ok e) refl
+  where
+    go : (b : Bool) → layout_ok e ≡ b → Err Layout ≡ opened e
+    go true h = absurd (n (layout_read e s are h))
+    go false h = opened_layout e h
+
+module _ {e : List ℕ} {s : Sizes} (r : Read e s) where
+  layout_is : layout_ok e ≡ true
+  layout_is = layout_from e (rw r.sizes_are at r)
+
+  -- condition 12 holds,
+  pub opened_table : tables_ok e ≡ false → Err Table ≡ opened e
   unfolding opened
-  opened_layout f = rw (opened, f) refl
+  opened_table f = rw (opened, layout_is, f) refl
 
-  module _ (layout : layout_ok e ≡ true) where
-    -- condition 12 holds
-    pub opened_table : tables_ok e ≡ false → Err Table ≡ opened e
-    unfolding opened
-    opened_table f = rw (opened, layout, f) refl
-
-    -- neither holds
-    pub opened_file : tables_ok e ≡ true → (s : Sizes) → s ≡ sizes_of e → Ok s ≡ opened e
-    unfolding opened
-    opened_file t s are = rw (opened, layout, t, are) refl
+  -- or neither does
+  pub opens : tables_ok e ≡ true → OpenFile e s
+  opens t = record { formed = record { layout = layout_is; tables = t }; counts = r.sizes_are }

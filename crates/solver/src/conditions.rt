@@ -1,13 +1,13 @@
 // Conditions 11 and 12.
-ghost use Rattle.std.specs.Prelude.{◌≡◌, ◌&&◌, ◌+◌, ◌-◌, ◌<◌, ◌≤◌, eqb, ltb, leb, length};
+ghost use Rattle.std.specs.Prelude.{◌≡◌, ◌&&◌, ◌+◌, ◌-◌, ◌<◌, ◌≤◌, eqb, ltb, leb, length, IfOk, IfErr, Err};
 ghost use Rattle.sets.specs.Lists.{numbers_from, every};
 ghost use Rattle.sets.specs.internal.DecidedBy.{DecidedBy};
 ghost use Rattle.solver.specs.File.{sizes_of, cells_at, operands_at, blocks_at};
-ghost use Rattle.solver.specs.Conditions.{layout_ok, block_ok, operands_before, operands_ok, tables_ok};
+ghost use Rattle.solver.specs.Conditions.{block_ok, operands_before, operands_ok, tables_ok};
 ghost use Rattle.solver.specs.internal.Forms.{opened};
-ghost use Rattle.solver.specs.internal.Checks.{SizesFit, Places, Read, rest_ok, Spans};
+ghost use Rattle.solver.specs.internal.Checks.{SizesFit, Places, rest_ok, Spans};
 
-use crate::file::{HEADER, cell_at, kind_holds, number_at, operand_at, sizes_of};
+use crate::file::{EquationFile, HEADER, Tables, number_at, sizes_of};
 use crate::{Cause, Cell, Operands, Sizes};
 
 // Whether each count is in its range, and the initial state is a state.
@@ -67,37 +67,34 @@ fn places_hold(file: &[u8], sizes: Sizes) -> bool
     file.len() == end + 4 * sizes.operands
 }
 
-// Whether condition 11 does not hold.
-fn layout_holds(file: &[u8], sizes: Sizes) -> bool
-    requires long_enough { blocks_at ≤ length file.now }
-    requires sizes_read { sizes ≡ sizes_of file.now }
-    ensures { result ≡ layout_ok file.now }
+// The tables of a file, or that condition 11 holds.
+fn lay_out(file: &[u8]) -> Result<Tables<'_>, Cause>
+    ensures lays_out { IfOk result (λ tables. tables.bytes.now ≡ file.now) }
+    ensures refuses { IfErr result (λ cause. Err cause ≡ opened file.now) }
 {
-    if counts_hold(sizes) {
-        return places_hold(file, sizes);
+    if file.len() < HEADER {
+        return Err(Cause::Layout);
     }
-    false
+    let sizes = sizes_of(file);
+    if counts_hold(sizes) && places_hold(file, sizes) {
+        return Ok(Tables { bytes: file, sizes });
+    }
+    Err(Cause::Layout)
 }
 
 // Whether block k keeps its rule.
-fn block_holds(file: &[u8], sizes: Sizes, k: usize) -> bool
-    requires layout_read { Read file.now sizes }
-    requires inside { k < sizes.blocks }
-    ensures { result ≡ block_ok file.now k }
+fn block_holds(tables: &Tables<'_>, k: usize) -> bool
+    requires inside { k < tables.now.sizes.blocks }
+    ensures { result ≡ block_ok tables.now.bytes.now k }
 {
-    let at = HEADER + 8 * k;
-    if 1 < number_at(file, at) {
-        return false;
-    }
-    number_at(file, at + 4) + sizes.states <= sizes.cells
+    tables.sign(k) <= 1 && tables.first(k) + tables.sizes.states <= tables.sizes.cells
 }
 
 // Whether every block keeps its rule.
-fn blocks_hold(file: &[u8], sizes: Sizes) -> bool
-    requires { Read file.now sizes }
-    ensures { result ≡ every (block_ok file.now) (numbers_from 0 (sizes_of file.now).blocks) }
+fn blocks_hold(tables: &Tables<'_>) -> bool
+    ensures { result ≡ every (block_ok tables.now.bytes.now) (numbers_from 0 (sizes_of tables.now.bytes.now).blocks) }
 {
-    (0..sizes.blocks).all(|k| block_holds(file, sizes, k))
+    (0..tables.sizes.blocks).all(|k| block_holds(tables, k))
 }
 
 // Whether an operand of cell i is a cell number above i.
@@ -108,21 +105,21 @@ fn operand_holds(sizes: Sizes, i: usize, operand: usize) -> bool
 }
 
 // Whether every operand of a list of cell i is a cell number above i.
-fn operands_hold(file: &[u8], sizes: Sizes, i: usize, list: Operands) -> bool
-    requires layout_read { Read file.now sizes }
-    requires inside { list.first + list.count ≤ sizes.operands }
-    ensures { result ≡ operands_ok file.now i list.first list.count }
+fn operands_hold(tables: &Tables<'_>, i: usize, list: Operands) -> bool
+    requires inside { list.first + list.count ≤ tables.now.sizes.operands }
+    ensures { result ≡ operands_ok tables.now.bytes.now i list.first list.count }
 {
-    (0..list.count).all(|j| operand_holds(sizes, i, operand_at(file, sizes, list.first + j)))
+    (0..list.count).all(|j| operand_holds(tables.sizes, i, tables.operand(list.first + j)))
 }
 
 // Whether a list of cell i starts behind the `used` operands of the lists before it, ends in the operand table, and has the operands of its cell.
-fn list_holds(file: &[u8], sizes: Sizes, i: usize, used: usize, list: Operands) -> bool
-    requires layout_read { Read file.now sizes }
-    requires few { used ≤ sizes.operands }
-    ensures { result ≡ (eqb list.first used && leb list.count (sizes.operands - used) && operands_ok file.now i used list.count) }
+fn list_holds(tables: &Tables<'_>, i: usize, used: usize, list: Operands) -> bool
+    requires few { used ≤ tables.now.sizes.operands }
+    ensures { result ≡ (eqb list.first used && leb list.count (tables.now.sizes.operands - used) && operands_ok tables.now.bytes.now i used list.count) }
 {
-    list.first == used && list.count <= sizes.operands - used && operands_hold(file, sizes, i, list)
+    list.first == used
+        && list.count <= tables.sizes.operands - used
+        && operands_hold(tables, i, list)
 }
 
 // Whether a variable has a block and a state.
@@ -133,60 +130,50 @@ fn variable_holds(sizes: Sizes, block: usize, state: usize) -> bool
 }
 
 // How many operands cell i has, if it keeps its rule, where the lists before it have `used` operands.
-fn operand_count(file: &[u8], sizes: Sizes, i: usize, used: usize) -> Option<usize>
-    requires layout_read { Read file.now sizes }
-    requires inside { i < sizes.cells }
-    requires counted { used ≡ operands_before file.now i }
-    requires few { used ≤ sizes.operands }
-    ensures { Spans file.now i used result }
+fn operand_count(tables: &Tables<'_>, i: usize, used: usize) -> Option<usize>
+    requires inside { i < tables.now.sizes.cells }
+    requires counted { used ≡ operands_before tables.now.bytes.now i }
+    requires few { used ≤ tables.now.sizes.operands }
+    ensures { Spans tables.now.bytes.now i used result }
 {
-    if !kind_holds(file, sizes, i) {
+    if 2 < tables.kind(i) {
         return None;
     }
-    match cell_at(file, sizes, i) {
-        Cell::And(list) | Cell::Or(list) => list_holds(file, sizes, i, used, list).then_some(
-            list.count,
-        ),
-        Cell::Variable { block, state } => variable_holds(sizes, block, state).then_some(0),
+    match tables.cell(i) {
+        Cell::And(list) | Cell::Or(list) => list_holds(tables, i, used, list).then_some(list.count),
+        Cell::Variable { block, state } => variable_holds(tables.sizes, block, state).then_some(0),
     }
 }
 
 // Whether every cell keeps its rule, and the lists fill the operand table.
-fn cells_hold(file: &[u8], sizes: Sizes) -> bool
-    requires { Read file.now sizes }
-    ensures { result ≡ rest_ok file.now 0 }
+fn cells_hold(tables: &Tables<'_>) -> bool
+    ensures { result ≡ rest_ok tables.now.bytes.now 0 }
 {
     let mut used = 0;
-    for i in 0..sizes.cells {
-        let Some(count) = operand_count(file, sizes, i, used) else {
+    for i in 0..tables.sizes.cells {
+        let Some(count) = operand_count(tables, i, used) else {
             return false;
         };
         used += count;
     }
-    used == sizes.operands
+    used == tables.sizes.operands
 }
 
 // Whether condition 12 does not hold.
-fn tables_hold(file: &[u8], sizes: Sizes) -> bool
-    requires { Read file.now sizes }
-    ensures { result ≡ tables_ok file.now }
+fn tables_hold(tables: &Tables<'_>) -> bool
+    ensures { result ≡ tables_ok tables.now.bytes.now }
 {
-    blocks_hold(file, sizes) && cells_hold(file, sizes)
+    blocks_hold(tables) && cells_hold(tables)
 }
 
-// The counts of a file, or the first of conditions 11 and 12 that holds.
-pub fn open_file(file: &[u8]) -> Result<Sizes, Cause>
-    ensures { result ≡ opened file.now }
+// A file that can be solved, or the first of conditions 11 and 12 that holds.
+pub fn open_file(file: &[u8]) -> Result<EquationFile<'_>, Cause>
+    ensures opens { IfOk result (λ opened. opened.tables.bytes.now ≡ file.now) }
+    ensures refuses { IfErr result (λ cause. Err cause ≡ opened file.now) }
 {
-    if file.len() < HEADER {
-        return Err(Cause::Layout);
-    }
-    let sizes = sizes_of(file);
-    if !layout_holds(file, sizes) {
-        return Err(Cause::Layout);
-    }
-    if !tables_hold(file, sizes) {
+    let tables = lay_out(file)?;
+    if !tables_hold(&tables) {
         return Err(Cause::Table);
     }
-    Ok(sizes)
+    Ok(EquationFile { tables })
 }

@@ -2,6 +2,8 @@
 ghost use Rattle.std.specs.Prelude.{◌≡◌, ◌+◌, ◌*◌, ◌^◌, ◌<◌, ◌≤◌, leb, length};
 ghost use Rattle.solver.specs.File.{u32, cells_at, operands_at, entry_at, sizes_of, blocks_at};
 ghost use Rattle.solver.specs.internal.Reading.{cell_read};
+ghost use Rattle.solver.specs.internal.Checks.{Read};
+ghost use Rattle.solver.specs.internal.Working.{OpenFile};
 
 use crate::{Cell, Operands, Sizes};
 
@@ -39,12 +41,78 @@ pub fn sizes_of(file: &[u8]) -> Sizes
     }
 }
 
-// Whether the kind of cell i is that of an and, an or, or a variable.
-pub fn kind_holds(file: &[u8], sizes: Sizes, i: usize) -> bool
-    requires { (sizes ≡ sizes_of file.now) × (cells_at (sizes_of file.now) + 12 * i + 12 ≤ length file.now) }
-    ensures { result ≡ leb (entry_at file.now i).kind 2 }
-{
-    number_at(file, HEADER + 8 * sizes.blocks + 12 * i) <= 2
+// The tables of a file of which condition 11 does not hold, with its counts.
+#[derive(Clone, Copy)]
+pub struct Tables<'a> {
+    pub bytes: &'a [u8],
+    pub sizes: Sizes,
+    ghost read: { Read bytes.now sizes },
+}
+
+impl<'a> Tables<'a> {
+    // The sign of block k: 0 is mu, 1 is nu.
+    pub fn sign(&self, k: usize) -> usize
+        requires { k < self.now.sizes.blocks }
+        ensures { result ≡ u32 self.now.bytes.now (blocks_at + 8 * k) }
+    {
+        number_at(self.bytes, HEADER + 8 * k)
+    }
+
+    // The first cell of block k.
+    pub fn first(&self, k: usize) -> usize
+        requires { k < self.now.sizes.blocks }
+        ensures { (result ≡ u32 self.now.bytes.now (blocks_at + 8 * k + 4)) × (result < 2 ^ 32) }
+    {
+        number_at(self.bytes, HEADER + 8 * k + 4)
+    }
+
+    // The kind of cell i.
+    pub fn kind(&self, i: usize) -> usize
+        requires { i < self.now.sizes.cells }
+        ensures { result ≡ (entry_at self.now.bytes.now i).kind }
+    {
+        number_at(self.bytes, HEADER + 8 * self.sizes.blocks + 12 * i)
+    }
+
+    // Cell i. A kind above 2 reads as a variable: no opened file has one.
+    pub fn cell(&self, i: usize) -> Cell
+        requires { i < self.now.sizes.cells }
+        ensures { result ≡ cell_read (entry_at self.now.bytes.now i) }
+    {
+        let at = HEADER + 8 * self.sizes.blocks + 12 * i;
+        let one = number_at(self.bytes, at + 4);
+        let two = number_at(self.bytes, at + 8);
+        let operands = Operands {
+            first: one,
+            count: two,
+        };
+        match number_at(self.bytes, at) {
+            0 => Cell::And(operands),
+            1 => Cell::Or(operands),
+            _ => Cell::Variable {
+                block: one,
+                state: two,
+            },
+        }
+    }
+
+    // The number at place j of the operand table.
+    pub fn operand(&self, j: usize) -> usize
+        requires { j < self.now.sizes.operands }
+        ensures { result ≡ u32 self.now.bytes.now (operands_at (sizes_of self.now.bytes.now) + 4 * j) }
+    {
+        number_at(
+            self.bytes,
+            HEADER + 8 * self.sizes.blocks + 12 * self.sizes.cells + 4 * j,
+        )
+    }
+}
+
+// A file of which neither condition 11 nor condition 12 holds.
+#[derive(Clone, Copy)]
+pub struct EquationFile<'a> {
+    pub tables: Tables<'a>,
+    ghost opens: { OpenFile tables.bytes.now tables.sizes },
 }
 
 // Cell i. A kind above 2 reads as a variable: no opened file has one.

@@ -13,6 +13,7 @@ ghost use Rattle.solver.specs.internal.Working.{OpenFile, AllSolved};
 
 use conditions::open_file;
 pub use file::HEADER;
+use file::{EquationFile, Tables};
 use sets::WORDS;
 
 pub const BLOCKS: usize = 6;
@@ -107,10 +108,10 @@ fn run(file: &[u8], sizes: Sizes, work: &mut [u8], limit: u64) -> Option<Found>
 }
 
 // Solves a file whose conditions 11 and 12 do not hold.
-fn solve_opened(file: &[u8], sizes: Sizes, work: &mut [u8], marks: &mut [u64], limit: u64) -> Answer
-    requires { OpenFile file.now sizes }
-    ensures { Answered file.now work.old marks.old limit (solve_answer result) work.new marks.new }
+fn solve_opened(file: &EquationFile<'_>, work: &mut [u8], marks: &mut [u64], limit: u64) -> Answer
+    ensures { Answered file.now.tables.bytes.now work.old marks.old limit (solve_answer result) work.new marks.new }
 {
+    let Tables { bytes, sizes } = file.tables;
     let c = sizes.cells;
     if work.len() < c {
         return Err(Cause::Memory);
@@ -118,7 +119,7 @@ fn solve_opened(file: &[u8], sizes: Sizes, work: &mut [u8], marks: &mut [u64], l
     if marks.len() < WORDS {
         return Err(Cause::Memory);
     }
-    let Some(found) = run(file, sizes, &mut work[..c], limit) else {
+    let Some(found) = run(bytes, sizes, &mut work[..c], limit) else {
         return Err(Cause::Spent);
     };
     let Found { row, rounds } = found;
@@ -136,6 +137,6 @@ fn solve_opened(file: &[u8], sizes: Sizes, work: &mut [u8], marks: &mut [u64], l
 pub fn solve(file: &[u8], work: &mut [u8], marks: &mut [u64], limit: u64) -> Answer
     ensures { Answered file.now work.old marks.old limit (solve_answer result) work.new marks.new }
 {
-    let sizes = open_file(file)?;
-    solve_opened(file, sizes, work, marks, limit)
+    let opened = open_file(file)?;
+    solve_opened(&opened, work, marks, limit)
 }

@@ -1,11 +1,8 @@
 use Rattle.std.proofs.lemmas.Result.{err_from_is_err_and}
-use Rattle.solver.proofs.Answers.{opens_file, unfit}
+use Rattle.solver.proofs.Answers.{unfit}
 use Rattle.solver.proofs.solve.Goals as goal
 
-pub solve_opened-requires : goal.solve_opened-requires
-solve_opened-requires c = opens_file c.in_ok-sizes.ensures
-
-pub returns-in_err-sizes : goal.returns-in_err-sizes
-returns-in_err-sizes c =
+pub returns-in_err-opened : goal.returns-in_err-opened
+returns-in_err-opened c =
     let p = err_from_is_err_and c.from_residual.result c.from_residual.ensures.1 in
-    rw (p.1, p.2) (unfit c.in_err-sizes.ensures _ _ _)
+    rw (p.1, p.2) (unfit c.in_err-opened.ensures.refuses _ _ _)

@@ -4,17 +4,17 @@ use Rattle.solver.proofs.Answers.{few_bytes, few_words, ended_spent, ended_solve
 use Rattle.solver.proofs.solve_opened.Goals as goal
 
 pub returns-then-work-c : goal.returns-then-work-c
-returns-then-work-c c = few_bytes c.requires _ _ _ (omega arith)
+returns-then-work-c c = few_bytes c.args.file.now.opens _ _ _ (omega arith)
 
 pub returns-then-marks-lt-WORDS : goal.returns-then-marks-lt-WORDS
-returns-then-marks-lt-WORDS c = few_words c.requires _ _ _ c.if-marks-lt-WORDS.true
+returns-then-marks-lt-WORDS c = few_words c.args.file.now.opens _ _ _ c.if-marks-lt-WORDS.true
 
 pub returns-in_default : goal.returns-in_default
-returns-in_default c = ended_spent c.requires _ _ _ (omega arith) (omega arith) (rw c.in_default.is at c.run.ensures)
+returns-in_default c = ended_spent c.args.file.now.opens _ _ _ (omega arith) (omega arith) (rw c.in_default.is at c.run.ensures)
 
 pub test-verdict-requires : goal.test-verdict-requires
-test-verdict-requires c = let n = (opens_read c.requires).counts in omega arith
+test-verdict-requires c = let n = (opens_read c.args.file.now.opens).counts in omega arith
 
 pub returns : goal.returns
 returns c =
-    ended_solved c.requires _ _ _ c.if-work-c.false c.if-marks-lt-WORDS.false c.in-Some.ensures.answers c.test-verdict.ensures c.count-count.ensures c.store.ensures
+    ended_solved c.args.file.now.opens _ _ _ c.if-work-c.false c.if-marks-lt-WORDS.false c.in-Some.ensures.answers c.test-verdict.ensures c.count-count.ensures c.store.ensures

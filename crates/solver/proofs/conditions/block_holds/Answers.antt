@@ -1,9 +1,10 @@
-use native.Mathlib.Omega.{arith}
+use borrow.Author.Tests.{lt-leb}
 use Rattle.solver.proofs.BlockRules.{block_sign_fails, block_cells}
+use native.Mathlib.Omega.{arith}
 use Rattle.solver.proofs.conditions.block_holds.Goals as goal
 
-pub returns-then-number_at-gt1 : goal.returns-then-number_at-gt1
-returns-then-number_at-gt1 c = block_sign_fails _ _ (omega arith)
+pub returns-then-sign-le1 : goal.returns-then-sign-le1
+returns-then-sign-le1 c = block_cells _ _ c.args.tables.now.read _ _ (omega arith) c.first.ensures.0
 
-pub returns : goal.returns
-returns c = block_cells _ _ c.requires.layout_read _ _ (omega arith) c.number_at-2.ensures.0
+pub returns-else-sign-le1 : goal.returns-else-sign-le1
+returns-else-sign-le1 c = rw (lt-leb c.sign.result 1 c.if-sign-le1.false) (block_sign_fails _ _ (omega arith))

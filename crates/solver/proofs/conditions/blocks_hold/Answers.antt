@@ -10,4 +10,4 @@ use Rattle.solver.proofs.conditions.blocks_hold.Goals as goal
 
 pub returns : goal.returns
 returns c =
-    rw (← (counted c.requires.sizes_are).blocks) (every_decided (block_ok c.args.file.now) c.args.sizes.blocks c.all.result (cases_from_all _ _ c.all.result (λ k. block_ok c.args.file.now k ≡ true) (λ k. block_ok c.args.file.now k ≡ false) c.all.ensures.ran (YieldsList-from_range 0 c.args.sizes.blocks c.args.sizes.blocks refl (omega arith)) (λ x q k. search rules) (λ x q k. search rules)))
+    rw (← (counted c.args.tables.now.read.sizes_are).blocks) (every_decided (block_ok c.args.tables.now.bytes.now) c.args.tables.now.sizes.blocks c.all.result (cases_from_all _ _ c.all.result (λ k. block_ok c.args.tables.now.bytes.now k ≡ true) (λ k. block_ok c.args.tables.now.bytes.now k ≡ false) c.all.ensures.ran (YieldsList-from_range 0 c.args.tables.now.sizes.blocks c.args.tables.now.sizes.blocks refl (omega arith)) (λ x q k. search rules) (λ x q k. search rules)))

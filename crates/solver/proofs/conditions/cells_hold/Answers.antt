@@ -13,10 +13,10 @@ loop-i-preserved c =
     let found = c.operand_count.ensures in (
       omega arith,
       refl,
-      omega (arith, (counted c.requires.sizes_are).operands, found.fits c.in-Some.count c.in-Some.is),
+      omega (arith, (counted c.args.tables.now.read.sizes_are).operands, found.fits c.in-Some.count c.in-Some.is),
       found.next c.in-Some.count c.in-Some.is,
-      cell_goes_on _ _ c.requires _ _ i.3 i.4 found c.loop-i-test.true c.in-Some.count c.in-Some.is,
+      cell_goes_on _ _ c.args.tables.now.read _ _ i.3 i.4 found c.loop-i-test.true c.in-Some.count c.in-Some.is,
     )
 
 pub returns : goal.returns
-returns c = cells_end _ _ c.requires _ _ c.loop-i.invariant.3 c.loop-i.invariant.4 (omega arith)
+returns c = cells_end _ _ c.args.tables.now.read _ _ c.loop-i.invariant.3 c.loop-i.invariant.4 (omega arith)

@@ -5,4 +5,4 @@ use Rattle.solver.specs.internal.Checks.{rest_ok}
 use Rattle.solver.proofs.conditions.cells_hold.Given as goal
 
 abbrev pub invariant-loop-i : goal.invariant-loop-i
-invariant-loop-i l = (l.i ≤ l.sizes.cells) × (l.i-end ≡ l.sizes.cells) × (l.used ≤ l.sizes.operands) × (l.used ≡ operands_before l.file l.i) × (rest_ok l.file 0 ≡ rest_ok l.file l.i)
+invariant-loop-i l = (l.i ≤ l.tables.sizes.cells) × (l.i-end ≡ l.tables.sizes.cells) × (l.used ≤ l.tables.sizes.operands) × (l.used ≡ operands_before l.tables.bytes.now l.i) × (rest_ok l.tables.bytes.now 0 ≡ rest_ok l.tables.bytes.now l.i)

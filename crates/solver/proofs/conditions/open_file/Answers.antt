@@ -1,18 +1,15 @@
 use mathlib.Core.Path.{sym, ◌∙◌}
-use Rattle.solver.proofs.Reading.{layout_short, layout_read, opened_layout, opened_table, opened_file}
+use Rattle.std.proofs.lemmas.Result.{err_from_is_err_and}
+use Rattle.solver.proofs.Reading.{opened_table, opens}
 use Rattle.solver.proofs.conditions.open_file.Goals as goal
 
-pub returns-then-file-lt-HEADER : goal.returns-then-file-lt-HEADER
-returns-then-file-lt-HEADER c = opened_layout _ (layout_short _ c.if-file-lt-HEADER.true)
+pub returns-in_err-tables-clause-refuses : goal.returns-in_err-tables-clause-refuses
+returns-in_err-tables-clause-refuses c =
+    let p = err_from_is_err_and c.from_residual.result c.from_residual.ensures.1 in
+    rw (p.1, p.2) c.in_err-tables.ensures.refuses
 
-pub returns-then-not-layout_holds : goal.returns-then-not-layout_holds
-returns-then-not-layout_holds c = opened_layout _ (sym c.layout_holds.ensures ∙ c.if-not-layout_holds.true)
+pub returns-then-not-tables_hold-clause-refuses : goal.returns-then-not-tables_hold-clause-refuses
+returns-then-not-tables_hold-clause-refuses c = rw c.in_ok-tables.ensures.lays_out at (opened_table c.in_ok-tables.tables.read (sym c.tables_hold.ensures ∙ c.if-not-tables_hold.true))
 
-pub tables_hold-requires : goal.tables_hold-requires
-tables_hold-requires c = layout_read _ _ c.sizes_of-sizes.ensures (sym c.layout_holds.ensures ∙ c.if-not-layout_holds.false)
-
-pub returns-then-not-tables_hold : goal.returns-then-not-tables_hold
-returns-then-not-tables_hold c = opened_table _ (sym c.layout_holds.ensures ∙ c.if-not-layout_holds.false) (sym c.tables_hold.ensures ∙ c.if-not-tables_hold.true)
-
-pub returns : goal.returns
-returns c = opened_file _ (sym c.layout_holds.ensures ∙ c.if-not-layout_holds.false) (sym c.tables_hold.ensures ∙ c.if-not-tables_hold.false) _ c.sizes_of-sizes.ensures
+pub invariant_of-result : goal.invariant_of-result
+invariant_of-result c = record { opens = opens c.in_ok-tables.tables.read (sym c.tables_hold.ensures ∙ c.if-not-tables_hold.false) }

@@ -9,7 +9,6 @@ use native.Mathlib.Decide.{ℕ_discrete}
 use native.Mathlib.Numerals.{add-one}
 use native.Mathlib.Omega.{arith}
 use borrow.Author.Tests.{ne_eqb, eq-eqb}
-use lib.Dec.{eqb}
 use lib.ListN.{take}
 use Rattle.sets.specs.Lists.{numbers_from}
 use Rattle.sets.proofs.Lists.{table_at}
@@ -24,37 +23,19 @@ take_map_range f s zero m h = refl
 take_map_range f s (suc i) zero h = absurd (omega arith)
 take_map_range f s (suc i) (suc m) h = ap (λ (l : List _). f s ∷ l) (take_map_range f (suc s) i m (omega arith))
 
--- Two records, number by number.
-module _ (x y : Transition) where
-  pub other_source : (x.source ≡ y.source → ⊥) → false ≡ same_transition x y
-  unfolding same_transition
-  other_source n = rw (ne_eqb x.source y.source n)
-
-  module _ (e : x.source ≡ y.source) where
-    pub other_label : (x.label ≡ y.label → ⊥) → false ≡ same_transition x y
-    unfolding same_transition
-    other_label n = rw (eq-eqb x.source y.source e, ne_eqb x.label y.label n)
-
-    pub by_target : x.label ≡ y.label → eqb x.target y.target ≡ same_transition x y
-    unfolding same_transition
-    by_target f = rw (eq-eqb x.source y.source e, eq-eqb x.label y.label f)
-
 module _ (record_at : ℕ → Transition) where
   -- Only the first i + 1 records matter, however many the table has.
-  pub copies_before_lem : (i m : ℕ) → i < m → copies_before (map record_at (numbers_from 0 m)) i ≡ copies (record_at i) (map record_at (numbers_from 0 i))
+  copies_before_lem : (i m : ℕ) → i < m → copies_before (map record_at (numbers_from 0 m)) i ≡ copies (record_at i) (map record_at (numbers_from 0 i))
   unfolding copies_before
   copies_before_lem i m h = rw (table_at record_at m i _ h, take_map_range record_at 0 i m (omega arith))
-
-  pub copies_any : (i m : ℕ) → i < m → copies_before (map record_at (numbers_from 0 (i + 1))) i ≡ copies_before (map record_at (numbers_from 0 m)) i
-  copies_any i m h = copies_before_lem i (i + 1) (omega arith) ∙ sym (copies_before_lem i m h)
 
   -- how many of the records from j on and before i equal record i
   abbrev pub copies_from : ℕ → ℕ → ℕ
   copies_from i j = copies (record_at i) (map record_at (numbers_from j (i - j)))
 
   -- the number of copies is that from 0 on
-  counted : (i : ℕ) → copies_before (map record_at (numbers_from 0 (i + 1))) i ≡ copies_from i 0
-  counted i = rw (sub-zero i) (copies_before_lem i (i + 1) (omega arith))
+  counted : (i m : ℕ) → i < m → copies_before (map record_at (numbers_from 0 m)) i ≡ copies_from i 0
+  counted i m h = rw (sub-zero i) (copies_before_lem i m h)
 
   -- record j is looked at
   looked_at : (i j : ℕ) → j < i → copies_from i j ≡ cond (same_transition (record_at j) (record_at i)) 1 0 + copies_from i (j + 1)
@@ -124,9 +105,9 @@ module _ (record_at : ℕ → Transition) where
           sum = omega (arith, w.sum, step, k.same_left);
         }
 
-  pub walk_end : (i j count : ℕ) → Walked i j count → i ≤ j → count ≡ copies_before (map record_at (numbers_from 0 (i + 1))) i
+  pub walk_end : (i j count m : ℕ) → i < m → Walked i j count → i ≤ j → count ≡ copies_before (map record_at (numbers_from 0 m)) i
   unfolding copies numbers_from
-  walk_end i j count w h =
+  walk_end i j count m l w h =
       let e : i - j ≡ 0 = omega arith in
       let none : copies_from i j ≡ 0 = rw e in
-      omega (arith, counted i, w.sum, none)
+      omega (arith, counted i m l, w.sum, none)

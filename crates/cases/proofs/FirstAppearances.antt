@@ -7,6 +7,7 @@ use Prim.Native.Nat.{ℕ, zero, suc, ◌+◌, ◌<◌, ◌≤◌}
 use native.Mathlib.Nat.{eq-or-lt_of_le, zero-add}
 use native.Mathlib.Numerals.{one-add}
 use native.Mathlib.Omega.{arith}
+use mir.Val.{bool_byte}
 use lib.Dec.{eqb}
 use lib.ListN.{length, get_or, set, drop, length-set, length-map}
 use lib.Seq.{get_or-set_same, get_or-set_other}
@@ -18,7 +19,6 @@ use Rattle.cases.specs.File.{transition_in}
 use Rattle.cases.specs.Case.{distinct, copies_before, transition_at}
 use Rattle.cases.specs.internal.Checks.{transitions_in}
 use Rattle.cases.proofs.Checking.{range_done, range_next}
-use Rattle.cases.proofs.Copies.{copies_any}
 use Rattle.cases.proofs.Distinct.{length_keep}
 use Rattle.cases.specs.internal.Links.{FirstFlags}
 
@@ -45,12 +45,6 @@ flagged_distinct part m flags h =
     (same_kept (transition_in part) (transition_at (transitions_in part m)) (λ j. eqb (get_or flags j 0) 1) (λ j. eqb (copies_before (transitions_in part m) j) 0) m 0 m (omega arith)
     (λ j l. sym (table_at (transition_in part) m j _ l))
     (λ j l. ap (λ (x : ℕ). eqb x 1) (h.at j l) ∙ bit_back _))
-
--- the flag of transition j by the first j + 1 records
-pub flag_any : (part : List ℕ) (m j : ℕ) → j < m
-    → bit (eqb (copies_before (map (transition_in part) (numbers_from 0 (j + 1))) j) 0) ≡ bit (eqb (copies_before (transitions_in part m) j) 0)
-unfolding transitions_in
-flag_any part m j h = ap (λ (x : ℕ). bit (eqb x 0)) (copies_any (transition_in part) j m h)
 
 -- whether record j of m is the first of its kind
 abbrev is_first : List ℕ → ℕ → ℕ → Bool
@@ -80,6 +74,11 @@ firsts_next part m j h = rw (range_next m j h) (go (is_first part m j))
         ≡ bit b + firsts_from part m (j + 1)
     go true = sym (one-add _)
     go false = sym (zero-add _)
+
+-- what a truth value is as a number
+pub byte_of : (b : Bool) → bool_byte b ≡ bit b
+byte_of true = refl
+byte_of false = refl
 
 -- one more is set
 module _ {part : List ℕ} {m j : ℕ} {flags : List ℕ} {count : ℕ} (s : SetBefore part m j flags count) (h : j < m) where

@@ -3,7 +3,7 @@ use mathlib.Core.Path.{◌≡◌, refl, sym, ap, ◌∙◌}
 use mathlib.Core.Logic.{◌⊎◌, inl, inr, by_cases}
 use mathlib.Core.Bool.{cond}
 use mathlib.Core.List.{List}
-use Prim.Native.Nat.{ℕ, suc, ◌+◌, ◌-◌, ◌*◌, ◌<◌, ◌≤◌}
+use Prim.Native.Nat.{ℕ, suc, ◌+◌, ◌-◌, ◌<◌, ◌≤◌}
 use native.Mathlib.Nat.{eq-or-lt_of_le}
 use native.Mathlib.Decide.{ℕ_discrete}
 use native.Mathlib.Numerals.{add-one}
@@ -14,7 +14,7 @@ use lib.ListN.{length, get_or, set, replicate, length-set, length-replicate, get
 use lib.Seq.{get_or-set_same, get_or-set_other}
 use Rattle.sets.specs.Words.{state_limit}
 use Rattle.cases.specs.File.{Transition, transition_in, transition_limit}
-use Rattle.cases.specs.internal.Links.{source_in, first_on, next_from, Sourced, LinkedFrom, LinkedAt}
+use Rattle.cases.specs.internal.Links.{source_in, first_on, next_from, Sourced, LinkedFrom, Linked}
 use Rattle.cases.proofs.Copies.{Skipped, Walked, skips}
 
 -- none is left from m on
@@ -82,37 +82,16 @@ linked_step part m i links sourced o h l t e =
     let back : i - 1 + 1 ≡ i = omega arith in
     rw e (linked_next part m (i - 1) links sourced (omega arith) (rw back l))
 
-pub source_read : {part : List ℕ} {m i : ℕ} → Sourced part m → i < m → (t : Transition) → t ≡ transition_in part i → t.source < state_limit
-source_read sourced h t e = rw e (sourced.source _ h)
-
 -- ---- the walk to record i along those with its source
 
-module _ {part links : List ℕ} {i : ℕ} (at : LinkedAt part links i) where
-  abbrev total : ℕ
-  total = at.count
-
-  abbrev filled : LinkedFrom part total 0 links
-  filled = at.linked.filled
-
-  pub source_small : (t : Transition) → t ≡ transition_in part i → t.source < state_limit
-  source_small = source_read at.linked.sourced at.inside
-
-  pub source_inside : (t : Transition) → t ≡ transition_in part i → t.source < length links
-  source_inside t e = omega (arith, source_small t e, filled.long)
-
-  pub place_there : {j : ℕ} → j ≤ i → state_limit + j < length links
-  place_there h = omega (arith, filled.long, at.linked.sourced.few, at.inside)
-
-  pub record_there : {j : ℕ} → j ≤ i → 6 * j + 6 ≤ length part
-  record_there h = omega (arith, at.linked.sourced.inside, at.inside)
-
+module _ {part links : List ℕ} {m i : ℕ} (linked : Linked part m links) (inside : i < m) where
   -- it starts at the first of them
   pub first_skips : (t : Transition) → t ≡ transition_in part i → Skipped (transition_in part) i 0 (get_or links t.source 0)
   first_skips t e =
-      rw (ap (λ (x : Transition). x.source) e, filled.state (source_in part i) (at.linked.sourced.source i at.inside))
-      (skips (transition_in part) total i 0 at.inside (omega arith))
+      rw (ap (λ (x : Transition). x.source) e, linked.filled.state (source_in part i) (linked.sourced.source i inside))
+      (skips (transition_in part) m i 0 inside (omega arith))
 
   -- and goes on with the next
   pub next_skips : {j copies : ℕ} → Walked (transition_in part) i j copies → j < i → Skipped (transition_in part) i (j + 1) (get_or links (state_limit + j) 0)
   next_skips {j} w h =
-      rw (filled.after j (omega arith) (omega (arith, at.inside)), w.same_source) (skips (transition_in part) total i (j + 1) at.inside (omega arith))
+      rw (linked.filled.after j (omega arith) (omega arith), w.same_source) (skips (transition_in part) m i (j + 1) inside (omega arith))

@@ -2,22 +2,21 @@
 use mathlib.Core.Path.{◌≡◌}
 use mathlib.Core.Bool.{Bool, true, false, ◌&&◌}
 use mathlib.Core.List.{List, Perm}
-use Prim.Native.Nat.{ℕ, ◌-◌, ◌<◌, ◌≤◌}
+use Prim.Native.Nat.{ℕ, ◌-◌, ◌<◌}
 use native.Mathlib.Omega.{arith}
 use borrow.Author.Tests.{not-false}
-use borrow.Author.Rules.{part_to_end}
 use lib.Dec.{T, ltb, ltb→lt}
 use lib.ListN.{length, take, drop}
 use Rattle.sets.specs.Lists.{every}
 use Rattle.sets.specs.Words.{state_limit}
 use Rattle.sets.proofs.Refusals.{refusing}
 use Rattle.sets.proofs.Lists.{and_left, and_right, all_at, length_table, table_at}
-use Rattle.cases.specs.File.{Header, Transition, header_of, transition_table, transition_in, transition_limit}
+use Rattle.cases.specs.File.{Transition, header_of, transition_table, transition_in}
 use Rattle.cases.specs.Case.{case_of, distinct}
 use Rattle.cases.specs.Conditions.{transition_ok, bad_model, case_refusal, Accepted}
 use Rattle.cases.specs.Tally.{tallied, no_tally, tally_of}
 use Rattle.cases.specs.internal.Checks.{transition_part, transitions_in}
-use Rattle.cases.specs.internal.Links.{source_in, Sourced, FirstFlags}
+use Rattle.cases.specs.internal.Links.{source_in, Sourced}
 use Rattle.cases.proofs.TableTrees.{holds, held}
 use Rattle.cases.proofs.ModelRules.{transitions_inside}
 use Rattle.cases.proofs.Distinct.{perm_length, perm_distinct}
@@ -64,27 +63,14 @@ module _ (b : List ℕ) (accepted : Accepted b) where
       let l = (passed b accepted).lies in
       record { few = l.counts.few_transitions; inside = transitions_inside l; source = sources }
 
-  module _ {h : Header} (is : h ≡ header_of b) where
-    pub table_at_offset : h.transitions_at ≤ length b
-    table_at_offset = let l = (passed b accepted).lies in rw is (omega (arith, l.ends, l.transitions))
+  -- Its table: what is found of it is found of the case.
+  module _ {part : List ℕ} {count : ℕ} (is : part ≡ transition_part b) (all : count ≡ m) where
+    pub sourced_table : Sourced part count
+    sourced_table = rw (is, all) sourced
 
-    pub few_records : h.transitions ≤ transition_limit
-    few_records = rw is (passed b accepted).lies.counts.few_transitions
-
-    -- the records that are handed over
-    pub handed : Sourced (part_at b h.transitions_at) h.transitions
-    handed = rw (is, part_to_end b (header_of b).transitions_at) sourced
-
-    -- what is found of them is found of the case
-    pub flags_case : {flags : List ℕ} → FirstFlags (part_at b h.transitions_at) h.transitions flags → FirstFlags (transition_part b) h.transitions flags
-    flags_case f = rw is (rw (is, part_to_end b (header_of b).transitions_at) at f)
-
-    pub tally_case : {k : ℕ} → k ≡ length (distinct (transitions_in (part_at b h.transitions_at) h.transitions))
-        → record { records = h.transitions; distinct = k } ≡ tally_of b
+    pub tally_case : {k : ℕ} → k ≡ length (distinct (transitions_in part count)) → record { records = count; distinct = k } ≡ tally_of b
     unfolding tally_of tallied case_of transition_table transitions_in
-    tally_case e =
-        let same = rw (is, part_to_end b (header_of b).transitions_at) at e in
-        rw (accepted, is, same, length_table (transition_in (transition_part b)) m)
+    tally_case e = rw (accepted, all, rw (is, all) at e, length_table (transition_in (transition_part b)) m)
 
 -- the tally of an accepted case, and of any other
 pub tally_accepted : (b : List ℕ) → Accepted b → tally_of b ≡ tallied (case_of b).transitions

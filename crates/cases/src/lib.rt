@@ -14,7 +14,7 @@ pub use conditions::{binders, check_layout, is_binder, open, subtree_end, transi
 pub use file::{case_end, node_at, number_at, transition_at};
 pub use kinds::{ActionKind, FormulaKind};
 pub use tables::{LabelRecords, LaidCase, Nodes, OpenCase, Table, Transitions};
-pub use transitions::{first_appearances, same_transition};
+pub use transitions::{Flagged, first_appearances};
 
 pub const LABELS: usize = 64;
 

@@ -1,32 +1,27 @@
 // The transition part: its records by source, and which of them are the first of their kind.
-ghost use Rattle.std.specs.Prelude.{◌≡◌, map, ◌+◌, ◌*◌, ◌≤◌, eqb, length};
-ghost use Rattle.sets.specs.Lists.{numbers_from};
+ghost use Rattle.std.specs.Prelude.{◌≡◌, ◌<◌, ◌≤◌, eqb, length};
 ghost use Rattle.sets.specs.Words.{bit};
-ghost use Rattle.cases.specs.File.{header_of, transition_in, transition_limit};
-ghost use Rattle.cases.specs.Case.{same_transition, copies_before, distinct};
-ghost use Rattle.cases.specs.Conditions.{Accepted};
+ghost use Rattle.cases.specs.File.{transition_limit};
+ghost use Rattle.cases.specs.Case.{copies_before, distinct};
 ghost use Rattle.cases.specs.Tally.{tally_of};
 ghost use Rattle.cases.specs.internal.Checks.{transition_part, transitions_in};
-ghost use Rattle.cases.specs.internal.Links.{Sourced, Linked, LinkedAt, FirstFlags};
+ghost use Rattle.cases.specs.internal.Links.{Sourced, Linked, FirstFlags};
 
-use crate::file::transition_at;
-use crate::{Header, TRANSITIONS, Tally, Transition};
+use crate::{OpenCase, TRANSITIONS, Tally, Transitions};
 use sets::STATES;
 
 // A place for each state, and one for each record.
 const LINKS: usize = STATES + TRANSITIONS;
 
-// Links the m records of a part by their source, in rising order: place s has the first record from state s, and place STATES + j the
+// Links the records of a table by their source, in rising order: place s has the first record from state s, and place STATES + j the
 // first record after j with the source of record j; TRANSITIONS where there is none.
-fn links_of(part: &[u8], m: usize) -> [u16; LINKS]
-    requires { Sourced part.now m }
-    ensures { Linked part.now m result }
+fn links_of(table: &Transitions<'_>) -> [u16; LINKS]
+    requires { Sourced table.now.part.now table.now.count }
+    ensures { Linked table.now.part.now table.now.count result }
 {
     let mut links = [TRANSITIONS as u16; LINKS];
-    let mut j = m;
-    while 0 < j {
-        j -= 1;
-        let s = transition_at(part, j).source;
+    for j in (0..table.count).rev() {
+        let s = table.at(j).source;
         let after = links[s];
         links[STATES + j] = after;
         links[s] = j as u16;
@@ -34,37 +29,16 @@ fn links_of(part: &[u8], m: usize) -> [u16; LINKS]
     links
 }
 
-// Whether two transitions are equal.
-pub fn same_transition(x: Transition, y: Transition) -> bool
-    ensures { result ≡ same_transition x y }
+// How many records before record i of a table equal it. Only those with its source are looked at.
+fn copies_before(table: &Transitions<'_>, links: &[u16], i: usize) -> usize
+    requires { Linked table.now.part.now table.now.count links.now × (i < table.now.count) }
+    ensures { result ≡ copies_before (transitions_in table.now.part.now table.now.count) i }
 {
-    if x.source != y.source {
-        return false;
-    }
-    if x.label != y.label {
-        return false;
-    }
-    x.target == y.target
-}
-
-// Whether records j and i are equal.
-fn same_at(part: &[u8], j: usize, i: usize) -> bool
-    requires { (6 * j + 6 ≤ length part.now) × (6 * i + 6 ≤ length part.now) }
-    ensures { result ≡ same_transition (transition_in part.now j) (transition_in part.now i) }
-{
-    same_transition(transition_at(part, j), transition_at(part, i))
-}
-
-// How many records before record i of the transition part equal it. Only those with its source are looked at.
-fn copies_before(part: &[u8], links: &[u16], i: usize) -> usize
-    requires { LinkedAt part.now links.now i }
-    ensures { result ≡ copies_before (map (transition_in part.now) (numbers_from 0 (i + 1))) i }
-{
+    let own = table.at(i);
     let mut copies: usize = 0;
-    let s = transition_at(part, i).source;
-    let mut j = links[s] as usize;
+    let mut j = links[own.source] as usize;
     while j < i {
-        if same_at(part, j, i) {
+        if table.at(j) == own {
             copies += 1;
         }
         j = links[STATES + j] as usize;
@@ -72,42 +46,50 @@ fn copies_before(part: &[u8], links: &[u16], i: usize) -> usize
     copies
 }
 
-// 1 where record i is the first of its kind, and 0 where it is a copy.
-fn first_flag(part: &[u8], links: &[u16], i: usize) -> u8
-    requires { LinkedAt part.now links.now i }
-    ensures { result ≡ bit (eqb (copies_before (map (transition_in part.now) (numbers_from 0 (i + 1))) i) 0) }
+// Flags those records of a table that are the first of their kind, and answers how many they are.
+fn flag_appearances(table: &Transitions<'_>, first: &mut [u8]) -> usize
+    requires { Sourced table.now.part.now table.now.count × (table.now.count ≤ length first.old) }
+    ensures { FirstFlags table.now.part.now table.now.count first.new × (result ≡ length (distinct (transitions_in table.now.part.now table.now.count))) }
 {
-    if copies_before(part, links, i) == 0 {
-        return 1;
-    }
-    0
-}
-
-// Flags those of the m records of a part that are the first of their kind, and answers how many they are.
-fn flag_appearances(part: &[u8], m: usize, first: &mut [u8]) -> usize
-    requires { Sourced part.now m × (m ≤ length first.old) }
-    ensures { FirstFlags part.now m first.new × (result ≡ length (distinct (transitions_in part.now m))) }
-{
-    let links = links_of(part, m);
+    let links = links_of(table);
     let mut distinct: usize = 0;
-    for i in 0..m {
-        let flag = first_flag(part, &links, i);
+    for i in 0..table.count {
+        let flag = u8::from(copies_before(table, &links, i) == 0);
         first[i] = flag;
-        distinct += flag as usize;
+        distinct += usize::from(flag);
     }
     distinct
 }
 
 // Flags the records of an accepted case that are the first of their kind, and tells how many records there are and how many of them are
 // distinct.
-pub fn first_appearances(case: &[u8], h: Header, first: &mut [u8]) -> Tally
-    requires { Accepted case.now × (h ≡ header_of case.now) × (transition_limit ≤ length first.old) }
-    ensures { FirstFlags (transition_part case.now) h.transitions first.new × (result ≡ tally_of case.now) }
+pub fn first_appearances(case: &OpenCase<'_>, first: &mut [u8]) -> Tally
+    requires { transition_limit ≤ length first.old }
+    ensures flags { FirstFlags (transition_part case.now.bytes.now) case.now.header.transitions first.new }
+    ensures tally { result ≡ tally_of case.now.bytes.now }
 {
-    let records = h.transitions_at;
-    let distinct = flag_appearances(&case[records..], h.transitions, first);
+    let table = case.transitions();
+    let distinct = flag_appearances(&table, first);
     Tally {
-        records: h.transitions,
+        records: table.count,
         distinct: distinct,
+    }
+}
+
+// The transitions of a table with a flag for each: 1 where it is the first of its kind, and 0 where it is a copy.
+#[derive(Clone, Copy)]
+pub struct Flagged<'a> {
+    pub table: Transitions<'a>,
+    pub first: &'a [u8],
+    pub ghost flags: { FirstFlags table.part.now table.count first.now },
+}
+
+impl<'a> Flagged<'a> {
+    // Whether transition i is the first of its kind.
+    pub fn is_first(&self, i: usize) -> bool
+        requires { i < self.now.table.count }
+        ensures { result ≡ eqb (copies_before (transitions_in self.now.table.part.now self.now.table.count) i) 0 }
+    {
+        self.first[i] == 1
     }
 }

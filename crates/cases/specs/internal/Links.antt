@@ -35,12 +35,6 @@ pub record Linked (part : List ℕ) (m : ℕ) (links : List ℕ) : Type 0 where
   pub sourced : Sourced part m
   pub filled : LinkedFrom part m 0 links
 
--- Record i is one of those that are linked.
-pub record LinkedAt (part links : List ℕ) (i : ℕ) : Type 0 where
-  pub count : ℕ
-  pub linked : Linked part count links
-  pub inside : i < count
-
 -- flag j is 1 where transition j is the first of its kind, and 0 where it is a copy
 pub record FirstFlags (part : List ℕ) (m : ℕ) (flags : List ℕ) : Type 0 where
   pub long : m ≤ length flags

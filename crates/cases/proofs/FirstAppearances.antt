@@ -36,19 +36,24 @@ same_kept f g p q m s (suc k) h e d =
     picked true r = let here = e s (omega arith) in cc
     picked false r = r
 
--- the flagged transitions are the distinct ones
+-- whether record j of m is the first of its kind
+abbrev pub is_first : List ℕ → ℕ → ℕ → Bool
+is_first part m j = eqb (copies_before (transitions_in part m) j) 0
+
+-- those that are, are the distinct ones,
+pub firsts_distinct : (part : List ℕ) (m : ℕ) → map (transition_in part) (keep (is_first part m) (numbers_from 0 m)) ≡ distinct (transitions_in part m)
+unfolding distinct transitions_in
+firsts_distinct part m =
+    rw (length_table (transition_in part) m)
+    (same_kept (transition_in part) (transition_at (transitions_in part m)) (is_first part m) (is_first part m) m 0 m (omega arith)
+    (λ j l. sym (table_at (transition_in part) m j _ l)) (λ j l. refl))
+
+-- and so are those that are flagged
 pub flagged_distinct : (part : List ℕ) (m : ℕ) (flags : List ℕ) → FirstFlags part m flags
     → map (transition_in part) (keep (λ j. eqb (get_or flags j 0) 1) (numbers_from 0 m)) ≡ distinct (transitions_in part m)
-unfolding distinct transitions_in
 flagged_distinct part m flags h =
-    rw (length_table (transition_in part) m)
-    (same_kept (transition_in part) (transition_at (transitions_in part m)) (λ j. eqb (get_or flags j 0) 1) (λ j. eqb (copies_before (transitions_in part m) j) 0) m 0 m (omega arith)
-    (λ j l. sym (table_at (transition_in part) m j _ l))
-    (λ j l. ap (λ (x : ℕ). eqb x 1) (h.at j l) ∙ bit_back _))
-
--- whether record j of m is the first of its kind
-abbrev is_first : List ℕ → ℕ → ℕ → Bool
-is_first part m j = eqb (copies_before (transitions_in part m) j) 0
+    same_kept (transition_in part) (transition_in part) (λ j. eqb (get_or flags j 0) 1) (is_first part m) m 0 m (omega arith)
+    (λ j l. refl) (λ j l. ap (λ (x : ℕ). eqb x 1) (h.at j l) ∙ bit_back _) ∙ firsts_distinct part m
 
 -- how many are the first of their kind, from record j on
 abbrev firsts_from : List ℕ → ℕ → ℕ → ℕ

@@ -15,8 +15,9 @@ use Rattle.sets.proofs.Lists.{table_at}
 use Rattle.cases.specs.declared.Header.{Header}
 use Rattle.cases.specs.declared.Transition.{Transition}
 use Rattle.cases.specs.File.{u16, header_of, transitions_start, actions_start, file_end, transition_in, transition_table, case_within}
-use Rattle.cases.specs.Case.{transition_at}
-use Rattle.cases.specs.internal.Checks.{common_header, transitions_in, Laid}
+use Rattle.cases.specs.Case.{transition_at, distinct}
+use Rattle.cases.specs.internal.Checks.{common_header, transition_part, transitions_in, Laid}
+use Rattle.cases.proofs.Distinct.{length_distinct}
 use Rattle.cases.proofs.LayoutRules.{header_least}
 use Rattle.cases.proofs.Tallies.{length_transitions, part_at}
 use Rattle.records.specs.Replaced.{record_bytes, table_bytes, with_number, head_for, with_transitions, written_to}
@@ -167,6 +168,16 @@ module _ {b : List ℕ} {h : Header} (l : Laid b h) where
   pub table_is : transition_table b ≡ transitions_in (drop h.transitions_at b) h.transitions
   unfolding transition_table transitions_in
   table_is = ap (λ (x : Header). map (transition_in (drop x.transitions_at b)) (numbers_from 0 x.transitions)) (sym l.read)
+
+  -- The distinct records of its table were written; they are no more than all.
+  module _ {part s u : List ℕ} {m k : ℕ} (is : part ≡ transition_part b) (all : m ≡ h.transitions) (w : RecordsWritten (distinct (transitions_in part m)) s u k) where
+    pub wrote_table : RecordsWritten (distinct (transition_table b)) s u k
+    wrote_table =
+        let table : transitions_in part m ≡ transition_table b = rw (is, all) (ap (λ (x : Header). transitions_in (drop x.transitions_at b) h.transitions) (sym l.read) ∙ sym table_is) in
+        rw table at w
+
+    pub wrote_few : k ≤ h.transitions
+    wrote_few = omega (arith, wrote_table.count, length_distinct (transition_table b), length_transitions b, ap (λ (x : Header). x.transitions) l.read)
 
   pub split : AllBytes b → b ≡ head ++ (table_bytes (transition_table b) ++ rest)
   split a =

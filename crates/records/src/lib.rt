@@ -6,53 +6,57 @@ mod bytes;
 ghost use Rattle.std.specs.Prelude.{◌≡◌, cond, [], ◌∷◌, ◌++◌, ◌+◌, ◌*◌, ◌≤◌, ◌<◌, eqb, length, drop, MatchOption};
 ghost use Rattle.cases.specs.File.{file_end, transition_in, transition_table, case_within, transition_limit};
 ghost use Rattle.cases.specs.Case.{distinct};
-ghost use Rattle.cases.specs.internal.Checks.{transitions_in, Laid};
+ghost use Rattle.cases.specs.internal.Checks.{transition_part, transitions_in, Laid};
 ghost use Rattle.cases.specs.internal.Links.{FirstFlags};
 ghost use Rattle.records.specs.Replaced.{with_transitions, written_to};
 ghost use Rattle.records.specs.Places.{place_of, without_at};
 ghost use Rattle.records.specs.internal.Writing.{RecordsWritten};
 
 use bytes::{put_head, put_record};
-use cases::{Header, Transition, transition_at};
+use cases::{Flagged, Header, LaidCase, Transition, Transitions, transition_at};
 
 // How many bytes a record has.
 const RECORD: usize = 6;
 
-// The first place of t among the m records of a part, if it is one of them.
-pub fn find(part: &[u8], m: usize, t: Transition) -> Option<usize>
-    requires { 6 * m ≤ length part.now }
-    ensures { MatchOption result (place_of t (transitions_in part.now m) ≡ m) (λ i. (place_of t (transitions_in part.now m) ≡ i) × (i < m)) }
+// The first place of t in a table, if it stands there.
+pub fn find(table: &Transitions<'_>, t: Transition) -> Option<usize>
+    ensures { MatchOption result (place_of t (transitions_in table.now.part.now table.now.count) ≡ table.now.count) (λ i. (place_of t (transitions_in table.now.part.now table.now.count) ≡ i) × (i < table.now.count)) }
 {
-    (0..m).position(|i| transition_at(part, i) == t)
+    (0..table.count).position(|i| table.at(i) == t)
 }
 
-// Writes those of the m records of a part that are flagged as the first of their kind. Answers how many they are.
-fn put_distinct(part: &[u8], m: usize, first: &[u8], out: &mut [u8]) -> usize
-    requires { (6 * m ≤ length part.now) × FirstFlags part.now m first.now × (6 * m ≤ length out.old) }
-    ensures { RecordsWritten (distinct (transitions_in part.now m)) out.old out.new result }
+// Writes those transitions of a table that are the first of their kind. Answers how many they are.
+fn put_distinct(flagged: &Flagged<'_>, out: &mut [u8]) -> usize
+    requires { 6 * flagged.now.table.count ≤ length out.old }
+    ensures { RecordsWritten (distinct (transitions_in flagged.now.table.part.now flagged.now.table.count)) out.old out.new result }
 {
     let mut k = 0;
-    for i in 0..m {
-        if first[i] == 1 {
-            put_record(out, RECORD * k, transition_at(part, i));
+    for i in 0..flagged.table.count {
+        if flagged.is_first(i) {
+            put_record(out, RECORD * k, flagged.table.at(i));
             k += 1;
         }
     }
     k
 }
 
-// Writes a case with its distinct transitions in place of its table.
-pub fn write_distinct(case: &[u8], h: Header, first: &[u8], out: &mut [u8])
-    requires { Laid case.now h × FirstFlags (drop h.transitions_at case.now) h.transitions first.now × (length case.now ≤ length out.old) }
-    ensures { out.new ≡ written_to out.old (with_transitions case.now (distinct (transition_table case.now))) }
+// Writes a case with its distinct transitions in place of its table, where those that are the first of their kind are flagged.
+pub fn write_distinct(case: &LaidCase<'_>, first: &[u8], out: &mut [u8])
+    requires { FirstFlags (transition_part case.now.bytes.now) case.now.header.transitions first.now × (length case.now.bytes.now ≤ length out.old) }
+    ensures { out.new ≡ written_to out.old (with_transitions case.now.bytes.now (distinct (transition_table case.now.bytes.now))) }
 {
-    let records = h.transitions_at;
-    out[..records].copy_from_slice(&case[..records]);
-    let k = put_distinct(&case[records..], h.transitions, first, &mut out[records..]);
-    let rest = &case[h.actions_at..];
+    let records = case.header.transitions_at;
+    out[..records].copy_from_slice(&case.bytes[..records]);
+    let flagged = Flagged {
+        table: case.transitions(),
+        first,
+    };
+    let k = put_distinct(&flagged, &mut out[records..]);
+    let actions = case.header.actions_at;
+    let rest = &case.bytes[actions..];
     let at = records + RECORD * k;
     out[at..at + rest.len()].copy_from_slice(rest);
-    put_head(out, h, k);
+    put_head(out, case.header, k);
 }
 
 // Puts a record behind the last one of the case that bytes start with, and moves what follows.

@@ -12,5 +12,6 @@ use Rattle.records.proofs.find.Goals as goal
 pub returns : goal.returns
 unfolding transitions_in same_transition
 returns c =
-    place_found c.args.t (transition_in c.args.part.now) c.args.m
-    (position_from_yields_List (λ i. same_transition (transition_in c.args.part.now i) c.args.t) _ _ _ c.position.ensures.ran (YieldsList-from_range 0 c.args.m c.args.m (cc) (omega arith)) (λ x b q k. search (rules, tests)))
+    let table = c.args.table.now in
+    place_found c.args.t (transition_in table.part.now) table.count
+    (position_from_yields_List (λ i. same_transition (transition_in table.part.now i) c.args.t) _ _ _ c.position.ensures.ran (YieldsList-from_range 0 table.count table.count (cc) (omega arith)) (λ x b q k. search (rules, tests)))

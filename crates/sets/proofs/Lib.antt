@@ -7,5 +7,5 @@ pub mod Words
 pub mod Ones
 pub mod Valuation
 pub mod Masks
-pub mod Stores
+pub mod Ranges
 pub mod Refusals

@@ -9,8 +9,12 @@ use native.Mathlib.Omega.{arith}
 use lib.Dec.{T, ltb, ltb→lt}
 use lib.ListN.{length, get_or, take, drop, length-map, drop_of_length-le}
 use lib.Seq.{drop-cons}
-use Rattle.std.specs.List.{sum as sum_of}
+use Rattle.std.specs.List.{sum_by}
+use Rattle.std.proofs.lemmas.List.{drop-map, take-take}
 use Rattle.std.proofs.lemmas.List.Recursion.{is_sum_by}
+use Rattle.std.proofs.lemmas.List.Sums.{sum_by_more, sum_by-take-le}
+pub use Rattle.std.proofs.lemmas.Bool.{false≢true as false_true}
+pub use Rattle.std.proofs.lemmas.List.{get_or-map as get_or_map}
 use Rattle.sets.specs.Lists.{numbers_from, every, for_some, keep, sum}
 
 -- range i k has k numbers
@@ -29,22 +33,9 @@ get_or_range i (suc k) (suc j) d h = get_or_range (suc i) k j d (omega arith) �
 pub range_at : (k j d : ℕ) → j < k → get_or (numbers_from 0 k) j d ≡ j
 range_at k j d h = get_or_range 0 k j d h ∙ zero-add j
 
--- an element of a mapped list, whatever stands for an element past the end
-pub get_or_map : {A B : Type 0} (f : A → B) (xs : List A) (i : ℕ) (a : A) (b : B) → i < length xs → get_or (map f xs) i b ≡ f (get_or xs i a)
-get_or_map f [] i a b h = absurd (omega arith)
-get_or_map f (x ∷ xs) zero a b h = refl
-get_or_map f (x ∷ xs) (suc i) a b h = get_or_map f xs i a b (omega arith)
-
--- the first i elements of a mapped list, and those after them
-pub take_map : {A B : Type 0} (f : A → B) (xs : List A) (i : ℕ) → take i (map f xs) ≡ map f (take i xs)
-take_map f xs zero = refl
-take_map f [] (suc i) = refl
-take_map f (x ∷ xs) (suc i) = ap (λ (l : List _). f x ∷ l) (take_map f xs i)
-
+-- the elements of a mapped list, from place i on
 pub drop_map : {A B : Type 0} (f : A → B) (xs : List A) (i : ℕ) → drop i (map f xs) ≡ map f (drop i xs)
-drop_map f xs zero = refl
-drop_map f [] (suc i) = refl
-drop_map f (x ∷ xs) (suc i) = drop_map f xs i
+drop_map f xs i = drop-map f i xs
 
 -- f of a range of numbers: how many, and each
 pub length_map_range : {B : Type 0} (f : ℕ → B) (i k : ℕ) → length (map f (numbers_from i k)) ≡ k
@@ -60,32 +51,18 @@ length_table f k = length_map_range f 0 k
 pub table_at : {B : Type 0} (f : ℕ → B) (k i : ℕ) (b : B) → i < k → get_or (map f (numbers_from 0 k)) i b ≡ f i
 table_at f k i b h = get_or_map_range f 0 k i b h ∙ ap f (zero-add i)
 
--- the sum as the library has it
-pub sum_is : (xs : List ℕ) → sum_of xs ≡ sum xs
-unfolding sum
-sum_is xs = sym (is_sum_by sum (λ x. x) refl (λ _ _. refl) xs)
+-- the sum of f over a list, in the library's words; over its first elements: one element more, and it grows
+module _ {A : Type 0} (f : A → ℕ) (xs : List A) where
+  pub sum_is : sum (map f xs) ≡ sum_by f xs
+  unfolding sum
+  sum_is = is_sum_by (λ xs. sum (map f xs)) f refl (λ _ _. refl) xs
 
--- the sum of f over the first elements of a list: one element more, and it grows
 pub sum_next : {A : Type 0} (f : A → ℕ) (xs : List A) (i : ℕ) (d : A) → i < length xs
     → sum (map f (take (i + 1) xs)) ≡ sum (map f (take i xs)) + f (get_or xs i d)
-unfolding sum
-sum_next f xs i d h = rw add-one (go xs i h)
-  where
-    go : (xs : List _) (i : ℕ) → i < length xs → sum (map f (take (suc i) xs)) ≡ sum (map f (take i xs)) + f (get_or xs i d)
-    go [] i h = absurd (omega arith)
-    go (x ∷ xs) zero h = omega arith
-    go (x ∷ xs) (suc i) h = omega (arith, go xs i (omega arith))
+sum_next f xs i d h = simp sum_is (sum_by_more f xs i d h)
 
 pub sum_grows : {A : Type 0} (f : A → ℕ) (xs : List A) (i j : ℕ) → i ≤ j → sum (map f (take i xs)) ≤ sum (map f (take j xs))
-unfolding sum
-sum_grows f xs zero j h = omega arith
-sum_grows f xs (suc i) zero h = absurd (omega arith)
-sum_grows f [] (suc i) (suc j) h = omega arith
-sum_grows f (x ∷ xs) (suc i) (suc j) h = omega (arith, sum_grows f xs i j (omega arith))
-
--- the truth values differ
-pub false_true : ¬ (false ≡ true)
-false_true t = let z : ◌≡◌ {A = ℕ} 0 1 = cc in omega arith
+sum_grows f xs i j h = simp sum_is (rw (take-take i j xs h) at (sum_by-take-le f (take j xs) i))
 
 -- an or is true if one is
 pub or_left : (a b : Bool) → T a → T (a || b)

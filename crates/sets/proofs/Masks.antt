@@ -9,13 +9,13 @@ use lib.ListN.{length, get_or, take, drop, length-map, length-replicate, get_or-
 use lib.Seq.{ext_get_or}
 use lib.Bits.{bit_and, bit_or, bit_xor, differ, and_step, or_step, xor_step, and_zero_l, or_zero_l, xor_zero_l}
 use lib.Dec.{eqb}
-use Rattle.std.proofs.lemmas.List.{get_or-map}
+use Rattle.std.proofs.lemmas.List.{get_or-map, take-map, drop-map}
 use lib.Pow.{pow_pos}
 use borrow.Author.Tests.{eq-eqb, ne_eqb}
 use Rattle.sets.specs.Lists.{numbers_from}
 use Rattle.sets.specs.States.{States, has, start}
 use Rattle.sets.specs.Words.{words, number_of_bits, bit}
-use Rattle.sets.proofs.Lists.{length_table, table_at, take_map, drop_map}
+use Rattle.sets.proofs.Lists.{length_table, table_at}
 use Rattle.sets.proofs.Words.{half, odd, number_fits, part, word_at, words_by}
 
 -- ---- operations bit by bit
@@ -132,7 +132,7 @@ module _ {op : ℕ → ℕ → ℕ} {f : Bool → Bool → Bool} (o : Bitwise op
   -- word j of the set that an operation picks
   word_bitwise : {A : Type 0} (p q : A → Bool) (xs : List A) (j : ℕ)
       → op (number_of_bits (part (map p xs) j)) (number_of_bits (part (map q xs) j)) ≡ number_of_bits (part (map (λ x. f (p x) (q x)) xs) j)
-  word_bitwise p q xs j = simp (drop_map, take_map) (number_bitwise o p q (take 64 (drop (64 * j) xs)))
+  word_bitwise p q xs j = simp (drop-map, take-map) (number_bitwise o p q (take 64 (drop (64 * j) xs)))
 
   -- from the words of two sets of n states
   pub word_combined : (k n : ℕ) (v w : States) → length v ≡ n → length w ≡ n → (j : ℕ) → j < k

@@ -19,6 +19,7 @@ pub const STATES: usize = 64 * WORDS;
 pub type Set = [u64; WORDS];
 
 // No state.
+#[tactic(auto, using(crate::proofs::Words::words_none))]
 pub fn empty() -> Set
     ensures { (n : ℕ) → result ≡ words word_count (start n false) }
 {
@@ -51,6 +52,7 @@ pub fn initial(n: usize, nu: bool) -> Set
 }
 
 // Whether state s is in the set.
+#[tactic(auto, unfolding(crate::specs::Words::marked))]
 pub fn test(set: &Set, s: usize) -> bool
     requires { s < state_limit }
     ensures { result ≡ marked set.now s }

@@ -5,6 +5,7 @@ use mathlib.Core.List.{List, [], ◌∷◌}
 use Prim.Native.Nat.{ℕ, zero, suc, ◌+◌, ◌<◌, ◌≤◌}
 use native.Mathlib.Omega.{arith}
 use native.Mathlib.Decide.{dec_lt, ℕ_discrete}
+use mir.Val.{bool_byte}
 use lib.Dec.{eqb}
 use lib.ListN.{length, get_or, set, length-map, length-set, get_or-map, get_or-eq_default}
 use lib.Seq.{get_or-set_same, get_or-set_other}
@@ -31,6 +32,11 @@ pub bit_low : (b : Bool) → bit b ≤ 1
 bit_low true = omega arith
 bit_low false = omega arith
 
+-- the byte that the code makes of a truth value
+pub byte_is : (b : Bool) {x : ℕ} → x ≡ bool_byte b → x ≡ bit b
+byte_is true h = h
+byte_is false h = h
+
 -- a byte of a truth value reads back
 pub bit_back : (b : Bool) → eqb (bit b) 1 ≡ b
 bit_back true = refl
@@ -45,10 +51,10 @@ unfolding truths
 length_truths work = length-map work (λ x. eqb x 1)
 
 -- ---- lists: what a search among the operands' bytes tells
-module _ (work : List ℕ) (bits : (i : ℕ) → get_or work i 0 ≤ 1) (ρ : Valuation) where
-  abbrev wanted : ℕ → List ℕ → Bool
-  wanted x os = for_some (λ o. eqb (get_or work o 0) x) os
+abbrev pub wanted : List ℕ → ℕ → List ℕ → Bool
+wanted work x os = for_some (λ o. eqb (get_or work o 0) x) os
 
+module _ (work : List ℕ) (bits : (i : ℕ) → get_or work i 0 ≤ 1) (ρ : Valuation) where
   one_or_zero : (o : ℕ) → eqb (get_or work o 0) 1 ≡ not (eqb (get_or work o 0) 0)
   one_or_zero o = go (get_or work o 0) (bits o)
     where
@@ -57,25 +63,25 @@ module _ (work : List ℕ) (bits : (i : ℕ) → get_or work i 0 ≤ 1) (ρ : Va
       go (suc zero) h = refl
       go (suc (suc x)) h = absurd (omega arith)
 
-  no_zero : (os : List ℕ) → every (λ o. get_or (truths work) o false) os ≡ not (wanted 0 os)
+  no_zero : (os : List ℕ) → every (λ o. get_or (truths work) o false) os ≡ not (wanted work 0 os)
   unfolding every for_some
   no_zero [] = refl
   no_zero (o ∷ os) = rw (truth_at work o, one_or_zero o, no_zero os) (go (eqb (get_or work o 0) 0))
     where
-      go : (b : Bool) → (not b && not (wanted 0 os)) ≡ not (b || wanted 0 os)
+      go : (b : Bool) → (not b && not (wanted work 0 os)) ≡ not (b || wanted work 0 os)
       go true = refl
       go false = refl
 
-  some_one : (os : List ℕ) → for_some (λ o. get_or (truths work) o false) os ≡ wanted 1 os
+  some_one : (os : List ℕ) → for_some (λ o. get_or (truths work) o false) os ≡ wanted work 1 os
   unfolding for_some
   some_one [] = refl
   some_one (o ∷ os) = rw (truth_at work o, some_one os) refl
 
-  pub and_value : (os : List ℕ) {found : Bool} → found ≡ wanted 0 os → bit (not found) ≡ bit (value ρ (truths work) (And os))
+  pub and_value : (os : List ℕ) {found : Bool} → found ≡ wanted work 0 os → not found ≡ value ρ (truths work) (And os)
   unfolding value
   and_value os e = rw (e, no_zero os) refl
 
-  pub or_value : (os : List ℕ) {found : Bool} → found ≡ wanted 1 os → bit found ≡ bit (value ρ (truths work) (Or os))
+  pub or_value : (os : List ℕ) {found : Bool} → found ≡ wanted work 1 os → found ≡ value ρ (truths work) (Or os)
   unfolding value
   or_value os e = rw (e, some_one os) refl
 
@@ -125,11 +131,8 @@ module _ {e : List ℕ} {sizes : Sizes} {work : List ℕ} (r : Ready e sizes wor
       })
 
   -- an answer that is the value by the cell's rule
-  valued : {rows : List (List ℕ)} {answer : ℕ} → ((ρ : Valuation) → answer ≡ bit (value ρ (truths work) (cell_at e i))) → Valued e rows i work answer
-  valued f = record {
-    low = rw (f (λ k. [])) (bit_low (value (λ k. []) (truths work) (cell_at e i)));
-    right = λ ρ vs holds v s. f ρ ∙ ap bit (by_rule ρ vs v s);
-  }
+  valued : {rows : List (List ℕ)} {answer : Bool} → ((ρ : Valuation) → answer ≡ value ρ (truths work) (cell_at e i)) → Valued e rows i work answer
+  valued f = record { right = λ ρ vs holds v s. f ρ ∙ by_rule ρ vs v s }
 
   -- the cell that was read is an and
   module _ {l : Operands} (is : IsAnd l ≡ cell_read (entry_at e i)) where
@@ -139,9 +142,9 @@ module _ {e : List ℕ} {sizes : Sizes} {work : List ℕ} (r : Ready e sizes wor
     pub and_fits : ListAt e l.first l.count
     and_fits = list_fits (omega (arith, and_of.0)) and_of.1 and_of.2
 
-    pub and_valued : {rows : List (List ℕ)} {answer : ℕ} → ((ρ : Valuation) → answer ≡ bit (value ρ (truths work) (And (list_of (operands e) l.first l.count)))) → Valued e rows i work answer
+    pub and_valued : {rows : List (List ℕ)} {found : Bool} → found ≡ wanted work 0 (list_of (operands e) l.first l.count) → Valued e rows i work (not found)
     unfolding entry_cell
-    and_valued f = valued (λ ρ. f ρ ∙ rw (and_of.0, ← and_of.1, ← and_of.2) refl)
+    and_valued f = valued (λ ρ. and_value work r.bits ρ _ f ∙ rw (and_of.0, ← and_of.1, ← and_of.2) refl)
 
   -- an or
   module _ {l : Operands} (is : IsOr l ≡ cell_read (entry_at e i)) where
@@ -151,9 +154,9 @@ module _ {e : List ℕ} {sizes : Sizes} {work : List ℕ} (r : Ready e sizes wor
     pub or_fits : ListAt e l.first l.count
     or_fits = list_fits (omega (arith, or_of.0)) or_of.1 or_of.2
 
-    pub or_valued : {rows : List (List ℕ)} {answer : ℕ} → ((ρ : Valuation) → answer ≡ bit (value ρ (truths work) (Or (list_of (operands e) l.first l.count)))) → Valued e rows i work answer
+    pub or_valued : {rows : List (List ℕ)} {found : Bool} → found ≡ wanted work 1 (list_of (operands e) l.first l.count) → Valued e rows i work found
     unfolding entry_cell
-    or_valued f = valued (λ ρ. f ρ ∙ rw (or_of.0, ← or_of.1, ← or_of.2) refl)
+    or_valued f = valued (λ ρ. or_value work r.bits ρ _ f ∙ rw (or_of.0, ← or_of.1, ← or_of.2) refl)
 
   -- a variable
   module _ {block state : ℕ} (is : IsVariable block state ≡ cell_read (entry_at e i)) where
@@ -168,15 +171,15 @@ module _ {e : List ℕ} {sizes : Sizes} {work : List ℕ} (r : Ready e sizes wor
         let b = facts.variable second in
         (omega (arith, few.few_blocks, b.0, variable_of.1), omega (arith, few.few_states, b.1, variable_of.2))
 
-    pub variable_valued : {rows : List (List ℕ)} {answer : ℕ} → answer ≡ bit (marked (get_or rows block []) state) → Valued e rows i work answer
+    pub variable_valued : {rows : List (List ℕ)} {answer : Bool} → answer ≡ marked (get_or rows block []) state → Valued e rows i work answer
     unfolding value entry_cell
     variable_valued {rows} f = record {
-      low = rw f (bit_low (marked (get_or rows block []) state));
       right = λ ρ vs holds v t.
           let z : has (ρ block) state ≡ get_or vs i false = rw (variable_of.1, variable_of.2) (rw second at (by_rule ρ vs v t)) in
           f
-          ∙ ap (λ (w : List ℕ). bit (marked w state)) (holds.row block variable_fits.0)
-          ∙ ap bit (marked_words word_count (ρ block) state (omega (arith, variable_fits.1)) ∙ z);
+          ∙ ap (λ (w : List ℕ). marked w state) (holds.row block variable_fits.0)
+          ∙ marked_words word_count (ρ block) state (omega (arith, variable_fits.1))
+          ∙ z;
     }
 
 -- ---- all cells, from the last down
@@ -187,20 +190,21 @@ evaluated_none {e} r = record {
   right = λ ρ vs holds v. record { byte = λ j a b. absurd (omega (arith, v.sized, length_cells e, (counted r.opens.counts).cells)) };
 }
 
-pub evaluated_more : {e : List ℕ} {work : List ℕ} {rows : List (List ℕ)} {i x : ℕ} → CellsValued e rows (i + 1) work → i < (sizes_of e).cells → Valued e rows i work x → CellsValued e rows i (set work i x)
-evaluated_more {e} {work} {rows} {i} {x} d h w = record {
+pub evaluated_more : {e : List ℕ} {work : List ℕ} {rows : List (List ℕ)} {i x : ℕ} {answer : Bool} → CellsValued e rows (i + 1) work → i < (sizes_of e).cells → Valued e rows i work answer → x ≡ bit answer →
+    CellsValued e rows i (set work i x)
+evaluated_more {e} {work} {rows} {i} {x} {answer} d h w is = record {
   room = length-set work i x ∙ d.room;
   bits = λ j. low j (ℕ_discrete j i);
   right = λ ρ vs holds v. record { byte = λ j a b. at ρ vs holds v j a b (ℕ_discrete j i) };
 }
   where
-    here : get_or (set work i x) i 0 ≡ x
-    here = get_or-set_same work i x 0 (omega (arith, d.room))
+    here : get_or (set work i x) i 0 ≡ bit answer
+    here = get_or-set_same work i x 0 (omega (arith, d.room)) ∙ is
 
     low : (j : ℕ) → Dec (j ≡ i) → get_or (set work i x) j 0 ≤ 1
-    low j (yes q) = rw (q, here) w.low
+    low j (yes q) = rw (q, here) (bit_low answer)
     low j (no q) = rw (get_or-set_other work i j x 0 q) (d.bits j)
 
     at : (ρ : Valuation) (vs : List Bool) → HoldsRows (sizes_of e).states rows ρ → Values (cells e) ρ vs → (j : ℕ) → i ≤ j → j < length vs → Dec (j ≡ i) → get_or (set work i x) j 0 ≡ bit (get_or vs j false)
-    at ρ vs holds v j a b (yes q) = rw (q, here) (w.right ρ vs holds v (d.right ρ vs holds v))
+    at ρ vs holds v j a b (yes q) = rw (q, here) (ap bit (w.right ρ vs holds v (d.right ρ vs holds v)))
     at ρ vs holds v j a b (no q) = rw (get_or-set_other work i j x 0 q) ((d.right ρ vs holds v).byte j (omega arith) b)

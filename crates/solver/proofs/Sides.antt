@@ -6,11 +6,10 @@ use Prim.Native.Nat.{ℕ, suc, ◌+◌, ◌<◌, ◌≤◌}
 use native.Mathlib.Omega.{arith}
 use native.Mathlib.Numerals.{add-one}
 use native.Mathlib.Decide.{ℕ_discrete}
-use lib.Dec.{eqb}
 use lib.ListN.{length, get_or, set, take, drop, length-append, length-drop, drop_of_length-le, length-set}
 use lib.Seq.{take-suc, take_all, drop-cons, length-take-le, set_at, get_or-take, get_or-drop, get_or-set_same, get_or-set_other}
 use Rattle.sets.specs.States.{States, Valuation, update}
-use Rattle.sets.specs.Words.{words, word_count}
+use Rattle.sets.specs.Words.{words, bit, word_count}
 use Rattle.solver.specs.File.{sizes_of, block_at, block_limit}
 use Rattle.solver.specs.Conditions.{WellFormed}
 use Rattle.solver.specs.internal.Working.{OpenFile, Ready, HoldsRows, Valued, CellsValued, RightSidesOf, Applied}
@@ -19,7 +18,7 @@ use Rattle.solver.proofs.Tables.{counted, length_cells}
 use Rattle.solver.proofs.Reading.{few_blocks, own_block}
 use Rattle.solver.proofs.WellFormed.{block_kept}
 use Rattle.solver.proofs.Values.{length_part}
-use Rattle.solver.proofs.Shown.{bit_back, evaluated_more}
+use Rattle.solver.proofs.Shown.{evaluated_more}
 use Rattle.sets.proofs.Valuation.{update_same, update_other}
 
 -- ---- the sets of all blocks
@@ -111,8 +110,8 @@ module _ {e : List ℕ} {sizes : Sizes} {rows : List (List ℕ)} {k first : ℕ}
   replacing_ready r = record { opens = r.block.opens; room = r.worked.room; bits = r.worked.bits }
 
   -- The right-hand side of state s is put in place: it is the value of cell first + s under `rows`.
-  module _ {s v : ℕ} {work row : List ℕ} {next : List (List ℕ)} (r : Replacing e sizes rows k first (s + 1) work next) (x : Valued e rows (first + s) work v)
-      (put : (u : States) → s < length u → get_or next k [] ≡ words word_count u → row ≡ words word_count (set u s (eqb v 1))) where
+  module _ {s v : ℕ} {answer : Bool} {work row : List ℕ} {next : List (List ℕ)} (r : Replacing e sizes rows k first (s + 1) work next) (x : Valued e rows (first + s) work answer)
+      (is : v ≡ bit answer) (put : (u : States) → s < length u → get_or next k [] ≡ words word_count u → row ≡ words word_count (set u s answer)) where
     up : CellsValued e rows (first + s + 1) work
     up =
         let a : first + (s + 1) ≡ first + s + 1 = omega arith in
@@ -121,10 +120,9 @@ module _ {e : List ℕ} {sizes : Sizes} {rows : List (List ℕ)} {k first : ℕ}
     inside : s < (sizes_of e).states
     inside = omega (arith, (counted r.block.opens.counts).states)
 
-    side : (σ : Valuation) (w : States) → HoldsRows (sizes_of e).states rows σ → RightSidesOf e k σ w → eqb v 1 ≡ get_or w s false
+    side : (σ : Valuation) (w : States) → HoldsRows (sizes_of e).states rows σ → RightSidesOf e k σ w → answer ≡ get_or w s false
     side σ w holds t =
-        ap (λ (y : ℕ). eqb y 1) (x.right σ t.values holds t.each (up.right σ t.values holds t.each))
-        ∙ bit_back (get_or t.values (first + s) false)
+        x.right σ t.values holds t.each (up.right σ t.values holds t.each)
         ∙ sym (ap (λ (u : States). get_or u s false) t.are
         ∙ get_or-take (sizes_of e).states (drop (block_at e k).first t.values) s false inside
         ∙ get_or-drop (block_at e k).first t.values s false
@@ -135,7 +133,7 @@ module _ {e : List ℕ} {sizes : Sizes} {rows : List (List ℕ)} {k first : ℕ}
       block = r.block;
       left = omega arith;
       long = length-set next k row ∙ r.long;
-      worked = evaluated_more up (omega (arith, block_fits r.block, (counted r.block.opens.counts).cells)) x;
+      worked = evaluated_more up (omega (arith, block_fits r.block, (counted r.block.opens.counts).cells)) x is;
       others = λ j q. get_or-set_other next k j row [] q ∙ r.others j q;
       own = λ σ w holds t.
           let a : length (σ k) ≡ (sizes_of e).states = holds.sized k in

@@ -1,11 +1,8 @@
 // The values of cells.
-ghost use Rattle.std.specs.Prelude.{◌≡◌, [], ◌<◌, ◌≤◌, eqb, get_or};
+ghost use Rattle.std.specs.Prelude.{◌≡◌, ◌<◌, ◌≤◌, eqb, get_or};
 ghost use Rattle.sets.specs.Lists.{for_some};
-ghost use Rattle.sets.specs.Words.{marked, bit, state_limit};
-ghost use Rattle.sets.specs.States.{Valuation};
-ghost use Rattle.solver.specs.Cells.{And, Or, value};
-ghost use Rattle.solver.specs.File.{operands, list_of, block_limit};
-ghost use Rattle.solver.specs.internal.Working.{Ready, ListAt, Valued, CellsValued, Applied, truths};
+ghost use Rattle.solver.specs.File.{operands, list_of};
+ghost use Rattle.solver.specs.internal.Working.{Ready, ListAt, Valued, CellsValued, Applied};
 
 use crate::file::{HEADER, cell_at, number_at, operand_at};
 use crate::{BLOCKS, Cell, Operands, Sizes};
@@ -14,13 +11,13 @@ use sets::Set;
 // The sets of all blocks, by block.
 pub type BlockSets = [Set; BLOCKS];
 
-// Whether one of the operands from a place of the operand table on has the value wanted.
-fn finds(file: &[u8], sizes: Sizes, from: usize, count: usize, wanted: u8, work: &[u8]) -> bool
-    requires { Ready file.now sizes work.now × ListAt file.now from count }
-    ensures { result ≡ for_some (λ o. eqb (get_or work.now o 0) wanted) (list_of (operands file.now) from count) }
+// Whether one of the operands of a list has the value wanted.
+fn finds(file: &[u8], sizes: Sizes, list: Operands, wanted: u8, work: &[u8]) -> bool
+    requires { Ready file.now sizes work.now × ListAt file.now list.first list.count }
+    ensures { result ≡ for_some (λ o. eqb (get_or work.now o 0) wanted) (list_of (operands file.now) list.first list.count) }
 {
-    for j in 0..count {
-        let o = operand_at(file, sizes, from + j);
+    for j in 0..list.count {
+        let o = operand_at(file, sizes, list.first + j);
         if work[o] == wanted {
             return true;
         }
@@ -28,48 +25,16 @@ fn finds(file: &[u8], sizes: Sizes, from: usize, count: usize, wanted: u8, work:
     false
 }
 
-// The value of an and, which is false if an operand is.
-fn and_value(file: &[u8], sizes: Sizes, list: Operands, work: &[u8]) -> u8
-    requires { Ready file.now sizes work.now × ListAt file.now list.first list.count }
-    ensures { (ρ : Valuation) → result ≡ bit (value ρ (truths work.now) (And (list_of (operands file.now) list.first list.count))) }
-{
-    if finds(file, sizes, list.first, list.count, 0, work) {
-        return 0;
-    }
-    1
-}
-
-// The value of an or, which is true if an operand is.
-fn or_value(file: &[u8], sizes: Sizes, list: Operands, work: &[u8]) -> u8
-    requires { Ready file.now sizes work.now × ListAt file.now list.first list.count }
-    ensures { (ρ : Valuation) → result ≡ bit (value ρ (truths work.now) (Or (list_of (operands file.now) list.first list.count))) }
-{
-    if finds(file, sizes, list.first, list.count, 1, work) {
-        return 1;
-    }
-    0
-}
-
-// The value of the variable of a block in a state.
-fn variable_value(sets: &BlockSets, block: usize, state: usize) -> u8
-    requires { (block < block_limit) × (state < state_limit) }
-    ensures { result ≡ bit (marked (get_or sets.now block []) state) }
-{
-    if sets::test(&sets[block], state) {
-        return 1;
-    }
-    0
-}
-
-// The value of cell i, from those of the cells above it.
-fn value_of(file: &[u8], sizes: Sizes, sets: &BlockSets, i: usize, work: &[u8]) -> u8
+// The value of cell i, from those of the cells above it: an and is false if an operand is, an or is true if an operand is, and a
+// variable is true if its state is in the set of its block.
+fn value_of(file: &[u8], sizes: Sizes, sets: &BlockSets, i: usize, work: &[u8]) -> bool
     requires { Ready file.now sizes work.now × (i < sizes.cells) }
     ensures { Valued file.now sets.now i work.now result }
 {
     match cell_at(file, sizes, i) {
-        Cell::And(list) => and_value(file, sizes, list, work),
-        Cell::Or(list) => or_value(file, sizes, list, work),
-        Cell::Variable { block, state } => variable_value(sets, block, state),
+        Cell::And(list) => !finds(file, sizes, list, 0, work),
+        Cell::Or(list) => finds(file, sizes, list, 1, work),
+        Cell::Variable { block, state } => sets::test(&sets[block], state),
     }
 }
 
@@ -80,7 +45,7 @@ pub fn evaluate(file: &[u8], sizes: Sizes, sets: BlockSets, from: usize, work: &
 {
     for i in (from..sizes.cells).rev() {
         let v = value_of(file, sizes, &sets, i, work);
-        work[i] = v;
+        work[i] = u8::from(v);
     }
 }
 
@@ -100,8 +65,8 @@ pub fn right_sides(
     let mut next = sets;
     for s in (0..sizes.states).rev() {
         let v = value_of(file, sizes, &sets, first + s, work);
-        work[first + s] = v;
-        sets::put(&mut next[k], s, v == 1);
+        work[first + s] = u8::from(v);
+        sets::put(&mut next[k], s, v);
     }
     next
 }

@@ -42,9 +42,8 @@ unfoldable pub truths : List ℕ → List Bool
 truths work = map (λ x. eqb x 1) work
 
 -- a cell's value, where those of the cells above it are shown
-pub record Valued (e : List ℕ) (rows : List (List ℕ)) (i : ℕ) (work : List ℕ) (answer : ℕ) : Type 0 where
-  pub low : answer ≤ 1
-  pub right : (ρ : Valuation) (vs : List Bool) → HoldsRows (sizes_of e).states rows ρ → Values (cells e) ρ vs → Shows vs (i + 1) work → answer ≡ bit (get_or vs i false)
+pub record Valued (e : List ℕ) (rows : List (List ℕ)) (i : ℕ) (work : List ℕ) (answer : Bool) : Type 0 where
+  pub right : (ρ : Valuation) (vs : List Bool) → HoldsRows (sizes_of e).states rows ρ → Values (cells e) ρ vs → Shows vs (i + 1) work → answer ≡ get_or vs i false
 
 -- the values of the cells from `from` on
 pub record CellsValued (e : List ℕ) (rows : List (List ℕ)) (from : ℕ) (work : List ℕ) : Type 0 where

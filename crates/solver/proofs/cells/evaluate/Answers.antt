@@ -2,7 +2,7 @@ use Prim.Native.Nat.{ℕ, ◌+◌, ◌-◌}
 use mathlib.Core.Path.{◌≡◌}
 use native.Mathlib.Omega.{arith}
 use Rattle.solver.proofs.Tables.{counted}
-use Rattle.solver.proofs.Shown.{evaluated_none, evaluated_more}
+use Rattle.solver.proofs.Shown.{byte_is, evaluated_none, evaluated_more}
 use Rattle.solver.proofs.cells.evaluate.Goals as goal
 
 pub loop-i-init : goal.loop-i-init
@@ -12,7 +12,7 @@ pub loop-i-preserved : goal.loop-i-preserved
 loop-i-preserved c =
     let i : ℕ = c.loop-i.i - 1 in
     let s : i + 1 ≡ c.loop-i.i = omega arith in
-    (omega arith, evaluated_more (rw (← s) at c.loop-i.invariant.1) (omega (arith, (counted c.requires.0.opens.counts).cells)) c.value_of-v.ensures)
+    (omega arith, evaluated_more (rw (← s) at c.loop-i.invariant.1) (omega (arith, (counted c.requires.0.opens.counts).cells)) c.value_of-v.ensures (byte_is c.value_of-v.result c.from.ensures))
 
 pub returns : goal.returns
 returns c =

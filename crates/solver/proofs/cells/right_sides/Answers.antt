@@ -3,6 +3,7 @@ use mathlib.Core.Path.{◌≡◌}
 use native.Mathlib.Omega.{arith}
 use Rattle.solver.proofs.Tables.{counted}
 use Rattle.solver.proofs.Reading.{opens_read, few_blocks, block_inside, row_fits}
+use Rattle.solver.proofs.Shown.{byte_is}
 use Rattle.solver.proofs.Sides.{block_fits, replacing_none, replacing_ready, replacing_more, replacing_all}
 use Rattle.solver.proofs.cells.right_sides.Goals as goal
 
@@ -51,7 +52,7 @@ put-requires c = omega (arith, (opens_read c.loop-s.invariant.block.opens).count
 pub loop-s-preserved : goal.loop-s-preserved
 loop-s-preserved c =
     let s : c.loop-s.s - 1 + 1 ≡ c.loop-s.s = omega arith in
-    replacing_more (rw (← s) at c.loop-s.invariant) c.value_of-v.ensures c.put.ensures
+    replacing_more (rw (← s) at c.loop-s.invariant) c.value_of-v.ensures (byte_is c.value_of-v.result c.from.ensures) c.put.ensures
 
 pub returns : goal.returns
 returns c = replacing_all c.loop-s.invariant (omega arith)

@@ -16,8 +16,6 @@ use lib.Bits.{bit_and, bit_or, and_step, or_step, and_zero_l, or_zero_r}
 use lib.Pow.{pow_mono, pow_pos, shl_exact, shr-shr}
 use Rattle.sets.specs.States.{States, has, start}
 use Rattle.sets.specs.Words.{words, number_of_bits, marked, bit, Marks, word_count, state_limit}
-use Rattle.sets.specs.internal.DecidedBy.{DecidedBy}
-use Rattle.sets.proofs.Lists.{false_true}
 
 -- ---- the number of a set
 
@@ -138,16 +136,6 @@ word_at (suc k) v zero h = refl
 word_at (suc k) v (suc j) h =
     let e : 64 + 64 * j ≡ 64 * suc j = omega arith in
     word_at k (drop 64 v) j (omega arith) ∙ rw (drop-drop (64 * j) 64 v, e)
-
--- each word fits 64 bits
-pub word_fits : (k : ℕ) (v : States) (j : ℕ) → get_or (words k v) j 0 < 2 ^ 64
-unfolding words
-word_fits zero v j = lit< tt
-word_fits (suc k) v zero = omega (arith, number_fits (take 64 v), pow_mono {j = 64} short)
-  where
-    short : length (take 64 v) ≤ 64
-    short = simp length-take (omega arith)
-word_fits (suc k) v (suc j) = word_fits k (drop 64 v) j
 
 -- words that are, one by one, those of a set
 pub words_by : (k : ℕ) (v : States) (ws : List ℕ) → length ws ≡ k → ((j : ℕ) → j < k → get_or ws j 0 ≡ number_of_bits (part v j)) → ws ≡ words k v
@@ -305,13 +293,3 @@ words_put k v s there h b =
     (rw (word_at k v (s / 64) (omega arith), shifted_one (s % 64) (omega arith), part_same v s there)
     (number_put (part v (s / 64)) (s % 64) there inside (simp length-take (omega arith))))
     (λ j n. part_other v s j there n)
-
--- ---- a truth value that decides
-
--- `true` decides what holds, `false` what does not.
-module _ {P : Type 0} where
-  pub decides_yes : P → DecidedBy P true
-  decides_yes p = record { yes_if = λ e. p; no_if = λ e. absurd (false_true (sym e)) }
-
-  pub decides_no : ¬ P → DecidedBy P false
-  decides_no n = record { yes_if = λ e. absurd (false_true e); no_if = λ e. n }

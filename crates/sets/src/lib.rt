@@ -16,6 +16,7 @@ pub const WORDS: usize = 4;
 
 pub const STATES: usize = 64 * WORDS;
 
+// A set is its words by value, as marks and arrays of sets hold it. So the contracts say which set the words hold, of any number of states, and no struct does.
 pub type Set = [u64; WORDS];
 
 // No state.

@@ -1,6 +1,5 @@
 -- Laws of the crate's definitions. `Promises` says what the whole promises.
 pub mod Promises
-pub mod Ranges
 pub mod Tables
 pub mod Reading
 pub mod WellFormed

@@ -10,21 +10,13 @@ use crate::{Cell, Operands, Sizes};
 // How many bytes stand before the first table.
 pub const HEADER: usize = 36;
 
-fn wide(x: u8) -> usize
-    ensures { (result ≡ x) × (result < 256) }
-{
-    x as usize
-}
-
 // The 32-bit number at a place, low byte first.
+#[tactic(auto, unfolding(crate::specs::File::u32))]
 pub fn number_at(file: &[u8], at: usize) -> usize
     requires { at + 4 ≤ length file.now }
     ensures { (result ≡ u32 file.now at) × (result < 2 ^ 32) }
 {
-    wide(file[at])
-        + 256 * wide(file[at + 1])
-        + 65536 * wide(file[at + 2])
-        + 16777216 * wide(file[at + 3])
+    u32::from_le_bytes([file[at], file[at + 1], file[at + 2], file[at + 3]]) as usize
 }
 
 // The counts in the header.

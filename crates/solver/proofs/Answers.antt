@@ -115,7 +115,7 @@ module _ {e : List ℕ} {sizes : Sizes} (o : OpenFile e sizes) (work marks : Lis
     pub ended_spent : {after : List ℕ} → AllSolved e limit after None → Answered e work marks limit (solve_answer (Err Spent)) (whole after) marks
     ended_spent {after} r = answered_spent e work marks limit
         ((is_14 e (length work) (length marks) limit).1 (lent, r.answers))
-        (record { bytes = after; sized = r.room; bits = r.bits; are = ap (λ (l : List ℕ). after ++ l) rest })
+        (record { bytes = after; sized = r.ready.room; bits = r.ready.bits; are = ap (λ (l : List ℕ). after ++ l) rest })
 
     pub ended_solved : {after : List ℕ} {found : Found} → IsFound e limit after found → {verdict : Bool} → verdict ≡ marked found.row sizes.initial → {count : ℕ} → SizeIs found.row count →
         {marks_after : List ℕ} → marks_after ≡ found.row ++ drop word_count marks →

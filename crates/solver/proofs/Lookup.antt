@@ -11,14 +11,13 @@ use Rattle.sets.specs.Lists.{for_some}
 use Rattle.sets.proofs.Lists.{loop_ends, loop_next}
 use Rattle.solver.specs.File.{operands, list_of}
 use Rattle.solver.specs.internal.Working.{Ready, ListAt}
-use Rattle.solver.specs.declared.Sizes.{Sizes}
 use Rattle.solver.proofs.Tables.{operand_at, operand_at_lem, length_list, list_at}
 
 -- whether one of the operands from operand j on has the value wanted
 abbrev pub found : List ℕ → ℕ → ℕ → List ℕ → ℕ → ℕ → Bool
 found e from count work wanted j = for_some (λ o. eqb (get_or work o 0) wanted) (drop j (list_of (operands e) from count))
 
-module _ {e : List ℕ} {s : Sizes} {work : List ℕ} (r : Ready e s work) {from count : ℕ} (l : ListAt e from count) {j : ℕ} where
+module _ {e work : List ℕ} (r : Ready e work) {from count : ℕ} (l : ListAt e from count) {j : ℕ} where
   -- operand j is a cell
   pub operand_low : {o : ℕ} → j < count → o ≡ operand_at e (from + j) → o < length work
   operand_low h is = omega (arith, l.below j h, operand_at_lem e (from + j) (omega (arith, l.fits)), r.room)

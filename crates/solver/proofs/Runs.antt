@@ -107,14 +107,13 @@ module _ {e : List ℕ} (f : WellFormed e) {limit : ℕ} {rows : List (List ℕ)
         counted = omega (arith, r.0, a.1);
         first = r.1.row 0 (omega arith) ∙ ap (words word_count) (a.0 0 (layout_facts e f.layout).counts.some_block);
         values =
-            shown (evaluate (cells e) (reached e).0) bytes (d.room ∙ sym (v.sized ∙ length_cells e)) (d.right (reached e).0 (evaluate (cells e) (reached e).0) r.1 v)
+            shown (evaluate (cells e) (reached e).0) bytes (d.ready.room ∙ sym (v.sized ∙ length_cells e)) (d.right (reached e).0 (evaluate (cells e) (reached e).0) r.1 v)
             ∙ ap (map bit) (evaluate_start (sizes_of e).blocks (reached e).0 (run e).0 a.0 (cells e) (own_named f));
       }
 
 -- zeros are working bytes
-pub cleared_ready : {e : List ℕ} {sizes : Sizes} {m : ℕ} {after : List ℕ} → OpenFile e sizes → m ≡ (sizes_of e).cells → after ≡ replicate m 0 → Ready e sizes after
-cleared_ready {m = m} o l is = record {
-  opens = o;
+pub cleared_ready : {e : List ℕ} {m : ℕ} {after : List ℕ} → m ≡ (sizes_of e).cells → after ≡ replicate m 0 → Ready e after
+cleared_ready {m = m} l is = record {
   room = ap length is ∙ length-replicate m 0 ∙ l;
   bits = λ i. rw is (low m i);
 }

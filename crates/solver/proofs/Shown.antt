@@ -21,7 +21,7 @@ use Rattle.solver.specs.internal.Reading.{cell_read}
 use Rattle.solver.specs.internal.Forms.{Ordered}
 use Rattle.solver.specs.File.{sizes_of, operands, Entry, entry_at, entry_cell, cells, list_of, block_limit}
 use Rattle.solver.specs.internal.Checks.{SizesFit}
-use Rattle.solver.specs.internal.Working.{Ready, ListAt, HoldsRows, Shows, Valued, CellsValued, truths}
+use Rattle.solver.specs.internal.Working.{OpenFile, Ready, ListAt, HoldsRows, Shows, Valued, CellsValued, truths}
 use Rattle.solver.specs.declared.Sizes.{Sizes}
 use Rattle.solver.proofs.Tables.{counted, length_cells, cell_at_lem, operand_at_lem, and_numbers, or_numbers, variable_numbers}
 use Rattle.solver.proofs.Reading.{layout_facts}
@@ -89,19 +89,19 @@ module _ (work : List ℕ) (bits : (i : ℕ) → get_or work i 0 ≤ 1) (ρ : Va
 abbrev pub cell_at : List ℕ → ℕ → Cell
 cell_at e i = entry_cell (operands e) (entry_at e i).kind (entry_at e i).one (entry_at e i).two
 
-module _ {e : List ℕ} {sizes : Sizes} {work : List ℕ} (r : Ready e sizes work) {i : ℕ} (h : i < sizes.cells) where
+module _ {e : List ℕ} {sizes : Sizes} {work : List ℕ} (o : OpenFile e sizes) (r : Ready e work) {i : ℕ} (h : i < sizes.cells) where
   own : i < (sizes_of e).cells
-  own = omega (arith, (counted r.opens.counts).cells)
+  own = omega (arith, (counted o.counts).cells)
 
   -- the bytes above (cell_at e i) i are the values above (cell_at e i) i
-  above : (vs : List Bool) → length vs ≡ length (cells e) → Shows vs (i + 1) work → (o : ℕ) → i < o → get_or (truths work) o false ≡ get_or vs o false
-  above vs l s o g = go (dec_lt o (length vs))
+  above : (vs : List Bool) → length vs ≡ length (cells e) → Shows vs (i + 1) work → (j : ℕ) → i < j → get_or (truths work) j false ≡ get_or vs j false
+  above vs l s j g = go (dec_lt j (length vs))
     where
-      go : Dec (o < length vs) → get_or (truths work) o false ≡ get_or vs o false
-      go (yes q) = truth_at work o ∙ ap (λ (x : ℕ). eqb x 1) (s.byte o (omega arith) q) ∙ bit_back (get_or vs o false)
+      go : Dec (j < length vs) → get_or (truths work) j false ≡ get_or vs j false
+      go (yes q) = truth_at work j ∙ ap (λ (x : ℕ). eqb x 1) (s.byte j (omega arith) q) ∙ bit_back (get_or vs j false)
       go (no q) =
-          get_or-eq_default (truths work) false {n = o} (omega (arith, length_truths work, r.room, l, length_cells e))
-          ∙ sym (get_or-eq_default vs false {n = o} (omega arith))
+          get_or-eq_default (truths work) false {n = j} (omega (arith, length_truths work, r.room, l, length_cells e))
+          ∙ sym (get_or-eq_default vs false {n = j} (omega arith))
 
   -- by the rule over all values
   by_rule : (ρ : Valuation) (vs : List Bool) → Values (cells e) ρ vs → Shows vs (i + 1) work → value ρ (truths work) (cell_at e i) ≡ get_or vs i false
@@ -109,17 +109,17 @@ module _ {e : List ℕ} {sizes : Sizes} {work : List ℕ} (r : Ready e sizes wor
   by_rule ρ vs v s =
       let g : i < length (cells e) = omega (arith, own, length_cells e) in
       let at = cell_at_lem e i own in
-      value_kept kept_equal ρ ρ (λ k x. refl) i (truths work) vs (above vs v.sized s) (cell_at e i) (rw at at (ordered e r.opens.formed i g))
+      value_kept kept_equal ρ ρ (λ k x. refl) i (truths work) vs (above vs v.sized s) (cell_at e i) (rw at at (ordered e o.formed i g))
       ∙ sym (v.rule i g ∙ ap (value ρ vs) at)
 
   abbrev entry : Entry
   entry = entry_at e i
 
   abbrev facts : Keeps e i entry.kind entry.one entry.two
-  facts = cell_kept e r.opens.formed i own
+  facts = cell_kept e o.formed i own
 
   abbrev few : SizesFit (sizes_of e)
-  few = (layout_facts e r.opens.formed.layout).counts
+  few = (layout_facts e o.formed.layout).counts
 
   -- a list's operands are in the table
   pub list_fits : {first count : ℕ} → entry.kind ≤ 1 → first ≡ entry.one → count ≡ entry.two → ListAt e first count
@@ -183,27 +183,25 @@ module _ {e : List ℕ} {sizes : Sizes} {work : List ℕ} (r : Ready e sizes wor
     }
 
 -- ---- all cells, from the last down
-pub evaluated_none : {e : List ℕ} {sizes : Sizes} {work : List ℕ} {rows : List (List ℕ)} → Ready e sizes work → CellsValued e rows sizes.cells work
-evaluated_none {e} r = record {
-  room = r.room;
-  bits = r.bits;
-  right = λ ρ vs holds v. record { byte = λ j a b. absurd (omega (arith, v.sized, length_cells e, (counted r.opens.counts).cells)) };
+pub evaluated_none : {e : List ℕ} {sizes : Sizes} {work : List ℕ} {rows : List (List ℕ)} → OpenFile e sizes → Ready e work → CellsValued e rows sizes.cells work
+evaluated_none {e} o r = record {
+  ready = r;
+  right = λ ρ vs holds v. record { byte = λ j a b. absurd (omega (arith, v.sized, length_cells e, (counted o.counts).cells)) };
 }
 
 pub evaluated_more : {e : List ℕ} {work : List ℕ} {rows : List (List ℕ)} {i x : ℕ} {answer : Bool} → CellsValued e rows (i + 1) work → i < (sizes_of e).cells → Valued e rows i work answer → x ≡ bit answer →
     CellsValued e rows i (set work i x)
 evaluated_more {e} {work} {rows} {i} {x} {answer} d h w is = record {
-  room = length-set work i x ∙ d.room;
-  bits = λ j. low j (ℕ_discrete j i);
+  ready = record { room = length-set work i x ∙ d.ready.room; bits = λ j. low j (ℕ_discrete j i) };
   right = λ ρ vs holds v. record { byte = λ j a b. at ρ vs holds v j a b (ℕ_discrete j i) };
 }
   where
     here : get_or (set work i x) i 0 ≡ bit answer
-    here = get_or-set_same work i x 0 (omega (arith, d.room)) ∙ is
+    here = get_or-set_same work i x 0 (omega (arith, d.ready.room)) ∙ is
 
     low : (j : ℕ) → Dec (j ≡ i) → get_or (set work i x) j 0 ≤ 1
     low j (yes q) = rw (q, here) (bit_low answer)
-    low j (no q) = rw (get_or-set_other work i j x 0 q) (d.bits j)
+    low j (no q) = rw (get_or-set_other work i j x 0 q) (d.ready.bits j)
 
     at : (ρ : Valuation) (vs : List Bool) → HoldsRows (sizes_of e).states rows ρ → Values (cells e) ρ vs → (j : ℕ) → i ≤ j → j < length vs → Dec (j ≡ i) → get_or (set work i x) j 0 ≡ bit (get_or vs j false)
     at ρ vs holds v j a b (yes q) = rw (q, here) (ap bit (w.right ρ vs holds v (d.right ρ vs holds v)))

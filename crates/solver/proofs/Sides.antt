@@ -12,7 +12,7 @@ use Rattle.sets.specs.States.{States, Valuation, update}
 use Rattle.sets.specs.Words.{words, bit, word_count}
 use Rattle.solver.specs.File.{sizes_of, block_at, block_limit}
 use Rattle.solver.specs.Conditions.{WellFormed}
-use Rattle.solver.specs.internal.Working.{OpenFile, Ready, HoldsRows, Valued, CellsValued, RightSidesOf, Applied}
+use Rattle.solver.specs.internal.Working.{OpenFile, HoldsRows, Valued, CellsValued, RightSidesOf, Applied}
 use Rattle.solver.specs.declared.Sizes.{Sizes}
 use Rattle.solver.proofs.Tables.{counted, length_cells}
 use Rattle.solver.proofs.Reading.{few_blocks, own_block}
@@ -105,10 +105,6 @@ module _ {e : List ℕ} {sizes : Sizes} {rows : List (List ℕ)} {k first : ℕ}
             ∙ append-nil (σ k)));
       }
 
-  -- cells can be worked out further
-  pub replacing_ready : {s : ℕ} {work : List ℕ} {next : List (List ℕ)} → Replacing e sizes rows k first s work next → Ready e sizes work
-  replacing_ready r = record { opens = r.block.opens; room = r.worked.room; bits = r.worked.bits }
-
   -- The right-hand side of state s is put in place: it is the value of cell first + s under `rows`.
   module _ {s v : ℕ} {answer : Bool} {work row : List ℕ} {next : List (List ℕ)} (r : Replacing e sizes rows k first (s + 1) work next) (x : Valued e rows (first + s) work answer)
       (is : v ≡ bit answer) (put : (u : States) → s < length u → get_or next k [] ≡ words word_count u → row ≡ words word_count (set u s answer)) where
@@ -147,7 +143,6 @@ module _ {e : List ℕ} {sizes : Sizes} {rows : List (List ℕ)} {k first : ℕ}
   -- all states are replaced
   pub replacing_all : {s : ℕ} {work : List ℕ} {next : List (List ℕ)} → Replacing e sizes rows k first s work next → s ≡ 0 → Applied e rows k work next
   replacing_all {s} {work} {next} r z = record {
-    room = r.worked.room;
-    bits = r.worked.bits;
+    ready = r.worked.ready;
     right = λ σ w holds t. holds_update holds k w (block_sides r.block t) (r.own σ w holds t ∙ ap (λ (i : ℕ). words word_count (mixed i (σ k) w)) z) r.others;
   }

@@ -106,33 +106,3 @@ pub struct EquationFile<'a> {
     pub tables: Tables<'a>,
     ghost opens: { OpenFile tables.bytes.now tables.sizes },
 }
-
-// Cell i. A kind above 2 reads as a variable: no opened file has one.
-pub fn cell_at(file: &[u8], sizes: Sizes, i: usize) -> Cell
-    requires { (sizes ≡ sizes_of file.now) × (cells_at (sizes_of file.now) + 12 * i + 12 ≤ length file.now) }
-    ensures { result ≡ cell_read (entry_at file.now i) }
-{
-    let at = HEADER + 8 * sizes.blocks + 12 * i;
-    let one = number_at(file, at + 4);
-    let two = number_at(file, at + 8);
-    let operands = Operands {
-        first: one,
-        count: two,
-    };
-    match number_at(file, at) {
-        0 => Cell::And(operands),
-        1 => Cell::Or(operands),
-        _ => Cell::Variable {
-            block: one,
-            state: two,
-        },
-    }
-}
-
-// The number at place j of the operand table.
-pub fn operand_at(file: &[u8], sizes: Sizes, j: usize) -> usize
-    requires { (sizes ≡ sizes_of file.now) × (operands_at (sizes_of file.now) + 4 * j + 4 ≤ length file.now) }
-    ensures { result ≡ u32 file.now (operands_at (sizes_of file.now) + 4 * j) }
-{
-    number_at(file, HEADER + 8 * sizes.blocks + 12 * sizes.cells + 4 * j)
-}

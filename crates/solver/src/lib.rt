@@ -14,7 +14,7 @@ ghost use Rattle.solver.specs.internal.Working.{OpenFile, AllSolved};
 use conditions::open_file;
 pub use file::HEADER;
 use file::{EquationFile, Tables};
-use sets::WORDS;
+use sets::{Set, WORDS};
 
 pub const BLOCKS: usize = 6;
 
@@ -87,20 +87,20 @@ pub type Answer = Result<Report, Cause>;
 // What solving all blocks finds: the set of block 0, and the rounds that it took.
 #[derive(Clone, Copy)]
 struct Found {
-    row: [u64; WORDS],
+    row: Set,
     rounds: u64,
 }
 
 // Solves all blocks and works out all cells, or answers None where the rounds exceed the limit.
-fn run(file: &[u8], sizes: Sizes, work: &mut [u8], limit: u64) -> Option<Found>
-    requires { OpenFile file.now sizes × (length work.old ≡ (sizes_of file.now).cells) }
-    ensures { AllSolved file.now limit work.new result }
+fn run(file: &EquationFile<'_>, work: &mut [u8], limit: u64) -> Option<Found>
+    requires { length work.old ≡ file.now.tables.sizes.cells }
+    ensures { AllSolved file.now.tables.bytes.now limit work.new result }
 {
     work.fill(0);
-    let starts = rounds::starts(file, sizes);
+    let starts = rounds::starts(file);
     let mut budget = limit;
-    let sets = rounds::solve_last(file, sizes, starts, sizes.blocks, work, &mut budget)?;
-    cells::evaluate(file, sizes, sets, 0, work);
+    let sets = rounds::solve_last(file, starts, file.tables.sizes.blocks, work, &mut budget)?;
+    cells::evaluate(file, sets, 0, work);
     Some(Found {
         row: sets[0],
         rounds: limit - budget,
@@ -111,7 +111,7 @@ fn run(file: &[u8], sizes: Sizes, work: &mut [u8], limit: u64) -> Option<Found>
 fn solve_opened(file: &EquationFile<'_>, work: &mut [u8], marks: &mut [u64], limit: u64) -> Answer
     ensures { Answered file.now.tables.bytes.now work.old marks.old limit (solve_answer result) work.new marks.new }
 {
-    let Tables { bytes, sizes } = file.tables;
+    let sizes = file.tables.sizes;
     let c = sizes.cells;
     if work.len() < c {
         return Err(Cause::Memory);
@@ -119,7 +119,7 @@ fn solve_opened(file: &EquationFile<'_>, work: &mut [u8], marks: &mut [u64], lim
     if marks.len() < WORDS {
         return Err(Cause::Memory);
     }
-    let Some(found) = run(bytes, sizes, &mut work[..c], limit) else {
+    let Some(found) = run(file, &mut work[..c], limit) else {
         return Err(Cause::Spent);
     };
     let Found { row, rounds } = found;

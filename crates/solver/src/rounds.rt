@@ -3,11 +3,11 @@ ghost use Rattle.std.specs.Prelude.{◌≡◌, ◌+◌, ◌-◌, ◌<◌, ◌≤
 ghost use Rattle.sets.specs.States.{start};
 ghost use Rattle.sets.specs.Words.{words, word_count};
 ghost use Rattle.solver.specs.File.{sizes_of, block_at};
-ghost use Rattle.solver.specs.internal.Working.{OpenFile, Ready, HoldsRows, Started, Solving, Turned, starting};
+ghost use Rattle.solver.specs.internal.Working.{Ready, HoldsRows, Started, Solving, Turned, starting};
 
+use crate::BLOCKS;
 use crate::cells::{BlockSets, right_sides};
-use crate::file::{HEADER, number_at};
-use crate::{BLOCKS, Sizes};
+use crate::file::EquationFile;
 use sets::{Set, WORDS};
 
 // How a round of a block ends: its set is stable, and the later blocks are solved, or it is replaced.
@@ -18,21 +18,20 @@ pub enum Ending {
 }
 
 // Where block k starts: no state for mu, every state for nu.
-fn start_of(file: &[u8], sizes: Sizes, k: usize) -> Set
-    requires { OpenFile file.now sizes × (k < sizes.blocks) }
-    ensures { result ≡ words word_count (start (sizes_of file.now).states (block_at file.now k).sign) }
+fn start_of(file: &EquationFile<'_>, k: usize) -> Set
+    requires { k < file.now.tables.sizes.blocks }
+    ensures { let e = file.now.tables.bytes.now in result ≡ words word_count (start (sizes_of e).states (block_at e k).sign) }
 {
-    sets::initial(sizes.states, number_at(file, HEADER + 8 * k) == 1)
+    sets::initial(file.tables.sizes.states, file.tables.sign(k) == 1)
 }
 
 // Where all blocks start.
-pub fn starts(file: &[u8], sizes: Sizes) -> BlockSets
-    requires { OpenFile file.now sizes }
-    ensures { HoldsRows (sizes_of file.now).states result (starting file.now (sizes_of file.now).blocks) }
+pub fn starts(file: &EquationFile<'_>) -> BlockSets
+    ensures { let e = file.now.tables.bytes.now in HoldsRows (sizes_of e).states result (starting e (sizes_of e).blocks) }
 {
     let mut sets = [[0u64; WORDS]; BLOCKS];
-    for k in 0..sizes.blocks {
-        let row = start_of(file, sizes, k);
+    for k in 0..file.tables.sizes.blocks {
+        let row = start_of(file, k);
         sets[k] = row;
     }
     sets
@@ -42,27 +41,26 @@ pub fn starts(file: &[u8], sizes: Sizes) -> BlockSets
 // rounds left are too few.
 #[cycle(round_solve_last)]
 pub fn solve_last(
-    file: &[u8],
-    sizes: Sizes,
+    file: &EquationFile<'_>,
     sets: BlockSets,
     left: usize,
     work: &mut [u8],
     budget: &mut u64,
 ) -> Option<BlockSets>
-    requires { Ready file.now sizes work.old × (left ≤ sizes.blocks) × Started file.now (sizes.blocks - left) sets }
-    ensures { Solving file.now sets (sizes.blocks - left) budget.old work.new result budget.new }
+    requires { let t = file.now.tables in Ready t.bytes.now work.old × (left ≤ t.sizes.blocks) × Started t.bytes.now (t.sizes.blocks - left) sets }
+    ensures { let t = file.now.tables in Solving t.bytes.now sets (t.sizes.blocks - left) budget.old work.new result budget.new }
 {
     if left == 0 {
         return Some(sets);
     }
     let mut s = sets;
     loop {
-        let end = round(file, sizes, s, left, work, budget)?;
+        let end = round(file, s, left, work, budget)?;
         match end {
             Ending::Stable(t) => return Some(t),
             Ending::Replaced(t) => {
                 // The later blocks go back to where they start.
-                let k = sizes.blocks - left;
+                let k = file.tables.sizes.blocks - left;
                 let row = t[k];
                 s = sets;
                 s[k] = row;
@@ -75,20 +73,19 @@ pub fn solve_last(
 // worked out and compared.
 #[cycle(round_solve_last)]
 fn round(
-    file: &[u8],
-    sizes: Sizes,
+    file: &EquationFile<'_>,
     sets: BlockSets,
     left: usize,
     work: &mut [u8],
     budget: &mut u64,
 ) -> Option<Ending>
-    requires { Ready file.now sizes work.old × (0 < left) × (left ≤ sizes.blocks) × Started file.now (sizes.blocks - left + 1) sets }
-    ensures { Turned file.now sets (sizes.blocks - left) budget.old work.new result budget.new }
+    requires { let t = file.now.tables in Ready t.bytes.now work.old × (0 < left) × (left ≤ t.sizes.blocks) × Started t.bytes.now (t.sizes.blocks - left + 1) sets }
+    ensures { let t = file.now.tables in Turned t.bytes.now sets (t.sizes.blocks - left) budget.old work.new result budget.new }
 {
-    let s = solve_last(file, sizes, sets, left - 1, work, budget)?;
+    let s = solve_last(file, sets, left - 1, work, budget)?;
     *budget = budget.checked_sub(1)?;
-    let k = sizes.blocks - left;
-    let next = right_sides(file, sizes, s, k, work);
+    let k = file.tables.sizes.blocks - left;
+    let next = right_sides(file, s, k, work);
     if next[k] == sets[k] {
         return Some(Ending::Stable(s));
     }

@@ -17,9 +17,8 @@ pub record OpenFile (e : List ℕ) (sizes : Sizes) : Type 0 where
   pub formed : WellFormed e
   pub counts : sizes ≡ sizes_of e
 
--- and a working byte of 0 or 1 for each cell
-pub record Ready (e : List ℕ) (sizes : Sizes) (work : List ℕ) : Type 0 where
-  pub opens : OpenFile e sizes
+-- a working byte of 0 or 1 for each cell
+pub record Ready (e : List ℕ) (work : List ℕ) : Type 0 where
   pub room : length work ≡ (sizes_of e).cells
   pub bits : (i : ℕ) → get_or work i 0 ≤ 1
 
@@ -47,8 +46,7 @@ pub record Valued (e : List ℕ) (rows : List (List ℕ)) (i : ℕ) (work : List
 
 -- the values of the cells from `from` on
 pub record CellsValued (e : List ℕ) (rows : List (List ℕ)) (from : ℕ) (work : List ℕ) : Type 0 where
-  pub room : length work ≡ (sizes_of e).cells
-  pub bits : (i : ℕ) → get_or work i 0 ≤ 1
+  pub ready : Ready e work
   pub right : (ρ : Valuation) (vs : List Bool) → HoldsRows (sizes_of e).states rows ρ → Values (cells e) ρ vs → Shows vs from work
 
 -- SolvesFrom e k ρ σ r: from block k, with the sets ρ, the file's blocks are solved at σ after r rounds
@@ -60,8 +58,7 @@ RightSidesOf e k σ w = RightSides (sizes_of e).states (cells e) (block_at e k).
 
 -- block k's set is replaced by its right-hand sides, and the working bytes afterwards
 pub record Applied (e : List ℕ) (rows : List (List ℕ)) (k : ℕ) (work : List ℕ) (rows_after : List (List ℕ)) : Type 0 where
-  pub room : length work ≡ (sizes_of e).cells
-  pub bits : (i : ℕ) → get_or work i 0 ≤ 1
+  pub ready : Ready e work
   pub right : (σ : Valuation) (w : States) → HoldsRows (sizes_of e).states rows σ → RightSidesOf e k σ w → HoldsRows (sizes_of e).states rows_after (update σ k w)
 
 -- the first k blocks where they start, no state for mu and every state for nu; the others empty
@@ -84,8 +81,7 @@ pub record Settled (e : List ℕ) (rows : List (List ℕ)) (k budget : ℕ) (row
 
 -- Solving from block k, with `budget` rounds left: None exactly if it takes more.
 pub record Solving (e : List ℕ) (rows : List (List ℕ)) (k budget : ℕ) (work : List ℕ) (answer : Option (List (List ℕ))) (budget_after : ℕ) : Type 0 where
-  pub room : length work ≡ (sizes_of e).cells
-  pub bits : (i : ℕ) → get_or work i 0 ≤ 1
+  pub ready : Ready e work
   pub answers : MatchOption answer (TooMany e rows k budget) (λ rows_after. Settled e rows k budget rows_after budget_after)
 
 -- A round of block k takes more rounds than are left: those of the later blocks, and one.
@@ -116,8 +112,7 @@ Ended e rows k budget (Replaced rows_after) budget_after = IsReplaced e rows k b
 
 -- One round of block k: the later blocks are solved, a round is counted, and the right-hand sides are compared with the set held.
 pub record Turned (e : List ℕ) (rows : List (List ℕ)) (k budget : ℕ) (work : List ℕ) (answer : Option Ending) (budget_after : ℕ) : Type 0 where
-  pub room : length work ≡ (sizes_of e).cells
-  pub bits : (i : ℕ) → get_or work i 0 ≤ 1
+  pub ready : Ready e work
   pub answers : MatchOption answer (TooManyInRound e rows k budget) (λ end. Ended e rows k budget end budget_after)
 
 -- What solving all blocks finds, and the working bytes afterwards.
@@ -129,6 +124,5 @@ pub record IsFound (e : List ℕ) (limit : ℕ) (work : List ℕ) (found : Found
 
 -- All blocks solved, and all cells worked out: None exactly if the rounds exceed the limit.
 pub record AllSolved (e : List ℕ) (limit : ℕ) (work : List ℕ) (answer : Option Found) : Type 0 where
-  pub room : length work ≡ (sizes_of e).cells
-  pub bits : (i : ℕ) → get_or work i 0 ≤ 1
+  pub ready : Ready e work
   pub answers : MatchOption answer (limit < (run e).1) (IsFound e limit work)

@@ -10,76 +10,75 @@ use Rattle.solver.proofs.Turns.{is_stable, is_replaced, unchanged, begins, out_o
 use Rattle.solver.proofs.rounds.+round_solve_last.Goals as goal
 
 pub round-offset_bounds-next-k : goal.round-offset_bounds-next-k
-round-offset_bounds-next-k t c = row_fits (few_blocks c.requires.0.opens (omega arith))
+round-offset_bounds-next-k t c = row_fits (few_blocks c.args.file.now.opens (omega arith))
 
 pub round-bounds-next-k : goal.round-bounds-next-k
-round-bounds-next-k t c = few_blocks c.requires.0.opens (omega arith)
+round-bounds-next-k t c = few_blocks c.args.file.now.opens (omega arith)
 
 pub round-offset_bounds-sets-k : goal.round-offset_bounds-sets-k
-round-offset_bounds-sets-k t c = row_fits (few_blocks c.requires.0.opens (omega arith))
+round-offset_bounds-sets-k t c = row_fits (few_blocks c.args.file.now.opens (omega arith))
 
 pub round-bounds-sets-k : goal.round-bounds-sets-k
-round-bounds-sets-k t c = few_blocks c.requires.0.opens (omega arith)
+round-bounds-sets-k t c = few_blocks c.args.file.now.opens (omega arith)
 
 pub round-returns-then-eq : goal.round-returns-then-eq
 round-returns-then-eq t c =
     let a = c.args in
-    let q : a.sizes.blocks - (a.left - 1) ≡ a.sizes.blocks - a.left + 1 = omega arith in
+    let blocks = a.file.now.tables.sizes.blocks in
+    let q : blocks - (a.left - 1) ≡ blocks - a.left + 1 = omega arith in
     let n = c.right_sides-next.ensures in
     record {
-      room = n.room;
-      bits = n.bits;
-      answers = is_stable (rw q at c.in_ok-s.ensures.answers) c.requires.0.opens (omega arith) n (omega (arith, c.in_ok-budget.ensures)) (same_text _ _ (sym c.if-eq.true ∙ c.eq.ensures));
+      ready = n.ready;
+      answers = is_stable (rw q at c.in_ok-s.ensures.answers) a.file.now.opens (omega arith) n (omega (arith, c.in_ok-budget.ensures)) (same_text _ _ (sym c.if-eq.true ∙ c.eq.ensures));
     }
 
 pub round-returns : goal.round-returns
 round-returns t c =
     let a = c.args in
-    let q : a.sizes.blocks - (a.left - 1) ≡ a.sizes.blocks - a.left + 1 = omega arith in
+    let blocks = a.file.now.tables.sizes.blocks in
+    let q : blocks - (a.left - 1) ≡ blocks - a.left + 1 = omega arith in
     let n = c.right_sides-next.ensures in
     record {
-      room = n.room;
-      bits = n.bits;
-      answers = is_replaced (rw q at c.in_ok-s.ensures.answers) c.requires.0.opens (omega arith) n (omega (arith, c.in_ok-budget.ensures)) (other_text _ _ (sym c.if-eq.false ∙ c.eq.ensures));
+      ready = n.ready;
+      answers = is_replaced (rw q at c.in_ok-s.ensures.answers) a.file.now.opens (omega arith) n (omega (arith, c.in_ok-budget.ensures)) (other_text _ _ (sym c.if-eq.false ∙ c.eq.ensures));
     }
 
 pub solve_last-returns-then-left-eq0 : goal.solve_last-returns-then-left-eq0
 solve_last-returns-then-left-eq0 t c =
-    let p = c.requires in
-    record { room = p.0.room; bits = p.0.bits; answers = unchanged (omega (arith, c.if-left-eq0.true, (counted p.0.opens.counts).blocks)) }
+    record { ready = c.requires.0; answers = unchanged (omega (arith, c.if-left-eq0.true, (counted c.args.file.now.opens.counts).blocks)) }
 
 pub solve_last-loop-end-init : goal.solve_last-loop-end-init
 solve_last-loop-end-init t c =
     let p = c.requires in
-    (omega arith, omega arith, omega arith, p.0.room, p.2, p.0, begins (own_block p.0.opens (omega arith)) p.2)
+    (omega arith, omega arith, omega arith, p.0.room, p.2, p.0, begins (own_block c.args.file.now.opens (omega arith)) p.2)
 
 pub solve_last-returns-in_err-end : goal.solve_last-returns-in_err-end
 solve_last-returns-in_err-end t c =
     let i = c.loop-end.invariant in
     let n = c.in_err-end.ensures in
     let z : c.from_residual.result ≡ None = search rules in
-    rw z (record { room = n.room; bits = n.bits; answers = out_of_rounds i.5.opens (omega (arith, i.0, i.1)) i.6 n.answers })
+    rw z (record { ready = n.ready; answers = out_of_rounds c.args.file.now.opens (omega (arith, i.0, i.1)) i.6 n.answers })
 
 pub solve_last-returns-in-Stable : goal.solve_last-returns-in-Stable
 solve_last-returns-in-Stable t c =
     let i = c.loop-end.invariant in
     let n = rw c.in-Stable.is at c.in_ok-end.ensures in
-    record { room = n.room; bits = n.bits; answers = stopped i.5.opens (omega (arith, i.0, i.1)) i.6 n.answers }
+    record { ready = n.ready; answers = stopped c.args.file.now.opens (omega (arith, i.0, i.1)) i.6 n.answers }
 
 pub solve_last-offset_bounds-t-k : goal.solve_last-offset_bounds-t-k
-solve_last-offset_bounds-t-k t c = let i = c.loop-end.invariant in row_fits (few_blocks i.5.opens (omega (arith, i.0, i.1)))
+solve_last-offset_bounds-t-k t c = let i = c.loop-end.invariant in row_fits (few_blocks c.args.file.now.opens (omega (arith, i.0, i.1)))
 
 pub solve_last-bounds-t-k : goal.solve_last-bounds-t-k
-solve_last-bounds-t-k t c = let i = c.loop-end.invariant in few_blocks i.5.opens (omega (arith, i.0, i.1))
+solve_last-bounds-t-k t c = let i = c.loop-end.invariant in few_blocks c.args.file.now.opens (omega (arith, i.0, i.1))
 
 pub solve_last-offset_bounds-s-k : goal.solve_last-offset_bounds-s-k
-solve_last-offset_bounds-s-k t c = let i = c.loop-end.invariant in row_fits (few_blocks i.5.opens (omega (arith, i.0, i.1)))
+solve_last-offset_bounds-s-k t c = let i = c.loop-end.invariant in row_fits (few_blocks c.args.file.now.opens (omega (arith, i.0, i.1)))
 
 pub solve_last-bounds-s-k : goal.solve_last-bounds-s-k
-solve_last-bounds-s-k t c = let i = c.loop-end.invariant in few_blocks i.5.opens (omega (arith, i.0, i.1))
+solve_last-bounds-s-k t c = let i = c.loop-end.invariant in few_blocks c.args.file.now.opens (omega (arith, i.0, i.1))
 
 pub solve_last-loop-end-preserved : goal.solve_last-loop-end-preserved
 solve_last-loop-end-preserved t c =
     let i = c.loop-end.invariant in
     let n = rw c.in-Replaced.is at c.in_ok-end.ensures in
-    (i.0, i.1, i.2, i.3, i.4, record { opens = i.5.opens; room = n.room; bits = n.bits }, goes_on i.5.opens (omega (arith, i.0, i.1)) i.6 n.answers i.2 i.4)
+    (i.0, i.1, i.2, i.3, i.4, n.ready, goes_on c.args.file.now.opens (omega (arith, i.0, i.1)) i.6 n.answers i.2 i.4)

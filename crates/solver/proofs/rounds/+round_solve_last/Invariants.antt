@@ -15,10 +15,12 @@ decreases-solve_last l = 2 * l.left + 1
 
 abbrev pub invariant-solve_last-loop-end : goal.invariant-solve_last-loop-end
 invariant-solve_last-loop-end l =
-    (0 < l.left) × (l.left ≤ l.sizes.blocks) × (length l.sets ≡ block_limit) × (length l.initial.work ≡ (sizes_of l.file).cells)
-    × Started l.file (l.sizes.blocks - l.left) l.sets
-    × Ready l.file l.sizes l.work
-    × Going l.file l.sets (l.sizes.blocks - l.left) l.initial.budget l.s l.budget
+    let t = l.file.tables in
+    let e = t.bytes.now in
+    (0 < l.left) × (l.left ≤ t.sizes.blocks) × (length l.sets ≡ block_limit) × (length l.initial.work ≡ (sizes_of e).cells)
+    × Started e (t.sizes.blocks - l.left) l.sets
+    × Ready e l.work
+    × Going e l.sets (t.sizes.blocks - l.left) l.initial.budget l.s l.budget
 
 abbrev pub decreases-solve_last-loop-end : goal.decreases-solve_last-loop-end
 decreases-solve_last-loop-end l = l.budget

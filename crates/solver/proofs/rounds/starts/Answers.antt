@@ -9,12 +9,12 @@ pub loop-k-init : goal.loop-k-init
 loop-k-init c = (omega arith, omega arith, omega arith, none_started _)
 
 pub offset_bounds-sets-k : goal.offset_bounds-sets-k
-offset_bounds-sets-k c = row_fits (few_blocks c.requires (omega arith))
+offset_bounds-sets-k c = row_fits (few_blocks c.args.file.now.opens (omega arith))
 
 pub bounds-sets-k : goal.bounds-sets-k
-bounds-sets-k c = few_blocks c.requires (omega arith)
+bounds-sets-k c = few_blocks c.args.file.now.opens (omega arith)
 
 pub loop-k-preserved : goal.loop-k-preserved
 loop-k-preserved c =
     let i = c.loop-k.invariant in
-    (omega arith, i.1, length-set c.loop-k.sets _ _ ∙ i.2, more_started _ i.3 (rw i.2 (few_blocks c.requires (omega arith))) c.start_of-row.ensures)
+    (omega arith, i.1, length-set c.loop-k.sets _ _ ∙ i.2, more_started _ i.3 (rw i.2 (few_blocks c.args.file.now.opens (omega arith))) c.start_of-row.ensures)

@@ -6,4 +6,6 @@ use Rattle.solver.specs.internal.Working.{HoldsRows, starting}
 use Rattle.solver.proofs.rounds.starts.Given as goal
 
 abbrev pub invariant-loop-k : goal.invariant-loop-k
-invariant-loop-k l = (l.k ≤ l.sizes.blocks) × (l.k-end ≡ l.sizes.blocks) × (length l.sets ≡ block_limit) × HoldsRows (sizes_of l.file).states l.sets (starting l.file l.k)
+invariant-loop-k l =
+    let t = l.file.tables in
+    (l.k ≤ t.sizes.blocks) × (l.k-end ≡ t.sizes.blocks) × (length l.sets ≡ block_limit) × HoldsRows (sizes_of t.bytes.now).states l.sets (starting t.bytes.now l.k)

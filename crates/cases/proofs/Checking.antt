@@ -9,6 +9,7 @@ use native.Mathlib.Omega.{arith}
 use lib.Dec.{ltb, leb}
 use borrow.Author.Tests.{lt-leb, le-leb, ltb-true, ltb-false}
 use lib.ListN.{length, drop, drop_of_length-le}
+use Rattle.std.specs.List.{range_with_len, list_all}
 use Rattle.sets.specs.Lists.{numbers_from, every}
 use Rattle.sets.proofs.Lists.{length_range}
 
@@ -85,3 +86,22 @@ pub all_map : {A B : Type 0} (p : B → Bool) (f : A → B) (xs : List A) → ev
 unfolding every
 all_map p f [] = refl
 all_map p f (x ∷ xs) = ap (λ (b : Bool). p (f x) && b) (all_map p f xs)
+
+-- ---- `all` over the places of a table
+
+-- the numbers of a range are those that count from its start
+pub range_is : (i k : ℕ) → range_with_len i k ≡ numbers_from i k
+unfolding numbers_from
+range_is i zero = refl
+range_is i (suc k) = rw (add-one i) (ap (λ (l : List ℕ). i ∷ l) (range_is (suc i) k))
+
+every_is : {A : Type 0} (p : A → Bool) (xs : List A) → list_all p xs ≡ every p xs
+unfolding every
+every_is p [] = refl
+every_is p (x ∷ xs) = ap (λ (b : Bool). p x && b) (every_is p xs)
+
+pub all_places : (p : ℕ → Bool) (k : ℕ) {r : Bool} → r ≡ list_all p (range_with_len 0 k) → r ≡ every p (numbers_from 0 k)
+all_places p k e = e ∙ ap (list_all p) (range_is 0 k) ∙ every_is p (numbers_from 0 k)
+
+pub all_records : {A : Type 0} (p : A → Bool) (f : ℕ → A) (k : ℕ) {r : Bool} → r ≡ list_all (λ i. p (f i)) (range_with_len 0 k) → r ≡ every p (map f (numbers_from 0 k))
+all_records p f k e = all_places (λ i. p (f i)) k e ∙ sym (all_map p f (numbers_from 0 k))

@@ -1,11 +1,13 @@
 -- Conditions 8 to 10: what the tests of the code come to.
-use mathlib.Core.Path.{◌≡◌, refl, sym, ap, ◌∙◌}
+use mathlib.Core.Path.{◌≡◌, refl, ap, ◌∙◌}
 use mathlib.Core.Bool.{Bool, true, false, cond, not}
-use mathlib.Core.List.{List, map}
+use mathlib.Core.List.{List, [], ◌∷◌, map}
+use Rattle.std.specs.List.{count_by, filter, range_with_len}
+use Rattle.std.proofs.lemmas.List.Sums.{sum_by-cons, length-filter}
 use Prim.Native.Nat.{ℕ, ◌+◌, ◌≤◌, ◌<◌}
 use native.Mathlib.Omega.{arith}
-use borrow.Author.Tests.{le-ltb, lt-ltb, eq-eqb, ne_eqb}
-use lib.Dec.{ltb}
+use borrow.Author.Tests.{le-ltb, lt-ltb}
+use lib.Dec.{ltb, eqb}
 use lib.ListN.{length}
 use Rattle.sets.specs.Lists.{numbers_from, every}
 use Rattle.sets.proofs.Lists.{length_map_range}
@@ -13,9 +15,8 @@ use Rattle.solver.specs.File.{block_limit}
 use Rattle.cases.specs.Prefix.{Node, arity_in, formula_arities, exactly, end_of}
 use Rattle.cases.specs.File.{node_in}
 use Rattle.cases.specs.Conditions.{node_ok, bad_formula, is_binder, node_at, bound_ok, bad_variable, binder_count, block_total, too_deep}
-use Rattle.cases.specs.internal.Checks.{nodes_in}
-use Rattle.cases.proofs.Checking.{and_fails, range_done, range_next}
-use Rattle.cases.proofs.PrefixRules.{nodes_from}
+use Rattle.cases.specs.internal.Checks.{nodes_in, binds}
+use Rattle.cases.proofs.Checking.{and_fails, range_is}
 
 -- ---- 8
 
@@ -32,29 +33,31 @@ module _ (a : ℕ) (table : List Node) where
 
 -- ---- 9
 
+module _ (table : List Node) (j i : ℕ) where
+  -- j is no node before i
+  pub binds_late : i ≤ j → false ≡ binds table j i
+  binds_late h = simp (le-ltb j i h, and_fails)
+
+  -- it is no binder
+  pub binds_none : is_binder (node_at table j) ≡ false → false ≡ binds table j i
+  binds_none f = simp f
+
+  -- it is a binder before i: the end of its subtree decides
+  pub end_decides :
+      is_binder (node_at table j) ≡ true → j < i → (end : ℕ) → end ≡ end_of (map (arity_in formula_arities) table) j
+      → ltb i end ≡ binds table j i
+  end_decides t h end e = simp (t, lt-ltb j i h, e)
+
 module _ (table : List Node) (i : ℕ) (x : Node) (is : node_at table i ≡ x) where
   -- another node than a variable
-  pub no_variable : ¬ (x.kind ≡ 6) → true ≡ bound_ok table i
+  pub no_variable : eqb x.kind 6 ≡ false → true ≡ bound_ok table i
   unfolding bound_ok
-  no_variable d = rw is (simp (ne_eqb x.kind 6 d))
+  no_variable d = rw is (simp d)
 
-  module _ (variable : x.kind ≡ 6) where
-    -- its argument is no node before it
-    pub bound_late : i ≤ x.arg → false ≡ bound_ok table i
-    unfolding bound_ok
-    bound_late h = rw is (simp (eq-eqb x.kind 6 variable, le-ltb x.arg i h, and_fails))
-
-    -- its argument is no binder
-    pub bound_elsewhere : is_binder (node_at table x.arg) ≡ false → false ≡ bound_ok table i
-    unfolding bound_ok
-    bound_elsewhere f = rw is (simp (eq-eqb x.kind 6 variable, f))
-
-    -- its argument is a binder before it: the end of the binder's subtree decides
-    pub end_decides :
-        is_binder (node_at table x.arg) ≡ true → x.arg < i → (end : ℕ) → end ≡ end_of (map (arity_in formula_arities) table) x.arg
-        → ltb i end ≡ bound_ok table i
-    unfolding bound_ok
-    end_decides t h end e = rw is (simp (eq-eqb x.kind 6 variable, t, lt-ltb x.arg i h, e))
+  -- a variable
+  pub variable_decides : eqb x.kind 6 ≡ true → binds table x.arg i ≡ bound_ok table i
+  unfolding bound_ok
+  variable_decides d = rw is (simp d)
 
 -- how many nodes there are
 pub length_nodes : (part : List ℕ) (f : ℕ) → length (nodes_in part f) ≡ f
@@ -68,18 +71,14 @@ bound_decides part f r e = rw (length_nodes part f, e) refl
 
 -- ---- 10
 
-module _ (part : List ℕ) (k i : ℕ) where
-  -- no node is left
-  pub binders_done : k ≤ i → binder_count (nodes_from part k i) ≡ 0
-  unfolding binder_count
-  binders_done h = ap (λ (is : List ℕ). binder_count (map (node_in part) is)) (range_done k i h)
+-- counted node by node
+counted : (part : List ℕ) (is : List ℕ) → count_by (λ i. is_binder (node_in part i)) is ≡ binder_count (map (node_in part) is)
+unfolding binder_count
+counted part [] = refl
+counted part (i ∷ is) = sum_by-cons (λ j. cond (is_binder (node_in part j)) 1 0) i is ∙ ap (λ (n : ℕ). cond (is_binder (node_in part i)) 1 0 + n) (counted part is)
 
-  -- the next node
-  pub binders_next : (x : Node) (one : ℕ) → i < k → x ≡ node_in part i → one ≡ cond (is_binder x) 1 0 → binder_count (nodes_from part k i) ≡ one + binder_count (nodes_from part k (i + 1))
-  unfolding binder_count
-  binders_next x one h is e =
-      ap (λ (is : List ℕ). binder_count (map (node_in part) is)) (range_next k i h)
-      ∙ ap (λ (n : ℕ). n + binder_count (nodes_from part k (i + 1))) (sym (e ∙ ap (λ (y : Node). cond (is_binder y) 1 0) is))
+pub binders_counted : (part : List ℕ) (k : ℕ) → length (filter (λ i. is_binder (node_in part i)) (range_with_len 0 k)) ≡ binder_count (map (node_in part) (numbers_from 0 k))
+binders_counted part k = length-filter _ (range_with_len 0 k) ∙ rw (range_is 0 k) (counted part (numbers_from 0 k))
 
 module _ (table : List Node) (count : ℕ) (is : count ≡ binder_count table) where
   -- the root is a binder

@@ -5,16 +5,15 @@ use mathlib.Core.List.{List, Memᴰ}
 use Prim.Native.Nat.{ℕ}
 use native.Mathlib.Omega.{arith}
 use Rattle.std.specs.Prelude.{Result, Ok, Err}
-use lib.ListN.{drop}
 use Rattle.sets.specs.Lists.{every}
 use Rattle.sets.specs.Refusals.{numbers_of, first_of, NoneHolds, FirstHolds}
 use Rattle.sets.proofs.Refusals.{none_of_first, one_of_first, answered_member, answered_first, answered_none}
 use Rattle.cases.specs.declared.Cause.{Cause}
 use Rattle.cases.specs.declared.Cause.TheVariants.{Small, Version, Count, Offset, Length, Model, Labels, Actions, Formula, Variable, Depth}
+use Rattle.cases.specs.Prefix.{Node}
 use Rattle.cases.specs.File.{Header, header_of, formula_table}
 use Rattle.cases.specs.Conditions.{layout_conditions, model_conditions, formula_conditions, case_conditions, case_refusal}
 use Rattle.cases.specs.Opening.{case_number, opened_number, Opens}
-use Rattle.cases.specs.internal.Checks.{nodes_in}
 
 -- 0 is the number of no cause
 pub some_number : (cause : Cause) → ¬ (case_number cause ≡ 0)
@@ -84,10 +83,10 @@ module _ (b : List ℕ) where
 
     -- the formula does
     pub formula_decides :
-        first_of (model_conditions b) ≡ 0 → {h : Header} → h ≡ header_of b
-        → first_of (formula_conditions h.actions (nodes_in (drop h.formula_at b) h.nodes)) ≡ case_refusal b
-    unfolding case_refusal case_conditions layout_conditions model_conditions every formula_table nodes_in
-    formula_decides none2 is = rw is (sym (none_of_first (layout_conditions b) _ tt none ∙ none_of_first (model_conditions b) _ tt none2))
+        first_of (model_conditions b) ≡ 0 → {h : Header} {table : List Node} → h ≡ header_of b → table ≡ formula_table b
+        → first_of (formula_conditions h.actions table) ≡ case_refusal b
+    unfolding case_refusal case_conditions layout_conditions model_conditions every
+    formula_decides none2 is read = rw (is, read) (sym (none_of_first (layout_conditions b) _ tt none ∙ none_of_first (model_conditions b) _ tt none2))
 
 -- ---- promises of whatever keeps the contract of open
 

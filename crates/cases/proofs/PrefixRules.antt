@@ -1,17 +1,20 @@
 -- Operands due, node by node: the arities of kinds, and loops over the nodes of a part.
 use mathlib.Core.Path.{◌≡◌, refl, sym, ap, ◌∙◌}
-use mathlib.Core.Bool.{Bool, false}
+use mathlib.Core.Bool.{Bool, true, false}
+use Rattle.std.specs.Prelude.{max, Option, Some, None, unwrap_or}
+use Rattle.std.specs.Bool.{then_some}
+use borrow.Author.Tests.{eq-eqb, eqb-true}
 use mathlib.Core.List.{List, [], ◌∷◌, map}
 use Prim.Native.Nat.{ℕ, zero, suc, ◌+◌, ◌-◌, ◌≤◌, ◌<◌}
 use native.Mathlib.Nat.{zero-add}
 use native.Mathlib.Omega.{arith}
 use lib.Dec.{eqb}
-use lib.ListN.{get_or, drop}
+use lib.ListN.{length, get_or, drop, length-map}
 use Rattle.sets.specs.Lists.{numbers_from, every}
-use Rattle.sets.proofs.Lists.{get_or_map_range, drop_map}
-use Rattle.cases.specs.Prefix.{Node, arity_in, action_arities, formula_arities, whole_formulas, exactly, span}
+use Rattle.sets.proofs.Lists.{get_or_map_range, drop_map, length_map_range}
+use Rattle.cases.specs.Prefix.{Node, arity_in, action_arities, formula_arities, whole_formulas, exactly, span, end_of}
 use Rattle.cases.specs.File.{node_in}
-use Rattle.cases.specs.internal.Checks.{nodes_in}
+use Rattle.cases.specs.internal.Checks.{nodes_in, WholeSubtree}
 use Rattle.cases.proofs.Checking.{range_done, range_next, all_map}
 
 -- ---- arities
@@ -97,6 +100,11 @@ pub from_node : (kinds part : List ℕ) (k i : ℕ) → drop i (map (arity_in ki
 unfolding nodes_in
 from_node kinds part k i = drop_map (arity_in kinds) (map (node_in part) (numbers_from 0 k)) i ∙ ap (map (arity_in kinds)) (drop_map (node_in part) (numbers_from 0 k) i)
 
+-- how many there are
+pub arities_length : (kinds part : List ℕ) (k : ℕ) → length (map (arity_in kinds) (nodes_in part k)) ≡ k
+unfolding nodes_in
+arities_length kinds part k = length-map (map (node_in part) (numbers_from 0 k)) (arity_in kinds) ∙ length_map_range (node_in part) 0 k
+
 module _ (kinds part : List ℕ) (k i : ℕ) where
   -- no node is left
   none_left : k ≤ i → arities_from kinds part k i ≡ []
@@ -132,3 +140,17 @@ module _ (kinds part : List ℕ) (k i : ℕ) where
       → (span due (arities_from kinds part k i) ≡ suc (span (due - 1 + a) (arities_from kinds part k (i + 1))))
       × (exactly due (arities_from kinds part k i) ≡ exactly (due - 1 + a) (arities_from kinds part k (i + 1)))
   due_next due x a d h is n = rw (one_left x a h is n) (due_step due a _ d)
+
+-- an answer by whether none is due
+pub ended : (ks : List ℕ) (i due end : ℕ) → exactly 1 (drop i ks) ≡ eqb due 0 → (due ≡ 0 → (end ≡ length ks) × (end_of ks i ≡ end)) → end_of ks i ≡ max i (length ks)
+    → WholeSubtree ks i (then_some (eqb due 0) end)
+ended ks i due end w z m = go (eqb due 0) refl
+  where
+    go : (t : Bool) → eqb due 0 ≡ t → WholeSubtree ks i (then_some (eqb due 0) end)
+    go true e = let f = z (eqb-true due 0 e) in rw e (w ∙ e ∙ sym (eq-eqb _ _ f.0), f.1)
+    go false e = rw e (w ∙ e, m)
+
+-- the end that an answer gives, or m where it gives none
+pub end_known : (ks : List ℕ) (i m : ℕ) (o : Option ℕ) → WholeSubtree ks i o → m ≡ max i (length ks) → unwrap_or o m ≡ end_of ks i
+end_known ks i m None h e = e ∙ sym h.1
+end_known ks i m (Some x) h e = sym h.1

@@ -1,51 +1,39 @@
 // The action part: the labels that an action formula accepts, as a mask with a bit for each label.
-ghost use Rattle.std.specs.Prelude.{◌≡◌, ◌<◌, ◌≤◌, length, get_or};
+ghost use Rattle.std.specs.Prelude.{◌≡◌, ◌<◌, length, get_or};
 ghost use Rattle.cases.specs.Action.{Action};
+ghost use Rattle.cases.specs.Kinds.{action_number};
 ghost use Rattle.cases.specs.File.{label_records, action_limit};
 ghost use Rattle.cases.specs.Labels.{alike_labels};
 ghost use Rattle.cases.specs.internal.Checks.{labels_in, nodes_in, NodesFit, LabelPart};
 ghost use Rattle.cases.specs.internal.Masks.{mask_of, action_of, action_in, WholeActions, ActionMasks};
 
-use crate::conditions::action_arity;
-use crate::file::node_at;
+use crate::kinds::ActionKind;
 use crate::labels::alike_labels;
+use crate::tables::Nodes;
 use crate::{ACTIONS, Header};
 
 // The mask of a node, where x and y are the masks that stand next after it.
-fn mask_of(labels: &[u8], h: Header, kind: usize, arg: usize, x: u64, y: u64) -> u64
-    requires { LabelPart labels.now h × (kind ≤ 6) × (kind ≡ 2 → arg < h.labels) }
+fn mask_of(labels: &[u8], h: Header, kind: ActionKind, arg: usize, x: u64, y: u64) -> u64
+    requires { LabelPart labels.now h × (action_number kind ≡ 2 → arg < h.labels) }
     ensures { (a b : Action) → x ≡ mask_of a → y ≡ mask_of b
-        → result ≡ mask_of (action_of (alike_labels h (labels_in labels.now (label_records h))) kind arg a b) }
+        → result ≡ mask_of (action_of (alike_labels h (labels_in labels.now (label_records h))) (action_number kind) arg a b) }
 {
-    if kind == 0 {
-        return 0;
+    match kind {
+        ActionKind::False => 0,
+        ActionKind::True => !0,
+        ActionKind::Label => alike_labels(labels, h, arg),
+        ActionKind::Not => !x,
+        ActionKind::And => x & y,
+        ActionKind::Or => x | y,
+        ActionKind::Implies => !x | y,
     }
-    if kind == 1 {
-        return !0;
-    }
-    if kind == 2 {
-        return alike_labels(labels, h, arg);
-    }
-    if kind == 3 {
-        return !x;
-    }
-    if kind == 4 {
-        return x & y;
-    }
-    if kind == 5 {
-        return x | y;
-    }
-    !x | y
 }
 
 // The mask at a place; none has the mask 0.
 fn mask_at(masks: &[u64], at: usize) -> u64
     ensures { result ≡ get_or masks.now at 0 }
 {
-    if at < masks.len() {
-        return masks[at];
-    }
-    0
+    masks.get(at).copied().unwrap_or(0)
 }
 
 // The labels that the action formula at each node accepts: bit x of mask j says whether that at node j accepts label x. The nodes are read from
@@ -55,17 +43,19 @@ pub fn action_masks(labels: &[u8], h: Header, part: &[u8]) -> [u64; ACTIONS]
     ensures { (length result ≡ action_limit)
         × ActionMasks (action_in h labels.now part.now) h.actions result }
 {
+    let actions = Nodes {
+        part,
+        count: h.actions,
+    };
     let mut all = [0u64; ACTIONS];
     let mut masks = [0u64; ACTIONS];
     let mut at = ACTIONS;
-    let mut i = h.actions;
-    while 0 < i {
-        i -= 1;
-        let node = node_at(part, i);
+    for i in (0..h.actions).rev() {
+        let node = actions.at(i);
         let x = mask_at(&masks, at);
         let y = mask_at(&masks, at + 1);
-        let mask = mask_of(labels, h, node.kind, node.arg, x, y);
-        at = at + action_arity(node.kind) - 1;
+        let mask = mask_of(labels, h, node.action_kind(), node.arg, x, y);
+        at = at + node.action_arity() - 1;
         masks[at] = mask;
         all[i] = mask;
     }

@@ -7,23 +7,21 @@ ghost use Rattle.cases.specs.File.{header_of, action_limit, node_limit};
 ghost use Rattle.cases.specs.Conditions.{versions, bad_count, bad_offset, bad_length, bad_model, bad_actions, bad_formula, bad_variable, too_deep, transition_ok, action_ok, node_ok, bound_ok, is_binder, binder_count};
 ghost use Rattle.cases.specs.Conditions.{layout_conditions, model_conditions, formula_conditions, case_refusal};
 ghost use Rattle.cases.specs.Opening.{case_number, opened_number, Opens};
-ghost use Rattle.cases.specs.internal.Checks.{transitions_in, nodes_in, fits, CountsFit, Laid, NodesFit};
+ghost use Rattle.cases.specs.internal.Checks.{nodes_in, CountsFit, NodesFit, WholeSubtree, binds};
 
 use crate::file::{
-    HEADER, actions_start, file_end, formula_start, header, header_size, node_at, transition_at,
-    transitions_start, version,
+    HEADER, actions_start, file_end, formula_start, header, header_size, transitions_start, version,
 };
+use crate::kinds::{ActionKind, FormulaKind};
 use crate::labels::bad_labels;
-use crate::{Cause, Header, Node, OpenCase, Transition};
+use crate::tables::{LaidCase, Nodes, OpenCase};
+use crate::{Cause, Header, Node, Transition};
 
 // Whether a count is below `low` or above `high`.
 fn outside(low: usize, high: usize, count: usize) -> bool
     ensures { result ≡ not (between low high count) }
 {
-    if count < low {
-        return true;
-    }
-    high < count
+    !(low..=high).contains(&count)
 }
 
 // Condition 3.
@@ -118,221 +116,193 @@ pub fn transition_holds(t: Transition, n: usize, l: usize) -> bool
     t.target < n
 }
 
-// Whether that holds of each of the m transitions of a part.
-fn transitions_hold(part: &[u8], m: usize, n: usize, l: usize) -> bool
-    requires { 6 * m ≤ length part.now }
-    ensures { result ≡ every (transition_ok n l) (transitions_in part.now m) }
-{
-    let mut i = 0;
-    while i < m {
-        if !transition_holds(transition_at(part, i), n, l) {
-            return false;
-        }
-        i += 1;
-    }
-    true
-}
-
 // Condition 6.
-fn bad_model(case: &[u8], h: Header) -> bool
-    requires { Laid case.now h }
-    ensures { result ≡ bad_model case.now }
+fn bad_model(case: &LaidCase<'_>) -> bool
+    ensures { result ≡ bad_model case.now.bytes.now }
 {
-    if h.states <= h.initial {
-        return true;
-    }
-    let records = h.transitions_at;
-    !transitions_hold(&case[records..], h.transitions, h.states, h.labels)
-}
-
-// One less, or 0.
-fn one_less(due: usize) -> usize
-    ensures { result ≡ due - 1 }
-{
-    if due == 0 {
-        return 0;
-    }
-    due - 1
-}
-
-// How many operands an action kind has.
-pub fn action_arity(kind: usize) -> usize
-    ensures { (result ≡ get_or action_arities kind 0) × (result ≤ 2) }
-{
-    if kind < 3 {
-        return 0;
-    }
-    if kind == 3 {
-        return 1;
-    }
-    if kind < 7 {
-        return 2;
-    }
-    0
+    let h = case.header;
+    let transitions = case.transitions();
+    h.states <= h.initial
+        || !(0..transitions.count).all(|i| transition_holds(transitions.at(i), h.states, h.labels))
 }
 
 // Whether the kind and the argument of an action node are right, with l labels.
 fn action_holds(x: Node, l: usize) -> bool
     ensures { result ≡ action_ok l x }
 {
-    if 6 < x.kind {
-        return false;
+    match ActionKind::try_from(x.kind) {
+        Ok(ActionKind::Label) => x.arg < l,
+        Ok(_) => x.arg == 0,
+        Err(()) => false,
     }
-    if x.kind == 2 {
-        return x.arg < l;
+}
+
+// Condition 7.
+fn bad_actions(case: &LaidCase<'_>) -> bool
+    ensures { result ≡ bad_actions case.now.bytes.now }
+{
+    let actions = case.actions();
+    !actions.actions_fit(case.header.labels) || !actions.whole_actions()
+}
+
+// The model, the label records and the action table: the first of conditions 6, 15 and 7 that holds, if one does.
+fn check_model(case: &LaidCase<'_>) -> Result<(), Cause>
+    ensures { opened_number result ≡ first_of (model_conditions case.now.bytes.now) }
+{
+    if bad_model(case) {
+        return Err(Cause::Model);
     }
-    x.arg == 0
+    if bad_labels(case.bytes, case.header) {
+        return Err(Cause::Labels);
+    }
+    if bad_actions(case) {
+        return Err(Cause::Actions);
+    }
+    Ok(())
 }
 
 // Whether the kind and the argument of a formula node are right, with a action nodes.
 fn node_holds(x: Node, a: usize) -> bool
     ensures { result ≡ node_ok a x }
 {
-    if 8 < x.kind {
-        return false;
+    match FormulaKind::try_from(x.kind) {
+        Ok(FormulaKind::Variable) => true,
+        Ok(FormulaKind::Box | FormulaKind::Diamond) => x.arg < a,
+        Ok(_) => x.arg == 0,
+        Err(()) => false,
     }
-    if x.kind == 6 {
-        return true;
-    }
-    if x.kind == 4 {
-        return x.arg < a;
-    }
-    if x.kind == 5 {
-        return x.arg < a;
-    }
-    x.arg == 0
 }
 
-// Whether they are right of a node of either table: of a formula node with `bound` action nodes, or of an action node with `bound` labels.
-fn node_fits(x: Node, bound: usize, formula: bool) -> bool
-    ensures { result ≡ fits formula bound x }
-{
-    if formula {
-        return node_holds(x, bound);
+impl Nodes<'_> {
+    // Whether the kind and the argument of each action node are right, with l labels.
+    fn actions_fit(&self, l: usize) -> bool
+        ensures { result ≡ every (action_ok l) (nodes_in self.now.part.now self.now.count) }
+    {
+        (0..self.count).all(|i| action_holds(self.at(i), l))
     }
-    action_holds(x, bound)
-}
 
-// Whether that holds of each of the k nodes of a part.
-fn all_fit(part: &[u8], k: usize, bound: usize, formula: bool) -> bool
-    requires { 4 * k ≤ length part.now }
-    ensures { result ≡ every (fits formula bound) (nodes_in part.now k) }
-{
-    let mut i = 0;
-    while i < k {
-        if !node_fits(node_at(part, i), bound, formula) {
+    // Whether those of each formula node are, with a action nodes.
+    fn formula_fits(&self, a: usize) -> bool
+        ensures { result ≡ every (node_ok a) (nodes_in self.now.part.now self.now.count) }
+    {
+        (0..self.count).all(|i| node_holds(self.at(i), a))
+    }
+
+    // Whether the nodes of an action table are whole formulas. Where a formula begins none is due, and its root stands for itself.
+    fn whole_actions(&self) -> bool
+        ensures { result ≡ whole_formulas 0 (map (arity_in action_arities) (nodes_in self.now.part.now self.now.count)) }
+    {
+        let mut due: usize = 0;
+        for i in 0..self.count {
+            due = due.saturating_sub(1) + self.at(i).action_arity();
+        }
+        due == 0
+    }
+
+    // The node after the subtree of a node of a formula table, if the subtree is whole.
+    fn whole_subtree(&self, at: usize) -> Option<usize>
+        ensures { WholeSubtree (map (arity_in formula_arities) (nodes_in self.now.part.now self.now.count)) at result }
+    {
+        let mut due: usize = 1;
+        for i in at..self.count {
+            if due == 0 {
+                return Some(i);
+            }
+            due = due - 1 + self.at(i).formula_arity();
+        }
+        (due == 0).then_some(self.count)
+    }
+
+    // Whether a formula table is one whole formula.
+    fn one_formula(&self) -> bool
+        ensures { result ≡ exactly 1 (map (arity_in formula_arities) (nodes_in self.now.part.now self.now.count)) }
+    {
+        match self.whole_subtree(0) {
+            Some(end) => end == self.count,
+            None => false,
+        }
+    }
+
+    // The node after the subtree of a node of a formula table.
+    pub fn subtree_end(&self, at: usize) -> usize
+        ensures { result ≡ end_of (map (arity_in formula_arities) (nodes_in self.now.part.now self.now.count)) at }
+    {
+        self.whole_subtree(at).unwrap_or(self.count.max(at))
+    }
+
+    // How many binders a formula table has.
+    pub fn binders(&self) -> usize
+        ensures count { result ≡ binder_count (nodes_in self.now.part.now self.now.count) }
+        ensures few { result ≤ self.now.count }
+    {
+        (0..self.count).filter(|i| self.at(*i).is_binder()).count()
+    }
+
+    // Whether node j is a binder and node i stands behind it in its subtree.
+    fn binds(&self, j: usize, i: usize) -> bool
+        requires { i < self.now.count }
+        ensures { result ≡ binds (nodes_in self.now.part.now self.now.count) j i }
+    {
+        if i <= j {
             return false;
         }
-        i += 1;
-    }
-    true
-}
-
-// Whether the a nodes of a part are whole formulas. Where a formula begins none is due, and its root stands for itself.
-fn actions_whole(part: &[u8], a: usize) -> bool
-    requires { NodesFit action_limit part.now a }
-    ensures { result ≡ whole_formulas 0 (map (arity_in action_arities) (nodes_in part.now a)) }
-{
-    let mut due = 0;
-    let mut i = 0;
-    while i < a {
-        let x = node_at(part, i);
-        due = one_less(due) + action_arity(x.kind);
-        i += 1;
-    }
-    due == 0
-}
-
-// Condition 7.
-fn bad_actions(case: &[u8], h: Header) -> bool
-    requires { Laid case.now h }
-    ensures { result ≡ bad_actions case.now }
-{
-    let actions = h.actions_at;
-    if !all_fit(&case[actions..], h.actions, h.labels, false) {
-        return true;
-    }
-    !actions_whole(&case[actions..], h.actions)
-}
-
-// The model, the label records and the action table: the first of conditions 6, 15 and 7 that holds, if one does.
-fn check_model(case: &[u8], h: Header) -> Result<(), Cause>
-    requires { Laid case.now h }
-    ensures { opened_number result ≡ first_of (model_conditions case.now) }
-{
-    if bad_model(case, h) {
-        return Err(Cause::Model);
-    }
-    if bad_labels(case, h) {
-        return Err(Cause::Labels);
-    }
-    if bad_actions(case, h) {
-        return Err(Cause::Actions);
-    }
-    Ok(())
-}
-
-// How many operands a formula kind has.
-fn formula_arity(kind: usize) -> usize
-    ensures { (result ≡ get_or formula_arities kind 0) × (result ≤ 2) }
-{
-    if kind < 2 {
-        return 0;
-    }
-    if kind < 4 {
-        return 2;
-    }
-    if kind == 6 {
-        return 0;
-    }
-    if kind < 9 {
-        return 1;
-    }
-    0
-}
-
-// A subtree: the node after it, and whether it is whole with no node after it.
-#[derive(Clone, Copy)]
-struct Subtree {
-    end: usize,
-    last: bool,
-}
-
-// The subtree of a node.
-fn subtree_at(part: &[u8], f: usize, at: usize) -> Subtree
-    requires { NodesFit node_limit part.now f }
-    ensures ends { result.end ≡ end_of (map (arity_in formula_arities) (nodes_in part.now f)) at }
-    ensures last { result.last ≡ exactly 1 (drop at (map (arity_in formula_arities) (nodes_in part.now f))) }
-{
-    let mut due = 1;
-    let mut i = at;
-    while i < f {
-        if due == 0 {
-            return Subtree {
-                end: i,
-                last: false,
-            };
+        if !self.at(j).is_binder() {
+            return false;
         }
-        let x = node_at(part, i);
-        due = due - 1 + formula_arity(x.kind);
-        i += 1;
+        i < self.subtree_end(j)
     }
-    Subtree {
-        end: i,
-        last: due == 0,
+
+    // Whether node i stands in the subtree of its binder, if it is a variable.
+    fn variable_bound(&self, i: usize) -> bool
+        requires { i < self.now.count }
+        ensures { result ≡ bound_ok (nodes_in self.now.part.now self.now.count) i }
+    {
+        let x = self.at(i);
+        !x.is_variable() || self.binds(x.arg, i)
     }
 }
 
 // Condition 8.
-fn bad_formula(actions: usize, part: &[u8], f: usize) -> bool
-    requires { NodesFit node_limit part.now f }
-    ensures { result ≡ bad_formula actions (nodes_in part.now f) }
+fn bad_formula(nodes: &Nodes<'_>, actions: usize) -> bool
+    ensures { result ≡ bad_formula actions (nodes_in nodes.now.part.now nodes.now.count) }
 {
-    if !all_fit(part, f, actions, true) {
-        return true;
+    !nodes.formula_fits(actions) || !nodes.one_formula()
+}
+
+// Condition 9.
+fn bad_variable(nodes: &Nodes<'_>) -> bool
+    ensures { result ≡ bad_variable (nodes_in nodes.now.part.now nodes.now.count) }
+{
+    !(0..nodes.count).all(|i| nodes.variable_bound(i))
+}
+
+// Condition 10.
+fn too_deep(nodes: &Nodes<'_>) -> bool
+    requires { 1 ≤ nodes.now.count }
+    ensures { result ≡ too_deep (nodes_in nodes.now.part.now nodes.now.count) }
+{
+    let count = nodes.binders();
+    if nodes.at(0).is_binder() {
+        return solver::BLOCKS < count;
     }
-    let subtree = subtree_at(part, f, 0);
-    !subtree.last
+    solver::BLOCKS < count + 1
+}
+
+// The formula table: the first of conditions 8 to 10 that holds, if one does.
+fn check_formula(nodes: &Nodes<'_>, actions: usize) -> Result<(), Cause>
+    requires { 1 ≤ nodes.now.count }
+    ensures { opened_number result ≡ first_of (formula_conditions actions (nodes_in nodes.now.part.now nodes.now.count)) }
+{
+    if bad_formula(nodes, actions) {
+        return Err(Cause::Formula);
+    }
+    if bad_variable(nodes) {
+        return Err(Cause::Variable);
+    }
+    if too_deep(nodes) {
+        return Err(Cause::Depth);
+    }
+    Ok(())
 }
 
 // The node after the subtree of a node.
@@ -340,71 +310,7 @@ pub fn subtree_end(part: &[u8], f: usize, at: usize) -> usize
     requires { NodesFit node_limit part.now f }
     ensures { result ≡ end_of (map (arity_in formula_arities) (nodes_in part.now f)) at }
 {
-    let subtree = subtree_at(part, f, at);
-    subtree.end
-}
-
-// Whether a node is a mu or a nu.
-pub fn is_binder(x: Node) -> bool
-    ensures { result ≡ is_binder x }
-{
-    if x.kind == 7 {
-        return true;
-    }
-    x.kind == 8
-}
-
-// Whether node i stands in the subtree of its binder, if it is a variable.
-fn variable_bound(part: &[u8], f: usize, i: usize) -> bool
-    requires nodes_fit { NodesFit node_limit part.now f }
-    requires inside { i < f }
-    ensures { result ≡ bound_ok (nodes_in part.now f) i }
-{
-    let x = node_at(part, i);
-    if x.kind != 6 {
-        return true;
-    }
-    let j = x.arg;
-    if i <= j {
-        return false;
-    }
-    if !is_binder(node_at(part, j)) {
-        return false;
-    }
-    i < subtree_end(part, f, j)
-}
-
-// Whether every variable stands in the subtree of its binder.
-fn variables_bound(part: &[u8], f: usize) -> bool
-    requires { NodesFit node_limit part.now f }
-    ensures { result ≡ every (bound_ok (nodes_in part.now f)) (numbers_from 0 f) }
-{
-    let mut i = 0;
-    while i < f {
-        if !variable_bound(part, f, i) {
-            return false;
-        }
-        i += 1;
-    }
-    true
-}
-
-// Condition 9.
-fn bad_variable(part: &[u8], f: usize) -> bool
-    requires { NodesFit node_limit part.now f }
-    ensures { result ≡ bad_variable (nodes_in part.now f) }
-{
-    !variables_bound(part, f)
-}
-
-// 1 for a mu or a nu, 0 for another node.
-fn one_if_binder(x: Node) -> usize
-    ensures { (result ≡ cond (is_binder x) 1 0) × (result ≤ 1) }
-{
-    if is_binder(x) {
-        return 1;
-    }
-    0
+    Nodes { part, count: f }.subtree_end(at)
 }
 
 // How many binders there are.
@@ -412,44 +318,14 @@ pub fn binders(part: &[u8], f: usize) -> usize
     requires { NodesFit node_limit part.now f }
     ensures { (result ≡ binder_count (nodes_in part.now f)) × (result ≤ f) }
 {
-    let mut count = 0;
-    let mut i = 0;
-    while i < f {
-        count += one_if_binder(node_at(part, i));
-        i += 1;
-    }
-    count
+    Nodes { part, count: f }.binders()
 }
 
-// Condition 10.
-fn too_deep(part: &[u8], f: usize) -> bool
-    requires nodes_fit { NodesFit node_limit part.now f }
-    requires some_node { 1 ≤ f }
-    ensures { result ≡ too_deep (nodes_in part.now f) }
+// Whether a node is a mu or a nu.
+pub fn is_binder(x: Node) -> bool
+    ensures { result ≡ is_binder x }
 {
-    let count = binders(part, f);
-    if is_binder(node_at(part, 0)) {
-        return solver::BLOCKS < count;
-    }
-    solver::BLOCKS < count + 1
-}
-
-// The formula part: the first of conditions 8 to 10 that holds, if one does.
-fn check_formula(part: &[u8], h: Header) -> Result<(), Cause>
-    requires nodes_fit { NodesFit node_limit part.now h.nodes }
-    requires some_node { 1 ≤ h.nodes }
-    ensures { opened_number result ≡ first_of (formula_conditions h.actions (nodes_in part.now h.nodes)) }
-{
-    if bad_formula(h.actions, part, h.nodes) {
-        return Err(Cause::Formula);
-    }
-    if bad_variable(part, h.nodes) {
-        return Err(Cause::Variable);
-    }
-    if too_deep(part, h.nodes) {
-        return Err(Cause::Depth);
-    }
-    Ok(())
+    x.is_binder()
 }
 
 // Opens a case, or answers the first condition that holds.
@@ -457,9 +333,12 @@ pub fn open(case: &[u8]) -> Result<OpenCase<'_>, Cause>
     ensures { Opens (case_refusal case.now) (λ o. (o.bytes.now ≡ case.now) × (o.header ≡ header_of case.now)) result }
 {
     let header = check_layout(case)?;
-    check_model(case, header)?;
-    let formula = header.formula_at;
-    check_formula(&case[formula..], header)?;
+    let laid = LaidCase {
+        bytes: case,
+        header,
+    };
+    check_model(&laid)?;
+    check_formula(&laid.formula(), header.actions)?;
     Ok(OpenCase {
         bytes: case,
         header,

@@ -149,4 +149,14 @@ impl Node {
             Err(()) => false,
         }
     }
+
+    // Whether it is a variable.
+    pub fn is_variable(self) -> bool
+        ensures { result ≡ eqb self.kind 6 }
+    {
+        match FormulaKind::try_from(self.kind) {
+            Ok(FormulaKind::Variable) => true,
+            _ => false,
+        }
+    }
 }

@@ -1,10 +1,10 @@
 -- What the functions that check a case ask and promise.
-use Rattle.std.specs.Prelude.{◌≡◌, Bool, true, false, List, map, ℕ, ◌+◌, ◌*◌, ◌≤◌, length, drop}
+use Rattle.std.specs.Prelude.{◌≡◌, Bool, false, ◌&&◌, eqb, ltb, List, map, ℕ, ◌+◌, ◌*◌, ◌≤◌, max, length, drop, Option, MatchOption}
 use Rattle.sets.specs.Lists.{numbers_from}
 use Rattle.sets.specs.Words.{state_limit}
-use Rattle.cases.specs.Prefix.{Node}
+use Rattle.cases.specs.Prefix.{Node, arity_in, formula_arities, exactly, end_of}
+use Rattle.cases.specs.Conditions.{is_binder, node_at}
 use Rattle.cases.specs.File.{Header, header_size, version, header_of, label_records, labels_start, transitions_start, actions_start, formula_start, file_end, Label, label_in, Transition, transition_in, node_in, label_limit, transition_limit, action_limit, node_limit}
-use Rattle.cases.specs.Conditions.{action_ok, node_ok}
 
 -- the parts of a file that start at its tables
 abbrev pub label_part : List ℕ → List ℕ
@@ -29,10 +29,15 @@ transitions_in part m = map (transition_in part) (numbers_from 0 m)
 unfoldable pub nodes_in : List ℕ → ℕ → List Node
 nodes_in part k = map (node_in part) (numbers_from 0 k)
 
--- the test of a formula node, by the number of action nodes, or of an action node, by the number of labels
-abbrev pub fits : Bool → ℕ → Node → Bool
-fits true = node_ok
-fits false = action_ok
+-- The node after the subtree of node i, if the subtree is whole: a table that is that subtree alone from node i on ends there.
+abbrev pub WholeSubtree : List ℕ → ℕ → Option ℕ → Type 0
+WholeSubtree arities i answer = MatchOption answer
+    ((exactly 1 (drop i arities) ≡ false) × (end_of arities i ≡ max i (length arities)))
+    (λ end. (exactly 1 (drop i arities) ≡ eqb end (length arities)) × (end_of arities i ≡ end))
+
+-- whether node j of a table is a binder, and node i stands behind it in its subtree
+abbrev pub binds : List Node → ℕ → ℕ → Bool
+binds table j i = is_binder (node_at table j) && ltb j i && ltb i (end_of (map (arity_in formula_arities) table) j)
 
 -- a part holds k nodes, and they are not more than `limit`
 pub record NodesFit (limit : ℕ) (part : List ℕ) (k : ℕ) : Type 0 where

@@ -1,4 +1,4 @@
-use mathlib.Core.Path.{◌≡◌, ◌∙◌}
+use mathlib.Core.Path.{◌∙◌}
 use native.Mathlib.Omega.{arith}
 use Rattle.cases.specs.File.{label_records}
 use Rattle.cases.specs.Labels.{alike_labels}
@@ -8,34 +8,32 @@ use Rattle.cases.proofs.LabelLaws.{length_alike}
 use Rattle.cases.proofs.Masks.{mask_false, mask_true, mask_label, mask_not, mask_and, mask_or, mask_implies}
 use Rattle.cases.proofs.actions.mask_of.Goals as goal
 
-pub returns-then-kind-eq0 : goal.returns-then-kind-eq0
+pub returns-in-False : goal.returns-in-False
 unfolding action_of
-returns-then-kind-eq0 c = λ a b p q. rw c.if-kind-eq0.true mask_false
+returns-in-False c = λ a b p q. rw c.in-False.is mask_false
 
-pub returns-then-kind-eq1 : goal.returns-then-kind-eq1
+pub returns-in-True : goal.returns-in-True
 unfolding action_of
-returns-then-kind-eq1 c = λ a b p q. rw c.if-kind-eq1.true mask_true
+returns-in-True c = λ a b p q. rw c.in-True.is mask_true
 
-pub returns-then-kind-eq2 : goal.returns-then-kind-eq2
+pub returns-in-Label : goal.returns-in-Label
 unfolding action_of
-returns-then-kind-eq2 c = λ a b p q.
-    rw c.if-kind-eq2.true (c.alike_labels.ensures
+returns-in-Label c = λ a b p q.
+    rw c.in-Label.is (c.alike_labels.ensures
     ∙ mask_label (alike_labels c.args.h (labels_in c.args.labels.now (label_records c.args.h)) c.args.arg) (omega (arith, length_alike c.args.h (labels_in c.args.labels.now (label_records c.args.h)) c.args.arg, c.requires.0.few)))
 
-pub returns-then-kind-eq3 : goal.returns-then-kind-eq3
+pub returns-in-Not : goal.returns-in-Not
 unfolding action_of
-returns-then-kind-eq3 c = λ a b p q. rw (c.if-kind-eq3.true, p) (mask_not a)
+returns-in-Not c = λ a b p q. rw (c.in-Not.is, p) (mask_not a)
 
-pub returns-then-kind-eq4 : goal.returns-then-kind-eq4
+pub returns-in-And : goal.returns-in-And
 unfolding action_of
-returns-then-kind-eq4 c = λ a b p q. rw (c.if-kind-eq4.true, p, q) (mask_and a b)
+returns-in-And c = λ a b p q. rw (c.in-And.is, p, q) (mask_and a b)
 
-pub returns-then-kind-eq5 : goal.returns-then-kind-eq5
+pub returns-in-Or : goal.returns-in-Or
 unfolding action_of
-returns-then-kind-eq5 c = λ a b p q. rw (c.if-kind-eq5.true, p, q) (mask_or a b)
+returns-in-Or c = λ a b p q. rw (c.in-Or.is, p, q) (mask_or a b)
 
-pub returns : goal.returns
+pub returns-in-Implies : goal.returns-in-Implies
 unfolding action_of
-returns c = λ a b p q.
-    let six : c.args.kind ≡ 6 = omega arith in
-    rw (six, p, q) (mask_implies a b)
+returns-in-Implies c = λ a b p q. rw (c.in-Implies.is, p, q) (mask_implies a b)

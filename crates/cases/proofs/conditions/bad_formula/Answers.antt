@@ -1,9 +1,10 @@
-use mathlib.Core.Path.{sym, ◌∙◌}
+use mathlib.Core.Path.{sym, ap, ◌∙◌}
+use mathlib.Core.Bool.{not}
 use Rattle.cases.proofs.FormulaRules.{formula_fails, one_decides}
 use Rattle.cases.proofs.conditions.bad_formula.Goals as goal
 
-pub returns-then-not-all_fit : goal.returns-then-not-all_fit
-returns-then-not-all_fit c = formula_fails _ _ (sym c.all_fit.ensures ∙ c.if-not-all_fit.true)
+pub returns-then-not-formula_fits : goal.returns-then-not-formula_fits
+returns-then-not-formula_fits c = ap not c.if-not-formula_fits.true ∙ formula_fails _ _ (sym c.formula_fits.ensures ∙ c.if-not-formula_fits.true)
 
-pub returns : goal.returns
-returns c = one_decides _ _ (sym c.all_fit.ensures ∙ c.if-not-all_fit.false) _ c.subtree_at-subtree.ensures.last
+pub returns-else-not-formula_fits : goal.returns-else-not-formula_fits
+returns-else-not-formula_fits c = one_decides _ _ (sym c.formula_fits.ensures ∙ c.if-not-formula_fits.false) _ c.one_formula.ensures

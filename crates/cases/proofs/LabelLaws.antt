@@ -2,32 +2,29 @@
 use mathlib.Core.Path.{◌≡◌, refl, sym, ap, ap₂, ◌∙◌}
 use mathlib.Core.Bool.{Bool, true, false, cond, not, ◌&&◌, ◌||◌}
 use mathlib.Core.Logic.{by_cases}
-use mathlib.Core.List.{List, [], ◌∷◌, map}
+use mathlib.Core.List.{List, [], ◌∷◌, ◌++◌, map}
 use Prim.Native.Nat.{ℕ, zero, suc, ◌+◌, ◌-◌, ◌*◌, ◌^◌, ◌<◌, ◌≤◌}
 use native.Mathlib.Decide.{ℕ_discrete}
-use native.Mathlib.Nat.{pow-suc, pow-zero}
+use native.Mathlib.Numerals.{one-add}
+use native.Mathlib.Nat.{zero-add, pow-suc, pow-zero}
 use native.Mathlib.Omega.{arith}
 use borrow.Author.Tests.{eq-eqb, ne_eqb}
-use lib.Dec.{eqb, leb}
-use lib.ListN.{length, get_or}
+use lib.Dec.{eqb}
+use lib.ListN.{length, get_or, drop}
 use lib.Pow.{pow_mono}
+use Rattle.std.specs.List.{list_all, prefix_len, filter}
 use Rattle.sets.specs.Lists.{numbers_from, every, keep}
 use Rattle.sets.specs.Words.{number_of_bits, bit}
 use Rattle.sets.proofs.Lists.{length_table, table_at, all_true, all_of_both, all_of_kept, kept_equal, all_kept}
 use Rattle.sets.proofs.Masks.{number_one}
-use Rattle.cases.specs.File.{Header, Label, has_label_table, label_records, label_in, label_limit, name_limit}
+use Rattle.cases.specs.File.{Header, Label, has_label_table, label_records, label_in, label_limit}
 use Rattle.cases.specs.Labels.{record_numbers, is_name, names_of, occurrences, same_names, label_names, alike, alike_labels}
 use Rattle.cases.specs.Conditions.{padded, label_ok}
 use Rattle.cases.specs.internal.Checks.{labels_in}
-use Rattle.cases.specs.internal.Names.{follows, equally_many, same_as}
+use Rattle.cases.specs.internal.Names.{equally_many, same_as}
 use Rattle.cases.proofs.Checking.{all_map}
 
 -- ---- condition 15
-
--- that the last of four is 0, or need not be
-last_of : (b : Bool) → cond b true true ≡ true
-last_of true = refl
-last_of false = refl
 
 pub and-true : (b : Bool) → (b && true) ≡ b
 and-true true = refl
@@ -37,34 +34,22 @@ pub or-false : (b : Bool) → (b || false) ≡ b
 or-false true = refl
 or-false false = refl
 
--- The test of four numbers, of which a, b, c, d say that they are at most the limit and w, x, y, z that they are 0, one after the other.
-four_follow : (a b c d w x y z : Bool)
-    → ((a && (b && (c && (d && true)))) && cond w (x && (y && (z && true))) (cond x (y && (z && true)) (cond y (z && true) (cond z true true))))
-    ≡ (a && ((b && (not w || x)) && ((c && (not x || y)) && (d && (not y || z)))))
-four_follow false b c d w x y z = refl
-four_follow true false c d w x y z = refl
-four_follow true true false d true true y z = refl
-four_follow true true false d true false y z = refl
-four_follow true true false d false x y z = refl
-four_follow true true true false true true true z = refl
-four_follow true true true false true true false z = refl
-four_follow true true true false true false y z = refl
-four_follow true true true false false true true z = refl
-four_follow true true true false false true false z = refl
-four_follow true true true false false false y z = refl
-four_follow true true true true true true true z = and-true z
-four_follow true true true true true true false z = refl
-four_follow true true true true true false y z = refl
-four_follow true true true true false true true z = and-true z
-four_follow true true true true false true false z = refl
-four_follow true true true true false false true z = and-true z
-four_follow true true true true false false false z = last_of z
+-- a test of all elements, as the library has it
+pub every_is : {A : Type 0} (p : A → Bool) (xs : List A) → list_all p xs ≡ every p xs
+unfolding every
+every_is p [] = refl
+every_is p (x ∷ xs) = ap (λ (b : Bool). p x && b) (every_is p xs)
 
-pub label_ok_lem : (x : Label) → label_ok x
-    ≡ (leb x.first name_limit && (follows x.first x.second && (follows x.second x.third && follows x.third x.fourth)))
-unfolding every padded
-label_ok_lem x = four_follow (leb x.first name_limit) (leb x.second name_limit) (leb x.third name_limit) (leb x.fourth name_limit)
-    (eqb x.first 0) (eqb x.second 0) (eqb x.third 0) (eqb x.fourth 0)
+-- Behind its first 0 a list has none but 0.
+pub padded_is : (ks : List ℕ) → list_all (λ k. eqb k 0) (drop (prefix_len (λ k. not (eqb k 0)) ks) ks) ≡ padded ks
+unfolding padded
+padded_is [] = refl
+padded_is (k ∷ ks) = go (eqb k 0) refl (padded_is ks)
+  where
+    go : (b : Bool) → eqb k 0 ≡ b → list_all (λ x. eqb x 0) (drop (prefix_len (λ x. not (eqb x 0)) ks) ks) ≡ padded ks
+        → list_all (λ x. eqb x 0) (drop (prefix_len (λ x. not (eqb x 0)) (k ∷ ks)) (k ∷ ks)) ≡ cond b (every (λ x. eqb x 0) ks) (padded ks)
+    go true e rest = rw e (rw e (every_is (λ x. eqb x 0) ks))
+    go false e rest = rw (e, one-add (prefix_len (λ x. not (eqb x 0)) ks)) rest
 
 -- each label of a part
 pub labels_all : (part : List ℕ) (k : ℕ) → every label_ok (labels_in part k) ≡ every (λ j. label_ok (label_in part j)) (numbers_from 0 k)
@@ -87,11 +72,23 @@ equally_named xs ys k = by_cases (ℕ_discrete k 0)
     (λ z. rw (eq-eqb k 0 z) refl)
     (λ d. rw (ne_eqb k 0 d, name_occurrences k xs d, name_occurrences k ys d) refl)
 
+-- how many numbers of a list are k
+pub occurrences_are : (k : ℕ) (xs : List ℕ) → length (filter (λ x. eqb x k) xs) ≡ occurrences k xs
+unfolding occurrences
+occurrences_are k [] = refl
+occurrences_are k (x ∷ xs) = go (eqb x k) (occurrences_are k xs)
+  where
+    go : (b : Bool) → length (filter (λ y. eqb y k) xs) ≡ occurrences k xs
+        → length (cond b (x ∷ filter (λ y. eqb y k) xs) (filter (λ y. eqb y k) xs)) ≡ cond b 1 0 + occurrences k xs
+    go true rest = ap suc rest ∙ sym (one-add _)
+    go false rest = rest ∙ sym (zero-add _)
+
 -- The names are the same multiset if there are equally many of each number that is a name.
-pub names_by_numbers : (x y : Label) → same_names (names_of x) (names_of y)
-    ≡ (every (equally_many (record_numbers x) (record_numbers y)) (record_numbers x) && every (equally_many (record_numbers x) (record_numbers y)) (record_numbers y))
+pub names_by_numbers : (x y : Label) → every (equally_many (record_numbers x) (record_numbers y)) (record_numbers x ++ record_numbers y) ≡ same_names (names_of x) (names_of y)
 unfolding same_names names_of
-names_by_numbers x y = all_of_both equal (names_of x) (names_of y) ∙ ap₂ ◌&&◌ (each (record_numbers x)) (each (record_numbers y))
+names_by_numbers x y =
+    all_of_both (equally_many (record_numbers x) (record_numbers y)) (record_numbers x) (record_numbers y)
+    ∙ sym (all_of_both equal (names_of x) (names_of y) ∙ ap₂ ◌&&◌ (each (record_numbers x)) (each (record_numbers y)))
   where
     equal : ℕ → Bool
     equal k = eqb (occurrences k (names_of x)) (occurrences k (names_of y))
@@ -139,12 +136,16 @@ mask_more f x l m k h e q =
 -- label j of the part
 names_read : (part : List ℕ) (l j : ℕ) → j < l → label_names (labels_in part l) j ≡ names_of (label_in part j)
 unfolding labels_in
-names_read part l j h = ap names_of (table_at (label_in part) l j (record { first = 0; second = 0; third = 0; fourth = 0 }) h)
+names_read part l j h = ap names_of (table_at (label_in part) l j (record { names = 0 ∷ 0 ∷ 0 ∷ 0 ∷ [] }) h)
 
 -- so two labels, as they are read
 pub same_read : (part : List ℕ) (l j x : ℕ) {u v : Label} → j < l → x < l → u ≡ label_in part j → v ≡ label_in part x
     → same_names (names_of u) (names_of v) ≡ same_as part l j x
 same_read part l j x hj hx e f = rw (e, f, names_read part l j hj, names_read part l x hx) refl
+
+bit_few : (b : Bool) → bit b ≤ 1
+bit_few true = omega arith
+bit_few false = omega arith
 
 -- The labels from x on have their bits.
 pub record Masking (part : List ℕ) (l j x mask : ℕ) : Type 0 where
@@ -158,10 +159,11 @@ masking_none part l j =
     let z : l - l ≡ 0 = omega arith in
     record { within = omega arith; small = rw (z, pow-zero 2) (omega arith); bits = rw z refl }
 
-pub masking_more : (part : List ℕ) (l j x mask k : ℕ) → x < l → Masking part l j (suc x) mask → k ≡ cond (same_as part l j x) 1 0 → k ≤ 1
+pub masking_more : (part : List ℕ) (l j x mask k : ℕ) → x < l → Masking part l j (suc x) mask → k ≡ bit (same_as part l j x)
     → Masking part l j x (2 * mask + k)
-masking_more part l j x mask k h m e few =
+masking_more part l j x mask k h m e =
     let z : l - x ≡ suc (l - suc x) = omega arith in
+    let few : k ≤ 1 = rw e (bit_few (same_as part l j x)) in
     record {
       within = omega arith;
       small = rw (z, pow-suc 2 (l - suc x)) (omega (arith, m.small));

@@ -1,5 +1,5 @@
 -- The case file: the header's numbers and the tables of any list of bytes, and how large it may be.
-use Rattle.std.specs.Prelude.{Bool, cond, List, map, ℕ, ◌+◌, ◌*◌, eqb, get_or, take, drop}
+use Rattle.std.specs.Prelude.{Bool, cond, List, [], ◌∷◌, map, ℕ, ◌+◌, ◌*◌, eqb, get_or, take, drop}
 use Rattle.sets.specs.Lists.{numbers_from}
 use Rattle.cases.specs.Prefix.{Node}
 pub use Rattle.cases.specs.declared.Header.{Header}
@@ -65,7 +65,7 @@ case_within b = take (file_end (header_of b)) b
 
 -- In a part of the file that starts with them: a label record is four numbers,
 abbrev pub label_in : List ℕ → ℕ → Label
-label_in part j = record { first = u16 part (8 * j); second = u16 part (8 * j + 2); third = u16 part (8 * j + 4); fourth = u16 part (8 * j + 6) }
+label_in part j = record { names = u16 part (8 * j) ∷ u16 part (8 * j + 2) ∷ u16 part (8 * j + 4) ∷ u16 part (8 * j + 6) ∷ [] }
 
 -- a transition is source, label, target,
 abbrev pub transition_in : List ℕ → ℕ → Transition

@@ -5,7 +5,7 @@ use Rattle.cases.specs.File.{Header, Label, has_label_table}
 
 -- the four numbers of a label record
 abbrev pub record_numbers : Label → List ℕ
-record_numbers r = r.first ∷ r.second ∷ r.third ∷ r.fourth ∷ []
+record_numbers r = r.names
 
 -- A 0 is no name; it pads a record at its end.
 abbrev pub is_name : ℕ → Bool
@@ -26,7 +26,7 @@ same_names xs ys = every (λ k. eqb (occurrences k xs) (occurrences k ys)) (xs +
 
 -- the names of label j by the label records
 abbrev pub label_names : List Label → ℕ → List ℕ
-label_names table j = names_of (get_or table j (record { first = 0; second = 0; third = 0; fourth = 0 }))
+label_names table j = names_of (get_or table j (record { names = 0 ∷ 0 ∷ 0 ∷ 0 ∷ [] }))
 
 -- Whether label x is alike to label j: with label records if its names are the same multiset as those of j, without them if it is j.
 unfoldable pub alike : Header → List Label → ℕ → ℕ → Bool

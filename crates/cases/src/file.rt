@@ -156,10 +156,12 @@ pub fn label_at(part: &[u8], j: usize) -> Label
 {
     let at = 8 * j;
     Label {
-        first: number_at(part, at),
-        second: number_at(part, at + 2),
-        third: number_at(part, at + 4),
-        fourth: number_at(part, at + 6),
+        names: [
+            number_at(part, at),
+            number_at(part, at + 2),
+            number_at(part, at + 4),
+            number_at(part, at + 6),
+        ],
     }
 }
 

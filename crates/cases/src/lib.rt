@@ -53,10 +53,7 @@ pub struct Header {
 // A label: four names, or fewer and a 0 in place of each that is missing.
 #[derive(Clone, Copy)]
 pub struct Label {
-    pub first: usize,
-    pub second: usize,
-    pub third: usize,
-    pub fourth: usize,
+    pub names: [usize; 4],
 }
 
 // A transition: source, label, target.

@@ -6,7 +6,7 @@ use mathlib.Core.List.{List, [], ◌∷◌, map}
 use Prim.Native.Nat.{ℕ, zero, suc, ◌+◌, ◌-◌, ◌≤◌, ◌<◌}
 use native.Mathlib.Nat.{add-zero}
 use native.Mathlib.Decide.{dec_lt}
-use native.Mathlib.Numerals.{add-one, one-add}
+use native.Mathlib.Numerals.{one-add}
 use native.Mathlib.Omega.{arith}
 use borrow.Author.Tests.{lt-ltb, le-ltb}
 use lib.Dec.{ltb}
@@ -17,6 +17,7 @@ use Rattle.std.proofs.Common.{Option, Some, None}
 use Rattle.std.proofs.lemmas.List.Sums.{prefix_len-le-length}
 use Rattle.std.proofs.lemmas.List.Recursion.{is_position_or_len}
 use Rattle.sets.specs.Lists.{numbers_from, for_some}
+use Rattle.sets.proofs.Ranges.{range_is}
 use Rattle.sets.proofs.Lists.{length_range}
 use Rattle.cases.specs.declared.Transition.{Transition}
 use Rattle.cases.specs.Case.{same_transition, copies, transition_at}
@@ -26,12 +27,6 @@ use Rattle.records.specs.Places.{place_of, without_at}
 use Rattle.records.proofs.Files.{last_behind, last_stays}
 
 -- ---- looking for a place
-
--- the numbers of a range are those that count from its start
-range_is : (i k : ℕ) → range_with_len i k ≡ numbers_from i k
-unfolding numbers_from
-range_is i zero = refl
-range_is i (suc k) = rw (add-one i) (ap (λ (l : List ℕ). i ∷ l) (range_is (suc i) k))
 
 module _ (t : Transition) (record_at : ℕ → Transition) (m : ℕ) where
   abbrev test : ℕ → Bool

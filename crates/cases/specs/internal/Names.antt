@@ -1,12 +1,7 @@
 -- What the functions that read label records promise.
-use Rattle.std.specs.Prelude.{Bool, not, ◌&&◌, ◌||◌, List, ℕ, eqb, leb}
-use Rattle.cases.specs.File.{name_limit}
+use Rattle.std.specs.Prelude.{Bool, not, ◌||◌, List, ℕ, eqb}
 use Rattle.cases.specs.Labels.{is_name, occurrences, same_names, label_names}
 use Rattle.cases.specs.internal.Checks.{labels_in}
-
--- whether k may stand behind another number in a record: it is no name above the limit, and behind a 0 it is a 0
-abbrev pub follows : ℕ → ℕ → Bool
-follows before k = leb k name_limit && (not (eqb before 0) || eqb k 0)
 
 -- whether k stands in two lists equally many times, if it is a name
 abbrev pub equally_many : List ℕ → List ℕ → ℕ → Bool

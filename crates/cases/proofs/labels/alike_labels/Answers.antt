@@ -6,11 +6,11 @@ use Rattle.cases.specs.File.{label_records, has_label_table}
 use Rattle.cases.proofs.LabelLaws.{alike_names, alike_own}
 use Rattle.cases.proofs.labels.alike_labels.Goals as goal
 
-pub same_labels-requires : goal.same_labels-requires
+pub invariant_of-table : goal.invariant_of-table
 unfolding label_records
-same_labels-requires c =
+invariant_of-table c =
     let named : has_label_table c.args.h.version ≡ true = sym c.has_label_table.ensures ∙ c.if-has_label_table.true in
-    (rw named at c.requires.0.inside, c.requires.0.few, c.requires.1)
+    record { inside = rw named at c.requires.0.inside }
 
 pub returns-then-has_label_table : goal.returns-then-has_label_table
 returns-then-has_label_table c = c.same_labels.ensures ∙ alike_names _ _ _ (sym c.has_label_table.ensures ∙ c.if-has_label_table.true)

@@ -1,7 +1,8 @@
 use mathlib.Core.Path.{◌≡◌, ap, ◌∙◌}
-use mathlib.Core.Bool.{cond}
 use Prim.Native.Nat.{suc, ◌-◌}
 use native.Mathlib.Omega.{arith}
+use Rattle.sets.specs.Words.{bit}
+use Rattle.cases.proofs.FirstAppearances.{byte_of}
 use Rattle.cases.proofs.LabelLaws.{masking_none, masking_more, same_read}
 use Rattle.cases.proofs.labels.same_labels.Goals as goal
 
@@ -11,9 +12,7 @@ loop-x-init c = masking_none _ _ _
 pub loop-x-preserved : goal.loop-x-preserved
 loop-x-preserved c =
     let l = c.loop-x in
+    let t = c.args.table.now in
     let z : suc (l.x - 1) ≡ l.x = omega arith in
-    masking_more c.args.part.now c.args.l c.args.j (l.x - 1) l.mask c.one_if.result (omega (arith, l.invariant.within))
-    (rw z l.invariant)
-    (c.one_if.ensures.0 ∙ ap (λ b. cond b 1 0) (c.same_names.ensures
-    ∙ same_read c.args.part.now c.args.l c.args.j (l.x - 1) c.requires.2 (omega (arith, l.invariant.within)) c.label_at-own.ensures c.label_at.ensures))
-    c.one_if.ensures.1
+    let same = c.same_names.ensures ∙ same_read t.part.now t.count c.args.j (l.x - 1) c.requires.1 (omega (arith, l.invariant.within)) c.at-own.ensures c.at.ensures in
+    masking_more t.part.now t.count c.args.j (l.x - 1) l.mask c.from.result (omega (arith, l.invariant.within)) (rw z l.invariant) (c.from.ensures ∙ byte_of _ ∙ ap bit same)

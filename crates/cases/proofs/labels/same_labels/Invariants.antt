@@ -2,7 +2,4 @@ use Rattle.cases.proofs.LabelLaws.{Masking}
 use Rattle.cases.proofs.labels.same_labels.Given as goal
 
 abbrev pub invariant-loop-x : goal.invariant-loop-x
-invariant-loop-x l = Masking l.part l.l l.j l.x l.mask
-
-abbrev pub decreases-loop-x : goal.decreases-loop-x
-decreases-loop-x l = l.x
+invariant-loop-x l = Masking l.table.part.now l.table.count l.j l.x l.mask

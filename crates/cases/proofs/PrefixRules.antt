@@ -1,4 +1,4 @@
--- Operands due, node by node: the arities of kinds, and loops over the nodes of a part.
+-- Operands due, node by node: loops over the nodes of a part.
 use mathlib.Core.Path.{◌≡◌, refl, sym, ap, ◌∙◌}
 use mathlib.Core.Bool.{Bool, true, false}
 use Rattle.std.specs.Prelude.{max, Option, Some, None, unwrap_or}
@@ -10,56 +10,12 @@ use native.Mathlib.Nat.{zero-add}
 use native.Mathlib.Omega.{arith}
 use lib.Dec.{eqb}
 use lib.ListN.{length, get_or, drop, length-map}
-use Rattle.sets.specs.Lists.{numbers_from, every}
+use Rattle.sets.specs.Lists.{numbers_from}
 use Rattle.sets.proofs.Lists.{get_or_map_range, drop_map, length_map_range}
-use Rattle.cases.specs.Prefix.{Node, arity_in, action_arities, formula_arities, whole_formulas, exactly, span, end_of}
+use Rattle.cases.specs.Prefix.{Node, arity_in, whole_formulas, exactly, span, end_of}
 use Rattle.cases.specs.File.{node_in}
 use Rattle.cases.specs.internal.Checks.{nodes_in, WholeSubtree}
-use Rattle.cases.proofs.Checking.{range_done, range_next, all_map}
-
--- ---- arities
-
--- action kinds: false, true and label; and, or and implies; past the last
-pub action_none : (kind : ℕ) → kind < 3 → 0 ≡ get_or action_arities kind 0
-action_none zero h = refl
-action_none (suc zero) h = refl
-action_none (suc (suc zero)) h = refl
-action_none (suc (suc (suc kind))) h = absurd (omega arith)
-
-pub action_two : (kind : ℕ) → 3 < kind → kind < 7 → 2 ≡ get_or action_arities kind 0
-action_two zero g h = absurd (omega arith)
-action_two (suc zero) g h = absurd (omega arith)
-action_two (suc (suc zero)) g h = absurd (omega arith)
-action_two (suc (suc (suc zero))) g h = absurd (omega arith)
-action_two (suc (suc (suc (suc zero)))) g h = refl
-action_two (suc (suc (suc (suc (suc zero))))) g h = refl
-action_two (suc (suc (suc (suc (suc (suc zero)))))) g h = refl
-action_two (suc (suc (suc (suc (suc (suc (suc kind))))))) g h = absurd (omega arith)
-
--- formula kinds: false and true; and, or; box, diamond, mu and nu
-pub formula_none : (kind : ℕ) → kind < 2 → 0 ≡ get_or formula_arities kind 0
-formula_none zero h = refl
-formula_none (suc zero) h = refl
-formula_none (suc (suc kind)) h = absurd (omega arith)
-
-pub formula_two : (kind : ℕ) → 2 ≤ kind → kind < 4 → 2 ≡ get_or formula_arities kind 0
-formula_two zero g h = absurd (omega arith)
-formula_two (suc zero) g h = absurd (omega arith)
-formula_two (suc (suc zero)) g h = refl
-formula_two (suc (suc (suc zero))) g h = refl
-formula_two (suc (suc (suc (suc kind)))) g h = absurd (omega arith)
-
-pub formula_one : (kind : ℕ) → 4 ≤ kind → ¬ (kind ≡ 6) → kind < 9 → 1 ≡ get_or formula_arities kind 0
-formula_one zero g d h = absurd (omega arith)
-formula_one (suc zero) g d h = absurd (omega arith)
-formula_one (suc (suc zero)) g d h = absurd (omega arith)
-formula_one (suc (suc (suc zero))) g d h = absurd (omega arith)
-formula_one (suc (suc (suc (suc zero)))) g d h = refl
-formula_one (suc (suc (suc (suc (suc zero))))) g d h = refl
-formula_one (suc (suc (suc (suc (suc (suc zero)))))) g d h = absurd (d refl)
-formula_one (suc (suc (suc (suc (suc (suc (suc zero))))))) g d h = refl
-formula_one (suc (suc (suc (suc (suc (suc (suc (suc zero)))))))) g d h = refl
-formula_one (suc (suc (suc (suc (suc (suc (suc (suc (suc kind))))))))) g d h = absurd (omega arith)
+use Rattle.cases.proofs.Checking.{range_done, range_next}
 
 -- ---- one node
 
@@ -82,11 +38,6 @@ due_step (suc due) k ks d = let e : due + k ≡ suc due - 1 + k = omega arith in
 pub node_in_lem : (part : List ℕ) (k i : ℕ) (d : Node) → i < k → get_or (nodes_in part k) i d ≡ node_in part i
 unfolding nodes_in
 node_in_lem part k i d h = get_or_map_range (node_in part) 0 k i d h ∙ ap (node_in part) (zero-add i)
-
--- a test of all nodes of a part, by their numbers
-pub nodes_all : (p : Node → Bool) (part : List ℕ) (k : ℕ) → every p (nodes_in part k) ≡ every (λ i. p (node_in part i)) (numbers_from 0 k)
-unfolding nodes_in
-nodes_all p part k = all_map p (node_in part) (numbers_from 0 k)
 
 -- the nodes of a part from node i on, and their arities
 abbrev pub nodes_from : List ℕ → ℕ → ℕ → List Node

@@ -1,6 +1,7 @@
 // The action part: the labels that an action formula accepts, as a mask with a bit for each label.
 ghost use Rattle.std.specs.Prelude.{◌≡◌, ◌<◌, length, get_or};
 ghost use Rattle.cases.specs.Action.{Action};
+ghost use Rattle.cases.specs.Case.{case_action};
 ghost use Rattle.cases.specs.Kinds.{action_number};
 ghost use Rattle.cases.specs.File.{label_records, action_limit};
 ghost use Rattle.cases.specs.Labels.{alike_labels};
@@ -9,7 +10,7 @@ ghost use Rattle.cases.specs.internal.Masks.{mask_of, action_of, action_in, Whol
 
 use crate::kinds::ActionKind;
 use crate::labels::alike_labels;
-use crate::tables::Nodes;
+use crate::tables::{Nodes, OpenCase};
 use crate::{ACTIONS, Header};
 
 // The mask of a node, where x and y are the masks that stand next after it.
@@ -60,4 +61,14 @@ pub fn action_masks(labels: &[u8], h: Header, part: &[u8]) -> [u64; ACTIONS]
         all[i] = mask;
     }
     all
+}
+
+impl OpenCase<'_> {
+    // The labels that each of its action formulas accepts, as masks.
+    pub fn action_masks(&self) -> [u64; ACTIONS]
+        ensures long { length result ≡ action_limit }
+        ensures masks { ActionMasks (case_action self.now.bytes.now) self.now.header.actions result }
+    {
+        action_masks(self.labels().part, self.header, self.actions().part)
+    }
 }

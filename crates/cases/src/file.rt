@@ -10,18 +10,13 @@ pub const HEADER: usize = 20;
 
 pub const LONGEST_HEADER: usize = 22;
 
-fn wide(x: u8) -> usize
-    ensures { (result ≡ x) × (result < 256) }
-{
-    x as usize
-}
-
 // The 16-bit number at a place, low byte first.
+#[tactic(auto, unfolding(crate::specs::File::u16))]
 pub fn number_at(part: &[u8], at: usize) -> usize
     requires { at + 2 ≤ length part.now }
     ensures { (result ≡ u16 part.now at) × (result < 2 ^ 16) }
 {
-    wide(part[at]) + 256 * wide(part[at + 1])
+    usize::from(u16::from_le_bytes([part[at], part[at + 1]]))
 }
 
 // The version.

@@ -6,14 +6,13 @@ use Prim.Native.Nat.{ℕ, ◌+◌, ◌-◌, ◌*◌, ◌≤◌, ◌<◌}
 use native.Mathlib.Numerals.{add-one}
 use native.Mathlib.Omega.{arith}
 use lib.ListN.{length, take, drop, length-append}
-use lib.Seq.{take-suc, take-add, length-take-le}
+use lib.Seq.{take_all, take-suc, take-add, length-take-le}
 use Rattle.std.specs.Prelude.{Option, Some, None, is_some, count_by}
 use Rattle.std.proofs.lemmas.List.Sums.{sum_by-cons}
 use Rattle.solver.specs.File.{Block}
 use Rattle.translate.specs.declared.Shape.{Shape}
 use Rattle.translate.specs.Bytes.{block_numbers}
-use Rattle.translate.specs.internal.Shapes.{shape_sign, shape_block, shape_blocks}
-use Rattle.translate.specs.internal.Sources.{shape_at}
+use Rattle.translate.specs.internal.Shapes.{shape_at, shape_sign, shape_block, shape_blocks}
 use Rattle.translate.proofs.NumberBytes.{length_block_numbers}
 
 -- the blocks of two lists of shapes follow one another
@@ -112,14 +111,19 @@ blocks_fewer n xs i k h =
     let e : take k xs ≡ take i xs ++ take (k - i) (drop i xs) = ap (λ (m : ℕ). take m xs) s ∙ take-add i (k - i) xs in
     rw e (omega (arith, ap length (blocks_append n 0 (take i xs) (take (k - i) (drop i xs))), length-append (blocks_to n xs i) (shape_blocks n (0 + length (take i xs)) (take (k - i) (drop i xs)))))
 
+-- of all shapes
+pub blocks_all : (n : ℕ) (xs : List Shape) (k : ℕ) → length xs ≤ k → blocks_to n xs k ≡ shape_blocks n 0 xs
+blocks_all n xs k h = ap (shape_blocks n 0) (take_all k xs h)
+
 -- where the numbers of all blocks fit, those of the next one do
-pub numbers_fit : (n : ℕ) (xs : List Shape) (i k : ℕ) → i < k → k ≤ length xs
-    → length (block_numbers (blocks_to n xs i)) + length (block_numbers (shape_blocks n i (shape_at xs i ∷ []))) ≤ 2 * length (blocks_to n xs k)
-numbers_fit n xs i k h l =
+pub numbers_fit : (n : ℕ) (xs : List Shape) (i : ℕ) → i < length xs
+    → length (block_numbers (blocks_to n xs i)) + length (block_numbers (shape_blocks n i (shape_at xs i ∷ []))) ≤ 2 * length (shape_blocks n 0 xs)
+numbers_fit n xs i h =
     omega (
       arith,
-      blocks_fewer n xs (i + 1) k (omega arith),
+      ap length (blocks_all n xs (length xs) (omega arith)),
+      blocks_fewer n xs (i + 1) (length xs) (omega arith),
       length_block_numbers (blocks_to n xs (i + 1)),
-      ap length (numbers_more n xs i (omega arith)),
+      ap length (numbers_more n xs i h),
       length-append (block_numbers (blocks_to n xs i)) (block_numbers (shape_blocks n i (shape_at xs i ∷ []))),
     )

@@ -2,16 +2,17 @@
 use mathlib.Core.Path.{◌≡◌, refl, sym, ap, ◌∙◌, subst}
 use mathlib.Core.Bool.{Bool, true, false, cond}
 use mathlib.Core.List.{List, ◌++◌}
-use Prim.Native.Nat.{ℕ, ◌+◌, ◌≤◌}
+use Prim.Native.Nat.{ℕ, ◌+◌, ◌≤◌, ◌<◌}
 use lib.Dec.{ltb}
 use lib.ListN.{length, take, drop}
 use borrow.Author.Tests.{ltb-true, ltb-false}
-use borrow.Author.Rules.{part_to_end}
+use lib.Seq.{get_or-take, length-take-le}
 use Rattle.cases.specs.declared.Header.{Header}
-use Rattle.cases.specs.File.{header_of, label_table, action_table, action_limit, node_limit}
+use Rattle.cases.specs.File.{header_of, node_in, label_table, action_table, action_limit, node_limit}
+use Rattle.cases.specs.Action.{Action}
 use Rattle.cases.specs.Case.{case_action, case_of}
 use Rattle.cases.specs.Conditions.{node_at, is_binder, Accepted}
-use Rattle.cases.specs.internal.Checks.{labels_in, nodes_in, transition_part, LabelPart, NodesFit}
+use Rattle.cases.specs.internal.Checks.{labels_in, nodes_in, label_part, transition_part, action_part, formula_part, LabelPart, NodesFit}
 use Rattle.cases.specs.internal.Masks.{WholeActions, action_in, ActionMasks}
 use Rattle.translate.specs.declared.Shape.{Shape}
 use Rattle.translate.specs.declared.Cause.{Cause}
@@ -21,9 +22,8 @@ use Rattle.translate.specs.Bytes.{System, system_of, file_of}
 use Rattle.translate.specs.internal.Parts.{distinct_in}
 use Rattle.cases.specs.internal.Links.{FirstFlags}
 use Rattle.cases.proofs.Accepting.{passed}
-use Rattle.cases.proofs.ModelRules.{nodes_inside}
-use Rattle.cases.proofs.Tallies.{part_at}
-use Rattle.translate.specs.internal.Tabled.{Tables, HoldsShapes}
+use Rattle.translate.specs.internal.Readable.{Readable}
+use Rattle.translate.specs.internal.Tabled.{HoldsShapes}
 use Rattle.translate.specs.internal.Sources.{Sources, shape_system, Emitted}
 use Rattle.translate.specs.Translating.{file, translate_number, written_number, written_length, Translated}
 use Rattle.translate.proofs.CaseSources as of_case
@@ -46,83 +46,55 @@ module _ (b before : List ℕ) (accepted : Accepted b) {w : Result ℕ Cause} {a
   pub ends_translated : Translated b before (written_number w) (written_length w) after
   ends_translated = ends_by (ltb (length before) (length (file b))) refl
 
--- what is known of an accepted case by its header
-pub record Opened (b : List ℕ) (h : Header) : Type 0 where
-  pub labels : h.labels_at ≤ length b
-  pub transitions : h.transitions_at ≤ length b
-  pub actions : h.actions_at ≤ length b
-  pub formula : h.formula_at ≤ length b
-  pub masks_asked : LabelPart (part_at b h.labels_at) h × NodesFit action_limit (part_at b h.actions_at) h.actions
-      × WholeActions h.labels (nodes_in (part_at b h.actions_at) h.actions)
-  pub action_is : action_in h (part_at b h.labels_at) (part_at b h.actions_at) ≡ case_action b
-  pub fits : NodesFit node_limit (part_at b h.formula_at) h.nodes
-  pub tables : (masks : List ℕ) → length masks ≡ action_limit → Tables masks h.actions (part_at b h.formula_at) h.nodes
-  pub some : 1 ≤ h.nodes
+-- masks of the first a action formulas are those of a formulas
+pub masks_first : (action : ℕ → Action) (a : ℕ) (masks : List ℕ) → a ≤ length masks → ActionMasks action a masks → ActionMasks action (length (take a masks)) (take a masks)
+masks_first action a masks h m =
+    let l : length (take a masks) ≡ a = length-take-le a masks h in
+    rw l (record { mask = λ j i. get_or-take a masks j 0 i ∙ m.mask j i })
 
--- and once flags and shapes are worked out
-pub record Held (b first : List ℕ) (shapes : List Shape) (added : ℕ) (h : Header) : Type 0 where
-  pub flags : FirstFlags (transition_part b) h.transitions first
-  pub nodes : HoldsShapes (case_action b) (part_at b h.formula_at) h.nodes shapes
-  pub before : added ≡ cond (is_binder (node_at (nodes_in (part_at b h.formula_at) h.nodes) 0)) 0 1
+-- Of an accepted case, by its header and its parts:
+module _ (b : List ℕ) (accepted : Accepted b) {h : Header} (e : h ≡ header_of b) where
+  module _ {labels actions : List ℕ} (l : labels ≡ label_part b) (a : actions ≡ action_part b) where
+    -- what is asked for the masks of its action formulas
+    pub masks_asked : LabelPart labels h × NodesFit action_limit actions h.actions × WholeActions h.labels (nodes_in actions h.actions)
+    masks_asked = rw (e, l, a) (of_case.masks_asked b accepted)
 
-module _ (b : List ℕ) (accepted : Accepted b) where
-  opened_header : Opened b (header_of b)
-  unfolding action_table label_table labels_in nodes_in
-  opened_header =
-      let p = of_case.parts b accepted in
-      let zero = part_to_end b (header_of b).labels_at in
-      let two = part_to_end b (header_of b).actions_at in
-      let three = part_to_end b (header_of b).formula_at in
-      record {
-        labels = p.6;
-        masks_asked = rw (zero, two) (of_case.masks_asked b accepted);
-        action_is = rw (zero, two) refl;
-        transitions = p.3;
-        actions = p.4;
-        formula = p.5;
-        fits = rw three (nodes_inside (passed b accepted).lies);
-        tables = rw three (of_case.tables b accepted);
-        some = p.2;
-      }
+    -- they are those of the case
+    pub masks_are : {masks : List ℕ} → ActionMasks (action_in h labels actions) h.actions masks → ActionMasks (case_action b) h.actions masks
+    unfolding action_table label_table labels_in nodes_in
+    masks_are {masks} m =
+        let is : action_in h labels actions ≡ case_action b = rw (e, l, a) refl in
+        subst (λ (f : ℕ → Action). ActionMasks f h.actions masks) is m
 
-  pub opened : {h : Header} → h ≡ header_of b → Opened b h
-  opened e = subst (Opened b) (sym e) opened_header
+  -- its formula table can be read
+  pub table_some : 1 ≤ h.nodes
+  table_some = rw e (passed b accepted).lies.counts.some_node
 
-  -- so masks of the action formulas of its parts are those of the case's
-  pub masks_are : {h : Header} → h ≡ header_of b → {masks : List ℕ} → ActionMasks (action_in h (part_at b h.labels_at) (part_at b h.actions_at)) h.actions masks
-      → ActionMasks (case_action b) h.actions masks
-  masks_are e m = rw (opened e).action_is at m
+  pub table_few : h.nodes ≤ node_limit
+  table_few = rw e (passed b accepted).lies.counts.few_nodes
 
-  module _ (first : List ℕ) (shapes : List Shape) (added : ℕ) where
-    sources_header : Held b first shapes added (header_of b)
-        → Sources (part_at b (header_of b).transitions_at) first (header_of b).transitions shapes (added + (header_of b).nodes) (header_of b).states
-    sources_header held =
-        let one = part_to_end b (header_of b).transitions_at in
-        let three = part_to_end b (header_of b).formula_at in
-        rw one (of_case.sources b accepted first shapes (added + (header_of b).nodes) held.flags (rw three at held.nodes)
-        (ap (λ (x : ℕ). x + (header_of b).nodes) (rw three at held.before)))
+  pub actions_few : h.actions ≤ action_limit
+  actions_few = rw e (passed b accepted).lies.counts.few_actions
 
-    system_header : Held b first shapes added (header_of b)
-        → shape_system (header_of b).states (header_of b).initial (distinct_in (part_at b (header_of b).transitions_at) first (header_of b).transitions) (take (added + (header_of b).nodes) shapes) ≡ system_of (case_of b)
-    system_header held =
-        let one = part_to_end b (header_of b).transitions_at in
-        let three = part_to_end b (header_of b).formula_at in
-        rw one (of_case.system_of_lem b accepted first shapes (added + (header_of b).nodes) held.flags (rw three at held.nodes)
-        (ap (λ (x : ℕ). x + (header_of b).nodes) (rw three at held.before)))
+  pub table_readable : {formula : List ℕ} {m f : ℕ} → formula ≡ formula_part b → f ≡ h.nodes → h.actions ≡ m → (i : ℕ) → i < f → Readable m f (node_in formula i)
+  table_readable p f a = rw (p, f, ← a, e) (of_case.readable b accepted)
 
-    module _ {h : Header} (e : h ≡ header_of b) (held : Held b first shapes added h) where
-      -- what the writers are handed
-      pub handed : Sources (part_at b h.transitions_at) first h.transitions shapes (added + h.nodes) h.states
-      handed =
-          subst (λ (x : Header). Sources (part_at b x.transitions_at) first x.transitions shapes (added + x.nodes) x.states) (sym e)
-          (sources_header (subst (Held b first shapes added) e held))
+  -- and once flags and shapes are worked out
+  module _ {formula transitions first : List ℕ} {shapes : List Shape} {added f m : ℕ} (p : formula ≡ formula_part b) (k : f ≡ h.nodes)
+      (t : transitions ≡ transition_part b) (l : m ≡ h.transitions)
+      (flags : FirstFlags (transition_part b) h.transitions first) (nodes : HoldsShapes (case_action b) formula f shapes)
+      (before : added ≡ cond (is_binder (node_at (nodes_in formula f) 0)) 0 1) where
+    -- what the writers are handed
+    pub handed : Sources transitions first m (take (added + f) shapes) h.states
+    handed =
+        rw (t, l, k, e)
+        (of_case.sources b accepted first shapes (added + (header_of b).nodes) (rw e at flags) (rw (p, k, e) at nodes) (ap (λ (x : ℕ). x + (header_of b).nodes) (rw (p, k, e) at before)))
 
-      -- what follows from what they leave
-      pub left_as : {before : List ℕ} {w : Result ℕ Cause} {after : List ℕ}
-          → Emitted (shape_system h.states h.initial (distinct_in (part_at b h.transitions_at) first h.transitions) (take (added + h.nodes) shapes)) before w after
-          → Translated b before (written_number w) (written_length w) after
-      left_as {before} {w} {after} emitted =
-          let is : shape_system h.states h.initial (distinct_in (part_at b h.transitions_at) first h.transitions) (take (added + h.nodes) shapes) ≡ system_of (case_of b) =
-          subst (λ (x : Header). shape_system x.states x.initial (distinct_in (part_at b x.transitions_at) first x.transitions) (take (added + x.nodes) shapes) ≡ system_of (case_of b)) (sym e)
-          (system_header (subst (Held b first shapes added) e held)) in
-          ends_translated b before accepted (subst (λ (y : System). Emitted y before w after) is emitted)
+    -- what follows from what they leave
+    pub left_as : {out : List ℕ} {w : Result ℕ Cause} {after : List ℕ}
+        → Emitted (shape_system h.states h.initial (distinct_in transitions first m) (take (added + f) shapes)) out w after
+        → Translated b out (written_number w) (written_length w) after
+    left_as emitted =
+        let is =
+        of_case.system_of_lem b accepted first shapes (added + (header_of b).nodes) (rw e at flags) (rw (p, k, e) at nodes) (ap (λ (x : ℕ). x + (header_of b).nodes) (rw (p, k, e) at before)) in
+        ends_translated b _ accepted (rw is at (rw (t, l, k, e) at emitted))

@@ -7,7 +7,6 @@ use native.Mathlib.Omega.{arith}
 use borrow.Author.Tests.{not-false}
 use lib.Dec.{T, eqb, ltb, ltb→lt, lt→ltb}
 use lib.ListN.{length, get_or, take, length-map}
-use lib.Seq.{get_or-take}
 use Rattle.sets.specs.Lists.{numbers_from, every}
 use Rattle.sets.proofs.Lists.{false_true, and_left, and_right, all_at, all_mono, length_table, table_at}
 use Rattle.cases.specs.Action.{Action}
@@ -15,7 +14,8 @@ use Rattle.cases.specs.Formula.{Formula}
 use Rattle.cases.specs.declared.Node.{Node}
 use Rattle.cases.specs.declared.Transition.{Transition}
 use Rattle.cases.specs.Prefix.{arity_in, formula_arities, exactly, end_of, formula_at}
-use Rattle.cases.specs.File.{header_of, label_limit, transition_limit, action_limit, node_limit, transition_table, action_table, formula_table}
+use Rattle.cases.proofs.PrefixRules.{node_in_lem}
+use Rattle.cases.specs.File.{node_in, header_of, label_limit, transition_limit, action_limit, node_limit, transition_table, action_table, formula_table}
 use Rattle.cases.specs.Case.{case_action, case_of, distinct}
 use Rattle.cases.specs.Conditions.{transition_ok, node_at, node_ok, is_binder, bad_formula, Accepted}
 use Rattle.cases.specs.internal.Checks.{transitions_in, nodes_in, label_part, transition_part, action_part, formula_part, LabelPart, NodesFit}
@@ -31,10 +31,11 @@ use Rattle.translate.specs.declared.Shape.{Shape}
 use Rattle.translate.specs.Whole.{whole, block_in}
 use Rattle.translate.specs.Bytes.{System, system_of, all_operands}
 use Rattle.translate.specs.internal.Writing.{second_of}
-use Rattle.translate.specs.internal.Shapes.{shapes_from, shape_by, shape_in, table_shapes}
+use Rattle.translate.specs.internal.Shapes.{shape_at, shapes_from, shape_by, shape_in, table_shapes}
 use Rattle.translate.specs.internal.Parts.{distinct_in}
-use Rattle.translate.specs.internal.Sources.{shape_system, shape_at, Sources}
-use Rattle.translate.specs.internal.Tabled.{Tables, HoldsShapes}
+use Rattle.translate.specs.internal.Sources.{shape_system, Sources}
+use Rattle.translate.specs.internal.Readable.{Readable}
+use Rattle.translate.specs.internal.Tabled.{HoldsShapes}
 use Rattle.translate.proofs.AllLaws.{all_distinct}
 use Rattle.cases.proofs.FirstAppearances.{flagged_distinct}
 use Rattle.translate.proofs.TableShapes.{shape_blocks_lem, shape_cells_lem, table_shapes_lem}
@@ -122,22 +123,18 @@ module _ (b : List ℕ) (accepted : Accepted b) where
   formed : FormulaTable table
   formed = formula_table_lem (header_of b).actions table good.formula
 
-  -- an accepted case has tables that can be read
-  pub tables : (masks : List ℕ) → length masks ≡ action_limit → Tables masks (header_of b).actions (formula_part b) (header_of b).nodes
+  -- an accepted case has a formula table that can be read, where there is a mask for each of its action nodes
+  pub readable : (i : ℕ) → i < (header_of b).nodes → Readable (header_of b).actions (header_of b).nodes (node_in (formula_part b) i)
   unfolding formula_table nodes_in
-  tables masks long = record {
-    room = omega (arith, good.lies.counts.few_actions);
-    blocks = record {
-      node_part = nodes_inside good.lies;
-      variable = λ i h k.
-          let inside : i < length table = omega (arith, length_formula b) in
-          omega (arith, (variables_known b accepted i inside k).before);
-    };
-    modal = λ i h m.
-        let inside : i < length table = omega (arith, length_formula b) in
-        modal_inside (header_of b).actions (node_at table i).arg (node_at table i).kind (formed.kinds i inside) m
-        (nodes_pass (header_of b).actions table good.formula i inside);
-  }
+  readable i h =
+      let inside : i < length table = omega (arith, length_formula b) in
+      let known : Readable (header_of b).actions (header_of b).nodes (node_at table i) = (
+        formed.kinds i inside,
+        λ k. omega (arith, (variables_known b accepted i inside k).before, length_formula b),
+        λ m. modal_inside (header_of b).actions (node_at table i).arg (node_at table i).kind (formed.kinds i inside) m
+            (nodes_pass (header_of b).actions table good.formula i inside),
+      ) in
+      rw (node_in_lem (formula_part b) (header_of b).nodes i (record { kind = 0; arg = 0 }) h) at known
 
   -- what is asked for the masks of its action formulas
   pub masks_asked : LabelPart (label_part b) (header_of b) × NodesFit action_limit (action_part b) (header_of b).actions
@@ -226,28 +223,20 @@ module _ (b : List ℕ) (accepted : Accepted b) where
     pub system_of_lem : shape_system (header_of b).states (header_of b).initial (distinct_in (transition_part b) first (header_of b).transitions) (take k shapes) ≡ system_of (case_of b)
     system_of_lem = rw (transitions_same, shapes_taken, ← shapes_of_table) system_of_shapes
 
-    -- a shape of the array is one of the table, so its second operand is within the limit
-    shape_known : (i : ℕ) → i < k → second_of (shape_at shapes i) ≤ node_limit
-    shape_known i h =
-        let inside : i < length (table_shapes action table) = omega (arith, shape_count) in
-        let few : length table ≤ node_limit = omega (arith, length_formula b, good.lies.counts.few_nodes) in
-        let same : shape_at shapes i ≡ shape_at (table_shapes action table) i = sym (get_or-take k shapes i _ h) ∙ ap (λ (xs : List Shape). shape_at xs i) shapes_taken in
-        rw same (shapes_fine action table formed few i inside)
-
     -- The writers are handed what they ask.
-    pub sources : Sources (transition_part b) first (header_of b).transitions shapes k (header_of b).states
+    pub sources : Sources (transition_part b) first (header_of b).transitions (take k shapes) (header_of b).states
     unfolding shape_system
     sources =
         let l = good.lies in
-        let few : k ≤ node_limit + 1 = omega (arith, count, l.counts.few_nodes, added_small (is_binder (node_at (nodes_in (formula_part b) (header_of b).nodes) 0))) in
+        let few : length table ≤ node_limit = omega (arith, length_formula b, l.counts.few_nodes) in
+        let all : length (take k shapes) ≤ node_limit + 1 = omega (arith, ap length shapes_taken, shape_count, count, l.counts.few_nodes, added_small (is_binder (node_at (nodes_in (formula_part b) (header_of b).nodes) 0))) in
         let operands = ap (λ (y : System). length (all_operands y.cells)) system_of_lem in
         record {
           recorded = record { records = parts.0; flags = flags.long };
           few_transitions = parts.1;
-          held = omega (arith, holds_shapes.long);
-          few_nodes = few;
+          few_nodes = all;
           few_states = l.counts.few_states;
-          second = shape_known;
+          second = rw shapes_taken (shapes_fine action table formed few);
           few_operands = omega (arith, operands, operands_high (case_of b) (fit b accepted));
         }
       where

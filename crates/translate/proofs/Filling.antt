@@ -7,7 +7,6 @@ use native.Mathlib.Omega.{arith}
 use native.Mathlib.Nat.{mul-le-mul}
 use lib.Dec.{ltb}
 use lib.ListN.{length, take, drop, length-append}
-use lib.Seq.{length-take-le}
 use borrow.Author.Tests.{lt-ltb, le-ltb}
 use Rattle.cases.specs.declared.Transition.{Transition}
 use Rattle.translate.specs.declared.Shape.{Shape}
@@ -16,13 +15,15 @@ use Rattle.std.specs.Prelude.{Ok, Err, is_some, count_by}
 use Rattle.std.proofs.lemmas.List.Sums.{count_by-le-length}
 use Rattle.translate.specs.Bytes.{System, all_operands, block_numbers, cell_numbers, numbers, bytes}
 use Rattle.translate.specs.internal.Shapes.{shape_sign, shape_blocks, shape_cells}
-use Rattle.translate.specs.internal.Parts.{Wrote, WroteAt, WroteAll, WroteCells, distinct_in}
+use Rattle.translate.specs.internal.Parts.{Wrote, WroteAt, WroteAll, WroteCells}
+use Rattle.sets.specs.Words.{state_limit}
+use Rattle.cases.specs.File.{node_limit}
 use Rattle.solver.specs.File.{cell_limit, blocks_at}
-use Rattle.translate.specs.internal.Sources.{Sources, RoomFor, shape_system, Emitted}
+use Rattle.translate.specs.internal.Sources.{RoomFor, shape_system, Emitted}
 use Rattle.translate.proofs.NumberBytes.{length_bytes, length_block_numbers, length_cell_numbers}
 use Rattle.translate.proofs.Putting.{wrote_lent, wrote_more}
 use Rattle.translate.proofs.ReadBack.{length_file}
-use Rattle.translate.proofs.NodeParts.{length_cells_to}
+use Rattle.translate.proofs.NodeParts.{length_cells}
 use Rattle.translate.proofs.BlockParts.{blocks_counted}
 
 -- the header of a file of some equations
@@ -63,50 +64,47 @@ module _ (y : System) {c d p room : ℕ} (sized : RoomFor y c d p room) where
       record { answer = rw (yes, file_length); written = w.exact ∙ rw (yes, length_bytes (numbers y)) }
 
 -- the sizes of what nodes with shapes give
-module _ {part first : List ℕ} {m : ℕ} {shapes : List Shape} {k n : ℕ} (src : Sources part first m shapes k n) where
-  abbrev ts : List Transition
-  ts = distinct_in part first m
-
+module _ (n initial : ℕ) (ts : List Transition) (shapes : List Shape) where
   -- so many cells fit
-  pub cells_few : k * n ≤ cell_limit
-  cells_few = mul-le-mul src.few_nodes src.few_states
+  pub cells_few : length shapes ≤ node_limit + 1 → n ≤ state_limit → length shapes * n ≤ cell_limit
+  cells_few k s = mul-le-mul k s
 
   -- counted sizes are those of the equations
-  pub sizes : (initial : ℕ) {d p room : ℕ} → d ≡ count_by (λ x. is_some (shape_sign x)) (take k shapes) → p ≡ length (all_operands (shape_cells n ts 0 (take k shapes)))
-      → blocks_at + 8 * d + 12 * (k * n) + 4 * p ≤ room → RoomFor (shape_system n initial ts (take k shapes)) (k * n) d p room
+  pub sizes : {d p room : ℕ} → length shapes ≤ node_limit + 1 → d ≡ count_by (λ x. is_some (shape_sign x)) shapes → p ≡ length (all_operands (shape_cells n ts 0 shapes))
+      → blocks_at + 8 * d + 12 * (length shapes * n) + 4 * p ≤ room → RoomFor (shape_system n initial ts shapes) (length shapes * n) d p room
   unfolding shape_system
-  sizes initial b o r = record {
-    blocks = b ∙ sym (blocks_counted n 0 (take k shapes));
-    cells = sym (length_cells_to n ts shapes k src.held);
+  sizes few b o r = record {
+    blocks = b ∙ sym (blocks_counted n 0 shapes);
+    cells = sym (length_cells n ts shapes);
     operands = o;
-    few_blocks = omega (arith, b, count_by-le-length (λ x. is_some (shape_sign x)) (take k shapes), length-take-le k shapes src.held, src.few_nodes);
+    few_blocks = omega (arith, b, count_by-le-length (λ x. is_some (shape_sign x)) shapes, few);
     roomy = r;
   }
 
   -- in a buffer that has just room
-  pub sizes_just : (initial : ℕ) {d p : ℕ} → d ≡ count_by (λ x. is_some (shape_sign x)) (take k shapes) → p ≡ length (all_operands (shape_cells n ts 0 (take k shapes)))
-      → RoomFor (shape_system n initial ts (take k shapes)) (k * n) d p (blocks_at + 8 * d + 12 * (k * n) + 4 * p)
-  sizes_just initial b o = sizes initial b o (omega arith)
+  pub sizes_just : {d p : ℕ} → length shapes ≤ node_limit + 1 → d ≡ count_by (λ x. is_some (shape_sign x)) shapes → p ≡ length (all_operands (shape_cells n ts 0 shapes))
+      → RoomFor (shape_system n initial ts shapes) (length shapes * n) d p (blocks_at + 8 * d + 12 * (length shapes * n) + 4 * p)
+  sizes_just few b o = sizes few b o (omega arith)
 
-  module _ (initial : ℕ) {d p room : ℕ} (sized : RoomFor (shape_system n initial ts (take k shapes)) (k * n) d p room) where
-    pub blocks_are : d ≡ length (shape_blocks n 0 (take k shapes))
+  module _ {c d p room : ℕ} (sized : RoomFor (shape_system n initial ts shapes) c d p room) where
+    pub blocks_are : d ≡ length (shape_blocks n 0 shapes)
     unfolding shape_system
     blocks_are = sized.blocks
 
-    pub operands_are : p ≡ length (all_operands (shape_cells n ts 0 (take k shapes)))
+    pub operands_are : p ≡ length (all_operands (shape_cells n ts 0 shapes))
     unfolding shape_system
     operands_are = sized.operands
 
     -- the parts of the file, written into the parts of a buffer
-    pub filled_parts : {s t a b e : List ℕ} → Wrote (header n d (k * n) p initial) s t
-        → {q : ℕ} → WroteAll (block_numbers (shape_blocks n 0 (take k shapes))) (take (length t - blocks_at) (drop blocks_at t)) a q
+    pub filled_parts : {s t a b e : List ℕ} → Wrote (header n d c p initial) s t
+        → {q : ℕ} → WroteAll (block_numbers (shape_blocks n 0 shapes)) (take (length t - blocks_at) (drop blocks_at t)) a q
         → {u : List ℕ} → u ≡ take blocks_at t ++ (a ++ drop (length t - blocks_at) (drop blocks_at t))
-        → {used : ℕ} → WroteCells 0 (shape_cells n ts 0 (take k shapes)) (take (length u - (blocks_at + 8 * d)) (drop (blocks_at + 8 * d) u)) b used
+        → {used : ℕ} → WroteCells 0 (shape_cells n ts 0 shapes) (take (length u - (blocks_at + 8 * d)) (drop (blocks_at + 8 * d) u)) b used
         → {v : List ℕ} → v ≡ take (blocks_at + 8 * d) u ++ (b ++ drop (length u - (blocks_at + 8 * d)) (drop (blocks_at + 8 * d) u))
-        → {count : ℕ} → WroteAll (all_operands (shape_cells n ts 0 (take k shapes))) (take (length v - (blocks_at + 8 * d + 12 * (k * n))) (drop (blocks_at + 8 * d + 12 * (k * n)) v)) e count
-        → Wrote (numbers (shape_system n initial ts (take k shapes))) s
-        (take (blocks_at + 8 * d + 12 * (k * n)) v ++ (e ++ drop (length v - (blocks_at + 8 * d + 12 * (k * n))) (drop (blocks_at + 8 * d + 12 * (k * n)) v)))
+        → {count : ℕ} → WroteAll (all_operands (shape_cells n ts 0 shapes)) (take (length v - (blocks_at + 8 * d + 12 * c)) (drop (blocks_at + 8 * d + 12 * c) v)) e count
+        → Wrote (numbers (shape_system n initial ts shapes)) s
+        (take (blocks_at + 8 * d + 12 * c) v ++ (e ++ drop (length v - (blocks_at + 8 * d + 12 * c)) (drop (blocks_at + 8 * d + 12 * c) v)))
     unfolding shape_system
     filled_parts {t = t} h w {u} x y {v} z o =
-        filled (shape_system n initial ts (take k shapes)) sized h (subst (WroteAt blocks_at _ t) (sym x) (wrote_lent blocks_at w.wrote))
-        (subst (WroteAt (blocks_at + 8 * d) _ u) (sym z) (wrote_lent (blocks_at + 8 * d) y.wrote)) (wrote_lent (blocks_at + 8 * d + 12 * (k * n)) o.wrote)
+        filled (shape_system n initial ts shapes) sized h (subst (WroteAt blocks_at _ t) (sym x) (wrote_lent blocks_at w.wrote))
+        (subst (WroteAt (blocks_at + 8 * d) _ u) (sym z) (wrote_lent (blocks_at + 8 * d) y.wrote)) (wrote_lent (blocks_at + 8 * d + 12 * c) o.wrote)

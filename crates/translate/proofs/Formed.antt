@@ -11,7 +11,7 @@ use lib.ListN.{length, get_or, drop, length-append}
 use Rattle.sets.specs.Lists.{numbers_from, every}
 use Rattle.sets.specs.Words.{state_limit}
 use Rattle.sets.proofs.Lists.{and_both, all_at, all_mono}
-use Rattle.solver.specs.declared.Entry.{Entry}
+use Rattle.solver.specs.File.{Entry}
 use Rattle.solver.specs.Cells.{Cell, And, Or, Variable, operands_of}
 use Rattle.solver.specs.File.{u32, sizes_of, blocks_at, cells_at, operands_at, block_limit, cell_limit, operand_limit, Block, block_at, operands, entry_at, entries}
 use Rattle.solver.specs.Conditions.{layout_ok, block_ok, arity, operands_before, operand_ok, cell_ok, tables_ok, WellFormed}

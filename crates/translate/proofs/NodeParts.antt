@@ -5,7 +5,7 @@ use Prim.Native.Nat.{ℕ, ◌+◌, ◌-◌, ◌*◌, ◌≤◌, ◌<◌}
 use native.Mathlib.Numerals.{add-one}
 use native.Mathlib.Omega.{arith}
 use lib.ListN.{length, take, drop, length-append}
-use lib.Seq.{take-suc, take-add, length-take-le}
+use lib.Seq.{take_all, take-suc, take-add, length-take-le}
 use Rattle.sets.specs.Lists.{numbers_from}
 use Rattle.sets.proofs.Lists.{length_table}
 use Rattle.solver.specs.Cells.{Cell}
@@ -13,8 +13,7 @@ use Rattle.cases.specs.declared.Transition.{Transition}
 use Rattle.translate.specs.declared.Shape.{Shape}
 use Rattle.translate.specs.Bytes.{all_operands}
 use Rattle.translate.specs.internal.Writing.{shape_cell}
-use Rattle.translate.specs.internal.Shapes.{shape_cells}
-use Rattle.translate.specs.internal.Sources.{shape_at}
+use Rattle.translate.specs.internal.Shapes.{shape_at, shape_cells}
 use Rattle.translate.proofs.Counts.{operands_append}
 
 module _ (n : ℕ) (ts : List Transition) where
@@ -55,6 +54,13 @@ module _ (n : ℕ) (ts : List Transition) where
       ap (shape_cells n ts 0) next ∙ cells_append 0 (take i xs) (x ∷ [])
       ∙ ap (λ (j : ℕ). cells_to xs i ++ shape_cells n ts j (x ∷ [])) l ∙ ap (λ (cs : List Cell). cells_to xs i ++ cs) (cells_of_one x i)
 
+  -- of all nodes
+  pub cells_all : (xs : List Shape) (k : ℕ) → length xs ≤ k → cells_to xs k ≡ shape_cells n ts 0 xs
+  cells_all xs k h = ap (shape_cells n ts 0) (take_all k xs h)
+
+  pub length_cells : (xs : List Shape) → length (shape_cells n ts 0 xs) ≡ length xs * n
+  length_cells xs = length_all xs 0
+
   -- so many cells
   pub length_cells_to : (xs : List Shape) (k : ℕ) → k ≤ length xs → length (cells_to xs k) ≡ k * n
   length_cells_to xs k h = length_all (take k xs) 0 ∙ ap (λ (j : ℕ). j * n) (length-take-le k xs h)
@@ -80,3 +86,9 @@ module _ (n : ℕ) (ts : List Transition) where
         ap length (operands_more xs i (omega arith)),
         length-append (all_operands (cells_to xs i)) (all_operands (row (shape_at xs i) i)),
       )
+
+  -- the operands of the first i nodes and of node i are among those of all
+  pub operands_fit : (xs : List Shape) (i : ℕ) → i < length xs
+      → length (all_operands (cells_to xs i)) + length (all_operands (row (shape_at xs i) i)) ≤ length (all_operands (shape_cells n ts 0 xs))
+  operands_fit xs i h =
+      omega (arith, operands_fewer xs i (length xs) h (omega arith), ap (λ (cs : List Cell). length (all_operands cs)) (cells_all xs (length xs) (omega arith)))

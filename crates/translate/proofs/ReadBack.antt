@@ -11,7 +11,7 @@ use lib.Seq.{ext_get_or, get_or-append-add, take-append_seam, drop-append_seam, 
 use Rattle.sets.specs.Lists.{numbers_from, every}
 use Rattle.sets.specs.Words.{bit, state_limit}
 use Rattle.sets.proofs.Lists.{and_left, and_right, length_map_range, get_or_map_range}
-use Rattle.solver.specs.declared.Entry.{Entry}
+use Rattle.solver.specs.File.{Entry}
 use Rattle.solver.specs.Cells.{Cell, And, Or, Variable, operands_of}
 use Rattle.solver.specs.File.{u32, sizes_of, blocks_at, cells_at, operands_at, block_limit, cell_limit, operand_limit, Block, block_at, blocks, operands, entry_at, entries, list_of, entry_cell, cells}
 use Rattle.solver.proofs.Shown.{bit_low, bit_back}

@@ -9,8 +9,8 @@ use Rattle.solver.specs.Cells.{Cell}
 use Rattle.cases.specs.declared.Transition.{Transition}
 use Rattle.translate.specs.declared.Shape.{Shape}
 use Rattle.translate.specs.Bytes.{all_operands, cell_numbers}
+use Rattle.translate.specs.internal.Shapes.{shape_at}
 use Rattle.translate.specs.internal.Parts.{WroteAll, WroteCells, WroteCellsAt}
-use Rattle.translate.specs.internal.Sources.{shape_at}
 use Rattle.translate.proofs.Putting.{wrote_none, wrote_no_numbers, wrote_lent}
 use Rattle.translate.proofs.ShapeLaws.{wrote_cells_on}
 use Rattle.translate.proofs.NodeParts.{row, cells_to, cells_none, cells_more, length_cells_to}

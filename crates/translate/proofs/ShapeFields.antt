@@ -1,11 +1,11 @@
 -- The fields of a shape as they are read from the tables, and the shapes of all nodes one after another.
-use mathlib.Core.Path.{◌≡◌, refl, sym, ap, ◌∙◌}
+use mathlib.Core.Path.{◌≡◌, refl, sym, ap, subst, ◌∙◌}
 use mathlib.Core.Bool.{Bool, true, false, cond, ◌||◌}
 use mathlib.Core.List.{List, [], ◌∷◌, ◌++◌, map, append_assoc}
 use Prim.Native.Nat.{ℕ, zero, suc, ◌+◌, ◌<◌, ◌≤◌}
 use native.Mathlib.Omega.{arith}
 use lib.Dec.{eqb}
-use lib.ListN.{length, get_or-eq_default, take, drop, set, replicate, length-append, length-replicate, length-set, length-map, length-drop}
+use lib.ListN.{length, take, drop, set, replicate, length-append, length-replicate, length-set, length-map, length-drop}
 use lib.Seq.{take-suc-set}
 use Rattle.sets.specs.Lists.{numbers_from}
 use Rattle.sets.proofs.Lists.{length_table}
@@ -21,8 +21,8 @@ use Rattle.cases.proofs.Copies.{take_map_range}
 use Rattle.cases.proofs.Spans.{span_length}
 use Rattle.cases.proofs.PrefixRules.{node_in_lem}
 use Rattle.translate.specs.declared.Shape.{Shape}
+use Rattle.translate.specs.internal.Readable.{Readable}
 use Rattle.translate.specs.internal.Shapes.{shape_by, shape_in, table_shapes}
-use Rattle.translate.specs.internal.Tabled.{CountableBlocks, Tables}
 use Rattle.translate.proofs.ShapeLaws.{map_range_more}
 
 -- the first j nodes of a part's f nodes
@@ -36,17 +36,14 @@ end_small part f i h =
     let ks : List ℕ = map (arity_in formula_arities) (nodes_in part f) in
     omega (arith, span_length 1 (drop i ks), length-drop i ks, length-map (nodes_in part f) (arity_in formula_arities), length_nodes part f)
 
+-- a node that is read can be read into a shape
+pub readable_here : {m f : ℕ} {x y : Node} → x ≡ y → Readable m f y → Readable m f x
+readable_here {m} {f} e r = subst (Readable m f) (sym e) r
+
 -- node i of a part, as it is read
 module _ (part : List ℕ) (f i : ℕ) (h : i < f) (x : Node) (e : x ≡ node_in part i) where
   pub node_read : node_at (nodes_in part f) i ≡ x
   node_read = node_in_lem part f i (record { kind = 0; arg = 0 }) h ∙ sym e
-
-  -- a variable's argument, and that of a box or diamond
-  pub variable_arg : CountableBlocks part f → x.kind ≡ 6 → x.arg ≤ f
-  variable_arg t = rw node_read at (t.variable i h)
-
-  pub modal_arg : (masks : List ℕ) (a : ℕ) → Tables masks a part f → (eqb x.kind 4 || eqb x.kind 5) ≡ true → x.arg < a
-  modal_arg masks a t p = (rw node_read at (t.modal i h)) p
 
   -- the shape of node i by its kind
   pub shape_read : (action : ℕ → Action) (added k : ℕ) → x.kind ≡ k
@@ -55,17 +52,6 @@ module _ (part : List ℕ) (f i : ℕ) (h : i < f) (x : Node) (e : x ≡ node_in
       ≡ shape_in action (nodes_in part f) added i
   unfolding shape_in
   shape_read action added k e = rw (node_read, ← e)
-
-  -- where it is none of the first eight, it is a nu
-  pub shape_last : (action : ℕ → Action) (added : ℕ) → 8 ≤ x.kind
-      → Shape.Nu (binder_count (take i (nodes_in part f)) + added) ≡ shape_in action (nodes_in part f) added i
-  shape_last action added l =
-      let own : ℕ = binder_count (take i (nodes_in part f)) + added in
-      let others : List Shape =
-      Shape.False ∷ Shape.True ∷ Shape.And (end_of (map (arity_in formula_arities) (nodes_in part f)) (i + 1) + added)
-      ∷ Shape.Or (end_of (map (arity_in formula_arities) (nodes_in part f)) (i + 1) + added) ∷ Shape.Box (mask_of (action x.arg)) ∷ Shape.Diamond (mask_of (action x.arg))
-      ∷ Shape.Variable (binder_count (take x.arg (nodes_in part f)) + added) ∷ Shape.Mu own ∷ [] in
-      sym (get_or-eq_default others (Shape.Nu own) {n = x.kind} l) ∙ shape_read action added x.kind refl
 
 -- ---- the shapes of all nodes
 

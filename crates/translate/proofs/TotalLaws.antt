@@ -7,8 +7,8 @@ use Rattle.sets.specs.Lists.{numbers_from}
 use Rattle.cases.specs.declared.Transition.{Transition}
 use Rattle.translate.specs.declared.Shape.{Shape}
 use Rattle.translate.specs.Bytes.{all_operands}
+use Rattle.translate.specs.internal.Shapes.{shape_at}
 use Rattle.translate.specs.internal.Writing.{shape_operands, shape_cell}
-use Rattle.translate.specs.internal.Sources.{shape_at}
 use Rattle.translate.proofs.ShapeLaws.{row_operands, row_none}
 use Rattle.translate.proofs.NodeParts.{row, cells_to, cells_none, operands_more}
 

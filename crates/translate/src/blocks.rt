@@ -1,5 +1,5 @@
 // Writing the blocks of an equation file: one for each binder of the formula.
-ghost use Rattle.std.specs.Prelude.{◌≡◌, [], ◌∷◌, ℕ, ◌+◌, ◌*◌, ◌≤◌, length, take, count_by, is_some};
+ghost use Rattle.std.specs.Prelude.{◌≡◌, [], ◌∷◌, ℕ, ◌+◌, ◌*◌, ◌≤◌, length, count_by, is_some};
 ghost use Rattle.sets.specs.Words.{state_limit};
 ghost use Rattle.cases.specs.File.{node_limit};
 ghost use Rattle.translate.specs.Bytes.{block_numbers};
@@ -8,7 +8,6 @@ ghost use Rattle.translate.specs.internal.Shapes.{shape_blocks, shape_sign};
 
 use crate::Shape;
 use crate::bytes::put_two_behind;
-use crate::shapes::SHAPES;
 
 // The sign of a binder, as a file has it: 1 for nu, 0 for mu.
 fn sign_number(x: Shape) -> Option<usize>
@@ -21,15 +20,11 @@ fn sign_number(x: Shape) -> Option<usize>
     }
 }
 
-// How many of the first k nodes are binders.
-pub fn block_count(shapes: [Shape; SHAPES], k: usize) -> usize
-    requires { k ≤ node_limit + 1 }
-    ensures { result ≡ count_by (λ x. is_some (shape_sign x)) (take k shapes) }
+// How many nodes are binders.
+pub fn block_count(shapes: &[Shape]) -> usize
+    ensures { result ≡ count_by (λ x. is_some (shape_sign x)) shapes.now }
 {
-    shapes[..k]
-        .iter()
-        .filter(|x| sign_number(**x).is_some())
-        .count()
+    shapes.iter().filter(|x| sign_number(**x).is_some()).count()
 }
 
 // The block of node i, of a shape, behind `done` numbers, if it is a binder. Answers how many numbers are then written.
@@ -44,16 +39,15 @@ fn write_block(out: &mut [u8], done: usize, n: usize, x: Shape, i: usize) -> usi
     }
 }
 
-// The blocks of the first k nodes, where there are n states. Answers how many numbers are written.
-pub fn write_blocks(out: &mut [u8], n: usize, shapes: [Shape; SHAPES], k: usize) -> usize
-    requires { (n ≤ state_limit) × (k ≤ node_limit + 1)
-        × (8 * length (shape_blocks n 0 (take k shapes)) ≤ length out.old) }
-    ensures { WroteAll (block_numbers (shape_blocks n 0 (take k shapes))) out.old out.new result }
+// The blocks of all nodes, where there are n states. Answers how many numbers are written.
+pub fn write_blocks(out: &mut [u8], n: usize, shapes: &[Shape]) -> usize
+    requires { (n ≤ state_limit) × (length shapes.now ≤ node_limit + 1)
+        × (8 * length (shape_blocks n 0 shapes.now) ≤ length out.old) }
+    ensures { WroteAll (block_numbers (shape_blocks n 0 shapes.now)) out.old out.new result }
 {
     let mut done: usize = 0;
-    for i in 0..k {
-        let x = shapes[i];
-        done = write_block(out, done, n, x, i);
+    for (i, x) in shapes.iter().enumerate() {
+        done = write_block(out, done, n, *x, i);
     }
     done
 }

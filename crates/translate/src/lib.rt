@@ -3,29 +3,30 @@
 
 mod blocks;
 mod bytes;
+mod formula;
 mod nodes;
 mod rows;
 mod shapes;
+mod sources;
+mod steps;
 mod totals;
 
-ghost use Rattle.std.specs.Prelude.{◌≡◌, ◌+◌, ◌*◌, length, take};
-ghost use Rattle.cases.specs.File.{header_of};
-ghost use Rattle.cases.specs.Conditions.{Accepted};
+ghost use Rattle.std.specs.Prelude.{◌≡◌, ◌*◌, length};
 ghost use Rattle.cases.specs.internal.Checks.{transition_part};
 ghost use Rattle.cases.specs.internal.Links.{FirstFlags};
 ghost use Rattle.translate.specs.Bytes.{numbers};
-ghost use Rattle.translate.specs.internal.Parts.{Wrote, distinct_in};
-ghost use Rattle.translate.specs.internal.Sources.{Sources, RoomFor, shape_system, Emitted};
+ghost use Rattle.translate.specs.internal.Parts.{Wrote};
+ghost use Rattle.translate.specs.internal.Flags.{distinct_of};
+ghost use Rattle.translate.specs.internal.Sources.{RoomFor, shape_system, Emitted};
 ghost use Rattle.translate.specs.declared.Cause.TheVariants.{Open};
 ghost use Rattle.translate.specs.Translating.{translate_number, written_number, written_length, Translated};
 
 use blocks::{block_count, write_blocks};
 use bytes::put_header;
-use cases::{Header, TRANSITIONS, first_appearances};
-use rows::{write_all_cells, write_all_operands};
-use shapes::{SHAPES, added_before, shapes_of};
+use cases::{Flagged, OpenCase, TRANSITIONS, first_appearances};
+use formula::FormulaTable;
 use solver::HEADER;
-use totals::operand_total;
+use sources::Equations;
 
 // Why no file is written: found on opening the case, or the buffer is too short.
 #[derive(Clone, Copy)]
@@ -74,98 +75,71 @@ pub enum Shape {
     Nu { block: usize },
 }
 
-// The equations of k nodes, with n states, written to a buffer that has room for them; there are d blocks and p operands.
-fn fill(
-    out: &mut [u8],
-    part: &[u8],
-    first: &[u8],
-    m: usize,
-    shapes: [Shape; SHAPES],
-    k: usize,
-    n: usize,
-    initial: usize,
-    d: usize,
-    p: usize,
-)
-    requires sources { Sources part.now first.now m shapes k n }
-    requires room { RoomFor (shape_system n initial (distinct_in part.now first.now m) (take k shapes)) (k * n) d p (length out.old) }
-    ensures { Wrote (numbers (shape_system n initial (distinct_in part.now first.now m) (take k shapes)))
-        out.old out.new }
-{
-    let c = k * n;
-    put_header(out, n, d, c, p, initial);
-    let blocks = HEADER;
-    write_blocks(&mut out[blocks..], n, shapes, k);
-    let cells = blocks + 8 * d;
-    write_all_cells(&mut out[cells..], part, first, m, n, shapes, k);
-    let operands = cells + 12 * c;
-    write_all_operands(&mut out[operands..], part, first, m, n, shapes, k);
-}
-
-// The equations of k nodes, with n states, if there is room.
-fn emit(
-    out: &mut [u8],
-    part: &[u8],
-    first: &[u8],
-    m: usize,
-    shapes: [Shape; SHAPES],
-    k: usize,
-    n: usize,
-    initial: usize,
-) -> Written
-    requires { Sources part.now first.now m shapes k n }
-    ensures { Emitted (shape_system n initial (distinct_in part.now first.now m) (take k shapes))
-        out.old result out.new }
-{
-    let d = block_count(shapes, k);
-    let p = operand_total(part, first, m, n, shapes, k);
-    let size = HEADER + 8 * d + 12 * (k * n) + 4 * p;
-    if out.len() < size {
-        return Err(Cause::Memory);
+impl Equations<'_, '_> {
+    // The equations, written to a buffer that has room for them; there are d blocks and p operands.
+    fn fill(&self, out: &mut [u8], d: usize, p: usize)
+        requires { RoomFor (shape_system self.now.states self.now.initial (distinct_of self.now.records) self.now.shapes.now)
+            (length self.now.shapes.now * self.now.states) d p (length out.old) }
+        ensures { Wrote (numbers (shape_system self.now.states self.now.initial (distinct_of self.now.records) self.now.shapes.now)) out.old out.new }
+    {
+        let c = self.shapes.len() * self.states;
+        put_header(out, self.states, d, c, p, self.initial);
+        let blocks = HEADER;
+        write_blocks(&mut out[blocks..], self.states, self.shapes);
+        let cells = blocks + 8 * d;
+        self.write_all_cells(&mut out[cells..]);
+        let operands = cells + 12 * c;
+        self.write_all_operands(&mut out[operands..]);
     }
-    fill(out, part, first, m, shapes, k, n, initial, d, p);
-    Ok(size)
+
+    // The equations, if there is room.
+    fn emit(&self, out: &mut [u8]) -> Written
+        ensures { Emitted (shape_system self.now.states self.now.initial (distinct_of self.now.records) self.now.shapes.now) out.old result out.new }
+    {
+        let d = block_count(self.shapes);
+        let p = self.operand_total();
+        let size = HEADER + 8 * d + 12 * (self.shapes.len() * self.states) + 4 * p;
+        if out.len() < size {
+            return Err(Cause::Memory);
+        }
+        self.fill(out, d, p);
+        Ok(size)
+    }
 }
 
-// The equation file of an accepted case, with its header and the flags of first appearances. The labels that an action formula accepts are
-// found once.
-pub fn write_case(case: &[u8], h: Header, first: &[u8], out: &mut [u8]) -> Written
-    requires { Accepted case.now × (h ≡ header_of case.now) × FirstFlags (transition_part case.now) h.transitions first.now }
-    ensures { Translated case.now out.old (written_number result) (written_length result) out.new }
+// The equation file of an accepted case, with the flags of first appearances. The labels that an action formula accepts are found once.
+pub fn write_case<'a>(case: &OpenCase<'a>, first: &'a [u8], out: &mut [u8]) -> Written
+    requires { FirstFlags (transition_part case.now.bytes.now) case.now.header.transitions first.now }
+    ensures { Translated case.now.bytes.now out.old (written_number result) (written_length result) out.new }
 {
-    let labels = h.labels_at;
-    let records = h.transitions_at;
-    let actions = h.actions_at;
-    let formula = h.formula_at;
-    let masks = cases::action_masks(&case[labels..], h, &case[actions..]);
-    let shapes = shapes_of(&masks, h.actions, &case[formula..], h.nodes);
-    let k = added_before(&case[formula..], h.nodes) + h.nodes;
-    emit(
-        out,
-        &case[records..],
-        first,
-        h.transitions,
-        shapes,
-        k,
-        h.states,
-        h.initial,
-    )
-}
-
-// Finds the first appearances of an accepted case, and writes its equation file.
-fn translate_opened(case: &[u8], h: Header, out: &mut [u8]) -> Written
-    requires { Accepted case.now × (h ≡ header_of case.now) }
-    ensures { Translated case.now out.old (written_number result) (written_length result) out.new }
-{
-    let mut first = [0u8; TRANSITIONS];
-    first_appearances(case, h, &mut first);
-    write_case(case, h, &first, out)
+    let labels = case.labels();
+    let actions = case.actions();
+    let masks = cases::action_masks(labels.part, case.header, actions.part);
+    let a = case.header.actions;
+    let nodes = case.formula();
+    let formula = FormulaTable {
+        nodes,
+        masks: &masks[..a],
+    };
+    let shapes = formula.shapes();
+    let k = formula.added_before() + formula.nodes.count;
+    let table = case.transitions();
+    let records = Flagged { table, first };
+    let equations = Equations {
+        records,
+        shapes: &shapes[..k],
+        states: case.header.states,
+        initial: case.header.initial,
+    };
+    equations.emit(out)
 }
 
 // Writes the equation file of a case to the start of a buffer.
 pub fn translate(case: &[u8], out: &mut [u8]) -> Written
     ensures { Translated case.now out.old (written_number result) (written_length result) out.new }
 {
-    let h = cases::open(case)?;
-    translate_opened(case, h, out)
+    let opened = cases::open(case)?;
+    let mut first = [0u8; TRANSITIONS];
+    first_appearances(&opened, &mut first);
+    write_case(&opened, &first, out)
 }

@@ -1,93 +1,91 @@
 // Reading a case's formula table: the shape of each node.
-ghost use Rattle.std.specs.Prelude.{◌≡◌, cond, map, ℕ, ◌+◌, ◌*◌, ◌<◌, ◌≤◌, length, take};
-ghost use Rattle.cases.specs.File.{node_limit};
+ghost use Rattle.std.specs.Prelude.{◌≡◌, cond, map, ℕ, ◌+◌, ◌<◌, ◌≤◌, length, take};
 ghost use Rattle.cases.specs.Action.{Action};
 ghost use Rattle.cases.specs.Prefix.{arity_in, formula_arities, end_of};
 ghost use Rattle.cases.specs.Conditions.{node_at, is_binder, binder_count};
-ghost use Rattle.cases.specs.internal.Checks.{nodes_in, NodesFit};
+ghost use Rattle.cases.specs.internal.Checks.{nodes_in};
 ghost use Rattle.cases.specs.internal.Masks.{ActionMasks};
 ghost use Rattle.translate.specs.internal.Shapes.{shape_in};
-ghost use Rattle.translate.specs.internal.Tabled.{CountableBlocks, Tables, HoldsShapes};
+ghost use Rattle.translate.specs.internal.Tabled.{HoldsShapes};
 
 use crate::Shape;
+use crate::formula::FormulaTable;
+use cases::FormulaKind;
 
 // The limit on nodes, and one more for a nu that is put before the root.
 pub const SHAPES: usize = cases::NODES + 1;
 
-// The node of the second operand of node i: the one behind the subtree of its first operand.
-fn second_of(part: &[u8], f: usize, added: usize, i: usize) -> usize
-    requires nodes_fit { NodesFit node_limit part.now f }
-    requires inside { (added ≤ 1) × (i < f) }
-    ensures { result ≡ end_of (map (arity_in formula_arities) (nodes_in part.now f)) (i + 1) + added }
-{
-    cases::subtree_end(part, f, i + 1) + added
-}
-
-// The block of the binder at node i: the binders before it come before its block.
-fn block_of(part: &[u8], f: usize, added: usize, i: usize) -> usize
-    requires nodes_fit { NodesFit node_limit part.now f }
-    requires inside { (added ≤ 1) × (i ≤ f) }
-    ensures { result ≡ binder_count (take i (nodes_in part.now f)) + added }
-{
-    cases::binders(part, i) + added
-}
-
-// The shape of node i, with the labels that it accepts by the masks of a action formulas.
-fn shape_at(masks: &[u64], a: usize, part: &[u8], f: usize, added: usize, i: usize) -> Shape
-    requires tables { Tables masks.now a part.now f }
-    requires inside { (added ≤ 1) × (i < f) }
-    ensures { (action : ℕ → Action) → ActionMasks action a masks.now → result ≡ shape_in action (nodes_in part.now f) added i }
-{
-    let x = cases::node_at(part, i);
-    match x.kind {
-        0 => Shape::False,
-        1 => Shape::True,
-        2 => Shape::And {
-            second: second_of(part, f, added, i),
-        },
-        3 => Shape::Or {
-            second: second_of(part, f, added, i),
-        },
-        4 => Shape::Box {
-            labels: masks[x.arg],
-        },
-        5 => Shape::Diamond {
-            labels: masks[x.arg],
-        },
-        6 => Shape::Variable {
-            block: block_of(part, f, added, x.arg),
-        },
-        7 => Shape::Mu {
-            block: block_of(part, f, added, i),
-        },
-        _ => Shape::Nu {
-            block: block_of(part, f, added, i),
-        },
+impl FormulaTable<'_> {
+    // The node of the second operand of node i: the one behind the subtree of its first operand. It rises by the nodes that are put before the root.
+    fn second_of(&self, added: usize, i: usize) -> usize
+        requires { (added ≤ 1) × (i < self.now.nodes.count) }
+        ensures { result ≡ end_of (map (arity_in formula_arities) (nodes_in self.now.nodes.part.now self.now.nodes.count)) (i + 1) + added }
+    {
+        cases::subtree_end(self.nodes.part, self.nodes.count, i + 1) + added
     }
-}
 
-// How many nodes are put before the root: a nu where it is no binder.
-pub fn added_before(part: &[u8], f: usize) -> usize
-    requires { (4 * f ≤ length part.now) × (1 ≤ f) }
-    ensures { (result ≡ cond (is_binder (node_at (nodes_in part.now f) 0)) 0 1) × (result ≤ 1) }
-{
-    if cases::is_binder(cases::node_at(part, 0)) {
-        return 0;
+    // The block of the binder at node i: as many come before it as there are binders before it, and those that are put before the root.
+    fn block_of(&self, added: usize, i: usize) -> usize
+        requires { (added ≤ 1) × (i ≤ self.now.nodes.count) }
+        ensures { result ≡ binder_count (take i (nodes_in self.now.nodes.part.now self.now.nodes.count)) + added }
+    {
+        cases::binders(self.nodes.part, i) + added
     }
-    1
-}
 
-// The shapes of all nodes. Where a nu is put before the root, it is the first.
-pub fn shapes_of(masks: &[u64], a: usize, part: &[u8], f: usize) -> [Shape; SHAPES]
-    requires tables { Tables masks.now a part.now f }
-    requires some_node { 1 ≤ f }
-    ensures { (action : ℕ → Action) → ActionMasks action a masks.now → HoldsShapes action part.now f result }
-{
-    let added = added_before(part, f);
-    let nu = Shape::Nu { block: 0 };
-    let mut shapes = [nu; SHAPES];
-    for i in 0..f {
-        shapes[added + i] = shape_at(masks, a, part, f, added, i);
+    // The shape of node i.
+    fn shape_at(&self, added: usize, i: usize) -> Shape
+        requires { (added ≤ 1) × (i < self.now.nodes.count) }
+        ensures { (action : ℕ → Action) → ActionMasks action (length self.now.masks.now) self.now.masks.now
+            → result ≡ shape_in action (nodes_in self.now.nodes.part.now self.now.nodes.count) added i }
+    {
+        let x = self.nodes.at(i);
+        match x.formula_kind() {
+            FormulaKind::False => Shape::False,
+            FormulaKind::True => Shape::True,
+            FormulaKind::And => Shape::And {
+                second: self.second_of(added, i),
+            },
+            FormulaKind::Or => Shape::Or {
+                second: self.second_of(added, i),
+            },
+            FormulaKind::Box => Shape::Box {
+                labels: self.masks[x.arg],
+            },
+            FormulaKind::Diamond => Shape::Diamond {
+                labels: self.masks[x.arg],
+            },
+            FormulaKind::Variable => Shape::Variable {
+                block: self.block_of(added, x.arg),
+            },
+            FormulaKind::Mu => Shape::Mu {
+                block: self.block_of(added, i),
+            },
+            FormulaKind::Nu => Shape::Nu {
+                block: self.block_of(added, i),
+            },
+        }
     }
-    shapes
+
+    // How many nodes are put before the root: a nu where it is no binder.
+    pub fn added_before(&self) -> usize
+        ensures { (result ≡ cond (is_binder (node_at (nodes_in self.now.nodes.part.now self.now.nodes.count) 0)) 0 1) × (result ≤ 1) }
+    {
+        if self.nodes.at(0).is_binder() {
+            return 0;
+        }
+        1
+    }
+
+    // The shapes of all nodes. Where a nu is put before the root, it is the first.
+    pub fn shapes(&self) -> [Shape; SHAPES]
+        ensures { (action : ℕ → Action) → ActionMasks action (length self.now.masks.now) self.now.masks.now
+            → HoldsShapes action self.now.nodes.part.now self.now.nodes.count result }
+    {
+        let added = self.added_before();
+        let mut shapes = [Shape::Nu { block: 0 }; SHAPES];
+        for i in 0..self.nodes.count {
+            shapes[added + i] = self.shape_at(added, i);
+        }
+        shapes
+    }
 }

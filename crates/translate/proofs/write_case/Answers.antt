@@ -1,61 +1,54 @@
+use mathlib.Core.Path.{sym}
 use native.Mathlib.Omega.{arith}
-use Rattle.translate.proofs.CaseParts.{opened, masks_are, handed, left_as}
+use lib.Seq.{length-take-le}
+use Rattle.translate.proofs.CaseParts.{masks_first, masks_asked, masks_are, table_some, table_few, actions_few, table_readable, handed, left_as}
 use Rattle.translate.proofs.write_case.Goals as goal
 
-pub slice_bounds-action_masks-count : goal.slice_bounds-action_masks-count
-slice_bounds-action_masks-count c = (opened _ c.requires.0 c.requires.1).labels
-
-pub slice_bounds-action_masks-start : goal.slice_bounds-action_masks-start
-slice_bounds-action_masks-start c = (opened _ c.requires.0 c.requires.1).labels
-
-pub slice_bounds-action_masks-count-2 : goal.slice_bounds-action_masks-count-2
-slice_bounds-action_masks-count-2 c = (opened _ c.requires.0 c.requires.1).actions
-
-pub slice_bounds-action_masks-start-2 : goal.slice_bounds-action_masks-start-2
-slice_bounds-action_masks-start-2 c = (opened _ c.requires.0 c.requires.1).actions
-
 pub action_masks-masks-requires : goal.action_masks-masks-requires
-action_masks-masks-requires c = (opened _ c.requires.0 c.requires.1).masks_asked
+action_masks-masks-requires c =
+    let o = c.args.case.now in
+    masks_asked _ o.accepted o.read c.labels-labels.ensures.part c.actions-actions.ensures.part
 
-pub slice_bounds-shapes_of-count : goal.slice_bounds-shapes_of-count
-slice_bounds-shapes_of-count c = (opened _ c.requires.0 c.requires.1).formula
+pub slice_bounds-masks-end : goal.slice_bounds-masks-end
+slice_bounds-masks-end c =
+    let o = c.args.case.now in
+    omega (arith, c.action_masks-masks.ensures.0, actions_few _ o.accepted o.read)
 
-pub slice_bounds-shapes_of-start : goal.slice_bounds-shapes_of-start
-slice_bounds-shapes_of-start c = (opened _ c.requires.0 c.requires.1).formula
+pub slice_bounds-formula-end : goal.slice_bounds-formula-end
+slice_bounds-formula-end c =
+    let o = c.args.case.now in
+    sym (length-take-le _ _ (omega (arith, c.action_masks-masks.ensures.0, actions_few _ o.accepted o.read)))
 
-pub shapes_of-shapes-requires : goal.shapes_of-shapes-requires
-shapes_of-shapes-requires c = let o = opened _ c.requires.0 c.requires.1 in record { tables = o.tables _ c.action_masks-masks.ensures.0; some_node = o.some }
+pub invariant_of-formula : goal.invariant_of-formula
+invariant_of-formula c =
+    let o = c.args.case.now in
+    record {
+      some = rw c.formula-nodes.ensures.count (table_some _ o.accepted o.read);
+      few = rw c.formula-nodes.ensures.count (table_few _ o.accepted o.read);
+      readable = table_readable _ o.accepted o.read c.formula-nodes.ensures.part c.formula-nodes.ensures.count
+          (sym (length-take-le _ _ (omega (arith, c.action_masks-masks.ensures.0, actions_few _ o.accepted o.read))));
+    }
 
-pub slice_bounds-added_before-count : goal.slice_bounds-added_before-count
-slice_bounds-added_before-count c = (opened _ c.requires.0 c.requires.1).formula
-
-pub slice_bounds-added_before-start : goal.slice_bounds-added_before-start
-slice_bounds-added_before-start c = (opened _ c.requires.0 c.requires.1).formula
-
-pub added_before-requires : goal.added_before-requires
-added_before-requires c = let o = opened _ c.requires.0 c.requires.1 in (o.fits.inside, o.some)
-
-pub overflow_add-k : goal.overflow_add-k
-overflow_add-k c = let o = opened _ c.requires.0 c.requires.1 in omega (arith, c.added_before.ensures.1, o.fits.few)
-
-pub slice_bounds-emit-count : goal.slice_bounds-emit-count
-slice_bounds-emit-count c = (opened _ c.requires.0 c.requires.1).transitions
-
-pub slice_bounds-emit-start : goal.slice_bounds-emit-start
-slice_bounds-emit-start c = (opened _ c.requires.0 c.requires.1).transitions
-
-pub emit-requires : goal.emit-requires
-emit-requires c =
-    handed _ c.requires.0 _ _ _ c.requires.1 (record {
-      flags = c.requires.2;
-      nodes = c.shapes_of-shapes.ensures _ (masks_are _ c.requires.0 c.requires.1 c.action_masks-masks.ensures.1);
-      before = c.added_before.ensures.0;
-    })
+pub invariant_of-equations : goal.invariant_of-equations
+invariant_of-equations c =
+    let o = c.args.case.now in
+    let s =
+    handed _ o.accepted o.read c.formula-nodes.ensures.part c.formula-nodes.ensures.count c.transitions-table.ensures.part c.transitions-table.ensures.count c.requires
+    (c.shapes-shapes.ensures _ (masks_first _ o.header.actions _ (omega (arith, c.action_masks-masks.ensures.0, actions_few _ o.accepted o.read))
+    (masks_are _ o.accepted o.read c.labels-labels.ensures.part c.actions-actions.ensures.part c.action_masks-masks.ensures.1)))
+    c.added_before.ensures.0 in
+    record {
+      few_transitions = s.few_transitions;
+      few_nodes = s.few_nodes;
+      few_states = s.few_states;
+      second = s.second;
+      few_operands = s.few_operands;
+    }
 
 pub returns : goal.returns
 returns c =
-    left_as _ c.requires.0 _ _ _ c.requires.1 (record {
-      flags = c.requires.2;
-      nodes = c.shapes_of-shapes.ensures _ (masks_are _ c.requires.0 c.requires.1 c.action_masks-masks.ensures.1);
-      before = c.added_before.ensures.0;
-    }) c.emit.ensures
+    let o = c.args.case.now in
+    left_as _ o.accepted o.read c.formula-nodes.ensures.part c.formula-nodes.ensures.count c.transitions-table.ensures.part c.transitions-table.ensures.count c.requires
+    (c.shapes-shapes.ensures _ (masks_first _ o.header.actions _ (omega (arith, c.action_masks-masks.ensures.0, actions_few _ o.accepted o.read))
+    (masks_are _ o.accepted o.read c.labels-labels.ensures.part c.actions-actions.ensures.part c.action_masks-masks.ensures.1)))
+    c.added_before.ensures.0 c.emit.ensures

@@ -1,13 +1,11 @@
 -- What the writers of the equation file promise of the part of the output that they are handed.
 use Rattle.std.specs.Prelude.{◌≡◌, Bool, cond, ◌&&◌, List, [], ◌∷◌, ◌++◌, map, ℕ, ◌+◌, ◌*◌, ◌≤◌, eqb, length, get_or, take, drop}
 use Rattle.sets.specs.Lists.{numbers_from, keep}
-use Rattle.sets.specs.Words.{state_limit}
 use Rattle.solver.specs.Cells.{Cell}
-use Rattle.cases.specs.File.{transition_in, node_limit}
+use Rattle.cases.specs.File.{transition_in}
 use Rattle.cases.specs.declared.Transition.{Transition}
-use Rattle.translate.specs.declared.Shape.{Shape}
 use Rattle.translate.specs.Bytes.{bytes, all_operands, cell_numbers}
-use Rattle.translate.specs.internal.Writing.{leaves, second_of}
+use Rattle.translate.specs.internal.Writing.{leaves}
 
 -- the numbers xs were written from the byte `at` on, and no other byte changed
 pub record WroteAt (at : ℕ) (xs before after : List ℕ) : Type 0 where
@@ -65,9 +63,3 @@ target_cell part first base s labels j = cond (leaves_at part first s labels j) 
 pub record Recorded (part first : List ℕ) (m : ℕ) : Type 0 where
   pub records : 6 * m ≤ length part
   pub flags : m ≤ length first
-
--- a shape at node i, with n states, as the formulas of cases have them: a nu that is put before a formula makes one node more
-pub record Placed (n : ℕ) (x : Shape) (i : ℕ) : Type 0 where
-  pub states : n ≤ state_limit
-  pub node : i ≤ node_limit + 1
-  pub second : second_of x ≤ node_limit + 1

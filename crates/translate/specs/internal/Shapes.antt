@@ -13,6 +13,10 @@ use Rattle.cases.specs.declared.Transition.{Transition}
 use Rattle.translate.specs.declared.Shape.{Shape}
 use Rattle.translate.specs.internal.Writing.{shape_of, shape_cell}
 
+-- the shape of node i, by the shapes of all nodes
+abbrev pub shape_at : List Shape → ℕ → Shape
+shape_at xs i = get_or xs i Shape.False
+
 -- the shapes of a formula at node i, node by node in prefix order
 unfoldable pub shapes_from : (ℕ → ℕ) → Formula → ℕ → List Shape
 shapes_from block False i = shape_of block False i ∷ []

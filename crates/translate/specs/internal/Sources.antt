@@ -1,12 +1,12 @@
 -- What the writers of a case's equations are handed, and what they leave in the buffer.
-use Rattle.std.specs.Prelude.{◌≡◌, cond, List, ◌++◌, ℕ, ◌+◌, ◌*◌, ◌≤◌, ◌<◌, ltb, length, get_or, take, drop, Result, Ok, Err}
+use Rattle.std.specs.Prelude.{◌≡◌, cond, List, ◌++◌, ℕ, ◌+◌, ◌*◌, ◌≤◌, ◌<◌, ltb, length, drop, Result, Ok, Err}
 use Rattle.sets.specs.Words.{state_limit}
 use Rattle.solver.specs.File.{blocks_at, operand_limit}
 use Rattle.cases.specs.File.{transition_limit, node_limit}
 use Rattle.cases.specs.declared.Transition.{Transition}
 use Rattle.translate.specs.Bytes.{System, all_operands, bytes, numbers}
 use Rattle.translate.specs.internal.Writing.{second_of}
-use Rattle.translate.specs.internal.Shapes.{shape_cells, shape_blocks}
+use Rattle.translate.specs.internal.Shapes.{shape_at, shape_cells, shape_blocks}
 use Rattle.translate.specs.internal.Parts.{Recorded, distinct_in}
 use Rattle.translate.specs.declared.Shape.{Shape}
 use Rattle.translate.specs.declared.Cause.{Cause}
@@ -16,18 +16,14 @@ use Rattle.translate.specs.declared.Cause.TheVariants.{Memory}
 unfoldable pub shape_system : ℕ → ℕ → List Transition → List Shape → System
 shape_system n initial ts xs = record { states = n; initial = initial; blocks = shape_blocks n 0 xs; cells = shape_cells n ts 0 xs }
 
-abbrev pub shape_at : List Shape → ℕ → Shape
-shape_at xs i = get_or xs i Shape.False
-
--- m records with their flags, k shapes and n states, as an accepted case has them
-pub record Sources (part first : List ℕ) (m : ℕ) (shapes : List Shape) (k n : ℕ) : Type 0 where
+-- m records with their flags, the shapes of all nodes and n states, as an accepted case has them
+pub record Sources (part first : List ℕ) (m : ℕ) (shapes : List Shape) (n : ℕ) : Type 0 where
   pub recorded : Recorded part first m
   pub few_transitions : m ≤ transition_limit
-  pub held : k ≤ length shapes
-  pub few_nodes : k ≤ node_limit + 1
+  pub few_nodes : length shapes ≤ node_limit + 1
   pub few_states : n ≤ state_limit
-  pub second : (i : ℕ) → i < k → second_of (shape_at shapes i) ≤ node_limit
-  pub few_operands : length (all_operands (shape_cells n (distinct_in part first m) 0 (take k shapes))) ≤ operand_limit
+  pub second : (i : ℕ) → i < length shapes → second_of (shape_at shapes i) ≤ node_limit
+  pub few_operands : length (all_operands (shape_cells n (distinct_in part first m) 0 shapes)) ≤ operand_limit
 
 -- so many cells, blocks and operands, and a buffer of `room` bytes has room for their file
 pub record RoomFor (y : System) (c d p room : ℕ) : Type 0 where

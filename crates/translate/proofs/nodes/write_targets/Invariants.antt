@@ -1,8 +1,0 @@
-use mathlib.Core.Path.{◌≡◌}
-use Prim.Native.Nat.{◌≤◌}
-use lib.ListN.{length}
-use Rattle.translate.specs.internal.Parts.{WroteMore, leaving, target_cells}
-use Rattle.translate.proofs.nodes.write_targets.Given as goal
-
-abbrev pub invariant-loop-j : goal.invariant-loop-j
-invariant-loop-j l = (l.j ≤ l.m) × WroteMore l.done (target_cells l.base (leaving l.part l.first l.s l.labels l.j)) l.initial.out l.out l.next × (length l.out ≡ length l.initial.out)

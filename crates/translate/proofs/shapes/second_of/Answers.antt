@@ -1,9 +1,0 @@
-use Prim.Native.Nat.{◌+◌}
-use native.Mathlib.Omega.{arith}
-use Rattle.translate.proofs.ShapeFields.{end_small}
-use Rattle.translate.proofs.shapes.second_of.Goals as goal
-
-pub overflow_add-result : goal.overflow_add-result
-overflow_add-result c =
-    let p = c.args in
-    omega (arith, c.subtree_end.ensures, end_small p.part.now p.f (p.i + 1) (omega arith))

@@ -1,0 +1,89 @@
+// The records that a box or diamond follows from a state, and the operands that they give.
+ghost use Rattle.std.specs.Prelude.{◌≡◌, [], ◌∷◌, ℕ, ◌+◌, ◌*◌, ◌^◌, ◌<◌, ◌≤◌, length};
+ghost use Rattle.sets.specs.Words.{marked};
+ghost use Rattle.cases.specs.File.{transition_in};
+ghost use Rattle.translate.specs.internal.Parts.{WroteMore, target_cells};
+ghost use Rattle.translate.specs.internal.Flags.{follows, followed, target_of};
+
+use crate::bytes::put_at;
+use cases::{Flagged, number_at};
+
+// The records that leave a state with their labels in a mask.
+#[derive(Clone, Copy)]
+pub struct Steps<'a> {
+    pub records: Flagged<'a>,
+    pub state: usize,
+    pub labels: u64,
+}
+
+// Whether bit x of a mask of labels is 1. A label past its bits is not in it.
+fn marks(labels: u64, x: usize) -> bool
+    ensures { result ≡ marked (labels ∷ []) x }
+{
+    if 64 <= x {
+        return false;
+    }
+    (labels >> x) % 2 == 1
+}
+
+impl Steps<'_> {
+    // Whether record j is one of them: the first of its kind, from the state, with its label in the mask.
+    pub fn has(&self, j: usize) -> bool
+        requires { j < self.now.records.table.count }
+        ensures { result ≡ follows self.now j }
+    {
+        if self.records.first[j] != 1 {
+            return false;
+        }
+        let t = self.records.table.at(j);
+        if t.source != self.state {
+            return false;
+        }
+        marks(self.labels, t.label)
+    }
+
+    // How many there are.
+    pub fn count(&self) -> usize
+        ensures { (result ≡ length (followed self.now)) × (result ≤ self.now.records.table.count) }
+    {
+        let mut found: usize = 0;
+        for j in 0..self.records.table.count {
+            if self.has(j) {
+                found += 1;
+            }
+        }
+        found
+    }
+
+    // The target of record j.
+    fn target(&self, j: usize) -> usize
+        requires { j < self.now.records.table.count }
+        ensures { (result ≡ (transition_in self.now.records.table.part.now j).target) × (result < 2 ^ 16) }
+    {
+        number_at(self.records.table.part, 6 * j + 4)
+    }
+
+    // The operand of record j, if it is one of them, behind `done` numbers: the cell of its target, in the row of cells that starts at `base`.
+    fn write_target(&self, out: &mut [u8], done: usize, j: usize, base: usize) -> usize
+        requires { (j < self.now.records.table.count) × (base < 2 ^ 32) × (4 * (done + length (target_of self.now base j)) ≤ length out.old) }
+        ensures { WroteMore done (target_of self.now base j) out.old out.new result }
+    {
+        if self.has(j) {
+            put_at(out, 4 * done, base + self.target(j));
+            return done + 1;
+        }
+        done
+    }
+
+    // Their operands, behind `done` numbers. Answers how many numbers are then written.
+    pub fn write_targets(&self, out: &mut [u8], done: usize, base: usize) -> usize
+        requires { (base < 2 ^ 32) × (4 * (done + length (followed self.now)) ≤ length out.old) }
+        ensures { WroteMore done (target_cells base (followed self.now)) out.old out.new result }
+    {
+        let mut next = done;
+        for j in 0..self.records.table.count {
+            next = self.write_target(out, next, j, base);
+        }
+        next
+    }
+}

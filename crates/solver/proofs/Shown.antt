@@ -121,6 +121,9 @@ module _ {e : List ℕ} {sizes : Sizes} {work : List ℕ} (o : OpenFile e sizes)
   abbrev few : SizesFit (sizes_of e)
   few = (layout_facts e o.formed.layout).counts
 
+  pub known : entry.kind ≤ 2
+  known = facts.kinds
+
   -- a list's operands are in the table
   pub list_fits : {first count : ℕ} → entry.kind ≤ 1 → first ≡ entry.one → count ≡ entry.two → ListAt e first count
   list_fits k f c =

@@ -12,9 +12,9 @@ use sets::Set;
 pub type BlockSets = [Set; BLOCKS];
 
 // Whether one of the operands of a list has the value wanted.
-fn finds(file: &EquationFile<'_>, list: Operands, wanted: u8, work: &[u8]) -> bool
-    requires { let e = file.now.tables.bytes.now in Ready e work.now × ListAt e list.first list.count }
-    ensures { result ≡ for_some (λ o. eqb (get_or work.now o 0) wanted) (list_of (operands file.now.tables.bytes.now) list.first list.count) }
+fn finds(file: EquationFile<'_>, list: Operands, wanted: u8, work: &[u8]) -> bool
+    requires { let e = file.tables.bytes.now in Ready e work.now × ListAt e list.first list.count }
+    ensures { result ≡ for_some (λ o. eqb (get_or work.now o 0) wanted) (list_of (operands file.entry.tables.bytes.now) list.first list.count) }
 {
     for j in 0..list.count {
         let o = file.tables.operand(list.first + j);
@@ -27,9 +27,9 @@ fn finds(file: &EquationFile<'_>, list: Operands, wanted: u8, work: &[u8]) -> bo
 
 // The value of cell i, from those of the cells above it: an and is false if an operand is, an or is true if an operand is, and a
 // variable is true if its state is in the set of its block.
-fn value_of(file: &EquationFile<'_>, sets: &BlockSets, i: usize, work: &[u8]) -> bool
-    requires { let t = file.now.tables in Ready t.bytes.now work.now × (i < t.sizes.cells) }
-    ensures { Valued file.now.tables.bytes.now sets.now i work.now result }
+fn value_of(file: EquationFile<'_>, sets: &BlockSets, i: usize, work: &[u8]) -> bool
+    requires { let t = file.tables in Ready t.bytes.now work.now × (i < t.sizes.cells) }
+    ensures { Valued file.entry.tables.bytes.now sets.now i work.now result }
 {
     match file.tables.cell(i) {
         Cell::And(list) => !finds(file, list, 0, work),
@@ -39,9 +39,9 @@ fn value_of(file: &EquationFile<'_>, sets: &BlockSets, i: usize, work: &[u8]) ->
 }
 
 // Works out the cells from the last down to cell `from`.
-pub fn evaluate(file: &EquationFile<'_>, sets: BlockSets, from: usize, work: &mut [u8])
-    requires { let t = file.now.tables in Ready t.bytes.now work.old × (from ≤ t.sizes.cells) }
-    ensures { CellsValued file.now.tables.bytes.now sets from work.new }
+pub fn evaluate(file: EquationFile<'_>, sets: BlockSets, from: usize, work: &mut [u8])
+    requires { let t = file.tables in Ready t.bytes.now work.old × (from ≤ t.sizes.cells) }
+    ensures { CellsValued file.entry.tables.bytes.now sets from work.new }
 {
     for i in (from..file.tables.sizes.cells).rev() {
         let v = value_of(file, &sets, i, work);
@@ -50,9 +50,9 @@ pub fn evaluate(file: &EquationFile<'_>, sets: BlockSets, from: usize, work: &mu
 }
 
 // The sets with that of block k replaced by its right-hand sides, all of them worked out from the sets as they were.
-pub fn right_sides(file: &EquationFile<'_>, sets: BlockSets, k: usize, work: &mut [u8]) -> BlockSets
-    requires { let t = file.now.tables in Ready t.bytes.now work.old × (k < t.sizes.blocks) }
-    ensures { Applied file.now.tables.bytes.now sets k work.new result }
+pub fn right_sides(file: EquationFile<'_>, sets: BlockSets, k: usize, work: &mut [u8]) -> BlockSets
+    requires { let t = file.tables in Ready t.bytes.now work.old × (k < t.sizes.blocks) }
+    ensures { Applied file.entry.tables.bytes.now sets k work.new result }
 {
     let first = file.tables.first(k);
     let states = file.tables.sizes.states;

@@ -66,9 +66,10 @@ impl<'a> Tables<'a> {
         number_at(self.bytes, HEADER + 8 * self.sizes.blocks + 12 * i)
     }
 
-    // Cell i. A kind above 2 reads as a variable: no opened file has one.
+    // Cell i, whose kind is that of an and, an or or a variable.
     pub fn cell(&self, i: usize) -> Cell
-        requires { i < self.now.sizes.cells }
+        requires inside { i < self.now.sizes.cells }
+        requires known { (entry_at self.now.bytes.now i).kind ≤ 2 }
         ensures { result ≡ cell_read (entry_at self.now.bytes.now i) }
     {
         let at = HEADER + 8 * self.sizes.blocks + 12 * i;
@@ -79,12 +80,13 @@ impl<'a> Tables<'a> {
             count: two,
         };
         match number_at(self.bytes, at) {
-            0 => Cell::And(operands),
-            1 => Cell::Or(operands),
-            _ => Cell::Variable {
+            2 => Cell::Variable {
                 block: one,
                 state: two,
             },
+            0 => Cell::And(operands),
+            // Only the kind of an or is left.
+            _ => Cell::Or(operands),
         }
     }
 

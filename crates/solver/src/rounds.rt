@@ -85,7 +85,7 @@ fn round(
     let s = solve_last(file, sets, left - 1, work, budget)?;
     *budget = budget.checked_sub(1)?;
     let k = file.tables.sizes.blocks - left;
-    let next = right_sides(file, s, k, work);
+    let next = right_sides(*file, s, k, work);
     if next[k] == sets[k] {
         return Some(Ending::Stable(s));
     }

@@ -6,13 +6,13 @@ use Rattle.solver.proofs.Shown.{byte_is, evaluated_none, evaluated_more}
 use Rattle.solver.proofs.cells.evaluate.Goals as goal
 
 pub loop-i-init : goal.loop-i-init
-loop-i-init c = (c.requires.1, evaluated_none c.args.file.now.opens c.requires.0)
+loop-i-init c = (c.requires.1, evaluated_none c.args.file.opens c.requires.0)
 
 pub loop-i-preserved : goal.loop-i-preserved
 loop-i-preserved c =
     let i : ℕ = c.loop-i.i - 1 in
     let s : i + 1 ≡ c.loop-i.i = omega arith in
-    (omega arith, evaluated_more (rw (← s) at c.loop-i.invariant.1) (omega (arith, (counted c.args.file.now.opens.counts).cells)) c.value_of-v.ensures (byte_is c.value_of-v.result c.from.ensures))
+    (omega arith, evaluated_more (rw (← s) at c.loop-i.invariant.1) (omega (arith, (counted c.args.file.opens.counts).cells)) c.value_of-v.ensures (byte_is c.value_of-v.result c.from.ensures))
 
 pub returns : goal.returns
 returns c =

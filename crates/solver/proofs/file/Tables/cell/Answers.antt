@@ -1,6 +1,8 @@
+use mathlib.Core.Path.{◌≡◌, ap}
 use Prim.Native.Nat.{◌+◌, ◌*◌}
 use native.Mathlib.Omega.{arith}
 use Rattle.std.proofs.Common.{rules}
+use Rattle.solver.specs.File.{u32, sizes_of, cells_at}
 use Rattle.solver.proofs.Tables.{counted, and_read, or_read, variable_read}
 use Rattle.solver.proofs.file.Tables.cell.Goals as goal
 
@@ -9,12 +11,17 @@ returns-in-0 c =
     let t = c.args.self.now in
     and_read t.bytes.now c.args.i (36 + 8 * t.sizes.blocks + 12 * c.args.i) (omega (arith, (counted t.read.sizes_are).blocks)) c.number_at.ensures.0 c.number_at-one.ensures.0 c.number_at-two.ensures.0 c.in-0.is
 
-pub returns-in-1 : goal.returns-in-1
-returns-in-1 c =
-    let t = c.args.self.now in
-    or_read t.bytes.now c.args.i (36 + 8 * t.sizes.blocks + 12 * c.args.i) (omega (arith, (counted t.read.sizes_are).blocks)) c.number_at.ensures.0 c.number_at-one.ensures.0 c.number_at-two.ensures.0 c.in-1.is
-
 pub returns-in_default : goal.returns-in_default
 returns-in_default c =
     let t = c.args.self.now in
-    variable_read t.bytes.now c.args.i (36 + 8 * t.sizes.blocks + 12 * c.args.i) (omega (arith, (counted t.read.sizes_are).blocks)) c.number_at.ensures.0 c.number_at-one.ensures.0 c.number_at-two.ensures.0 (search rules) (search rules)
+    let n = c.number_at.result in
+    let a : ¬ (n ≡ 2) = search rules in
+    let b : ¬ (n ≡ 0) = search rules in
+    let place : 36 + 8 * t.sizes.blocks + 12 * c.args.i ≡ cells_at (sizes_of t.bytes.now) + 12 * c.args.i = omega (arith, (counted t.read.sizes_are).blocks) in
+    let k : n ≡ 1 = omega (arith, c.requires.known, c.number_at.ensures.0, ap (u32 t.bytes.now) place) in
+    or_read t.bytes.now c.args.i (36 + 8 * t.sizes.blocks + 12 * c.args.i) (omega (arith, (counted t.read.sizes_are).blocks)) c.number_at.ensures.0 c.number_at-one.ensures.0 c.number_at-two.ensures.0 k
+
+pub returns-in-2 : goal.returns-in-2
+returns-in-2 c =
+    let t = c.args.self.now in
+    variable_read t.bytes.now c.args.i (36 + 8 * t.sizes.blocks + 12 * c.args.i) (omega (arith, (counted t.read.sizes_are).blocks)) c.number_at.ensures.0 c.number_at-one.ensures.0 c.number_at-two.ensures.0 (omega (arith, c.in-2.is)) (omega (arith, c.in-2.is))

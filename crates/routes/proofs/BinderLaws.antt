@@ -1,6 +1,6 @@
 -- What the evaluator's loop at a mu or a nu holds at its head, and what it answers where it ends.
 use mathlib.Core.Path.{◌≡◌, refl, sym, ap, subst, ◌∙◌}
-use mathlib.Core.Bool.{true, false, ◌||◌}
+use mathlib.Core.Bool.{true, ◌||◌}
 use mathlib.Core.List.{List, [], map}
 use Prim.Native.Nat.{ℕ, ◌+◌, ◌-◌, ◌<◌, ◌≤◌}
 use native.Mathlib.Omega.{arith}
@@ -12,25 +12,22 @@ use lib.Seq.{get_or-set_same, get_or-set_other, set-set}
 use Rattle.sets.specs.States.{States, start, Valuation, update}
 use Rattle.sets.specs.Loop.{Step, Loop, itself}
 use Rattle.sets.specs.Words.{words, word_count}
-use Rattle.sets.proofs.Lists.{false_true}
 use Rattle.sets.proofs.Turns.{Left, turn, stops_here, goes_on}
 use Rattle.sets.proofs.Words.{words_length, words_inj}
 use Rattle.sets.proofs.Valuation.{update_sized}
 use Rattle.cases.specs.Action.{Action}
-use Rattle.cases.specs.declared.Header.{Header}
 use Rattle.cases.specs.declared.Node.{Node}
 use Rattle.cases.specs.declared.Transition.{Transition}
 use Rattle.cases.specs.Prefix.{arity_in, formula_arities, formula_at}
 use Rattle.cases.specs.Conditions.{node_at, is_binder, binder_count}
-use Rattle.cases.specs.internal.Checks.{transitions_in, nodes_in}
 use Rattle.cases.proofs.Spans.{end_one}
 use Rattle.routes.specs.Direct.{Direct}
 use Rattle.cases.specs.internal.Masks.{ActionMasks}
-use Rattle.routes.specs.internal.Evaluating.{returned, Shown, Asks, KindAt, Evaluated}
+use Rattle.routes.specs.internal.Evaluating.{nodes_of, transitions_of, Shown, Asks, KindAt, Reached, Exceeded}
 use Rattle.routes.specs.declared.Value.{Value}
+use Rattle.routes.specs.declared.evaluator.Evaluator.{Evaluator}
 use Rattle.routes.proofs.DirectLaws.{direct_sized}
 use Rattle.routes.proofs.NodeLaws.{Binder, apart, by_kind, inside, in_arities, operand, block_of, arity, ruled_by}
-use Rattle.routes.proofs.EvaluateLaws.{all_spent}
 
 -- a row that is the words of a set is one of the rows
 row_inside : (rows : List (List ℕ)) (k : ℕ) (v : States) → get_or rows k [] ≡ words word_count v → k < length rows
@@ -59,47 +56,45 @@ shown_update {n} {t} {rows} {ρ} s i b {k} e v {held} z w =
         (s.row j h is)
 
 -- one turn of the loop of binder `at`: its body is worked out
-abbrev body : Header → List ℕ → List ℕ → ℕ → (ℕ → Action) → Valuation → Step States
-body h records formula at action ρ = itself λ u.
-    Direct h.states (transitions_in records h.transitions) (formula_at action (nodes_in formula h.nodes) (at + 1)) (update ρ at u)
+abbrev body : Evaluator → ℕ → (ℕ → Action) → Valuation → Step States
+body ev at action ρ = itself λ u. Direct ev.header.states (transitions_of ev) (formula_at action (nodes_of ev) (at + 1)) (update ρ at u)
 
 -- words that hold a set of n states
 abbrev pub Holding : ℕ → List ℕ → States → Type 0
 Holding n held v = (length v ≡ n) × (held ≡ words word_count v)
 
 -- At the loop's head, with the words `held` after `before` rounds: what is left of the binder's run. The inner rows are the rows but for its own.
-pub record Going (h : Header) (records formula masks : List ℕ) (rows : List (List ℕ)) (at kind used limit block : ℕ)
-    (held : List ℕ) (before : ℕ) (inner : List (List ℕ)) : Type 0 where
+pub record Going (ev : Evaluator) (rows : List (List ℕ)) (at kind used block : ℕ) (held : List ℕ) (before : ℕ) (inner : List (List ℕ)) : Type 0 where
   pub others : (row : List ℕ) → set inner block row ≡ set rows block row
   pub low : used ≤ before
-  pub high : before ≤ limit
+  pub high : before ≤ ev.limit
   pub left : (action : ℕ → Action) (ρ : Valuation) (v : States) (r : ℕ)
-      → ActionMasks action h.actions masks → Shown h.states (nodes_in formula h.nodes) rows ρ
-      → Loop (body h records formula at action ρ) (start h.states (eqb kind 8)) v r
-      → Left (body h records formula at action ρ) (Holding h.states held) v before (used + r)
+      → ActionMasks action ev.header.actions ev.masks.now → Shown ev.header.states (nodes_of ev) rows ρ
+      → Loop (body ev at action ρ) (start ev.header.states (eqb kind 8)) v r
+      → Left (body ev at action ρ) (Holding ev.header.states held) v before (used + r)
 
 -- it begins
-pub begins : {h : Header} {records formula masks : List ℕ} {rows : List (List ℕ)} {at kind used limit block : ℕ} → used ≤ limit
-    → {held : List ℕ} → held ≡ words word_count (start h.states (eqb kind 8))
-    → Going h records formula masks rows at kind used limit block held used rows
-begins {h} {kind = kind} l e = record {
+pub begins : {ev : Evaluator} {rows : List (List ℕ)} {at kind used block : ℕ} → used ≤ ev.limit
+    → {held : List ℕ} → held ≡ words word_count (start ev.header.states (eqb kind 8))
+    → Going ev rows at kind used block held used rows
+begins {ev} {kind = kind} l e = record {
   others = λ row. refl;
   low = omega arith;
   high = l;
   left = λ action ρ v r m s run.
-      record { now = start h.states (eqb kind 8); known = (length-replicate h.states (eqb kind 8), e); rest = r; run = run; sum = refl };
+      record { now = start ev.header.states (eqb kind 8); known = (length-replicate ev.header.states (eqb kind 8), e); rest = r; run = run; sum = refl };
 }
 
-module _ {h : Header} {records formula masks blocks : List ℕ} {at used limit : ℕ} (q : Asks h records formula masks blocks at used limit)
-    {kind : ℕ} (k : KindAt formula h.nodes at kind 7 8) where
+module _ {ev : Evaluator} {at used : ℕ} (q : Asks ev at used)
+    {kind : ℕ} (k : KindAt ev at kind 7 8) where
   abbrev n : ℕ
-  n = h.states
+  n = ev.header.states
 
   abbrev ts : List Transition
-  ts = transitions_in records h.transitions
+  ts = transitions_of ev
 
   abbrev t : List Node
-  t = nodes_in formula h.nodes
+  t = nodes_of ev
 
   abbrev ks : List ℕ
   ks = map (arity_in formula_arities) t
@@ -116,80 +111,81 @@ module _ {h : Header} {records formula masks blocks : List ℕ} {at used limit :
   }
 
   -- its body is evaluated next
-  pub binder_body : {before : ℕ} → before ≤ limit → Asks h records formula masks blocks (at + 1) before limit
+  pub binder_body : {before : ℕ} → before ≤ ev.limit → Asks ev (at + 1) before
   binder_body l = operand q (omega (arith, one_operand)) l
 
   -- its set is that where the loop over its body stops
   binder_rule : (action : ℕ → Action) (ρ : Valuation) (v : States) (r : ℕ) → Direct n ts (formula_at action t at) ρ v r
-      → Loop (body h records formula at action ρ) (start n (eqb kind 8)) v r
+      → Loop (body ev at action ρ) (start n (eqb kind 8)) v r
   unfolding Direct
   binder_rule action ρ v r =
-      ruled_by q k action ρ v r (λ m. Loop (body h records formula at action ρ) (start n (eqb m 8)) v r) refl (λ d. d) (λ d. d)
+      ruled_by q k action ρ v r (λ m. Loop (body ev at action ρ) (start n (eqb m 8)) v r) refl (λ d. d) (λ d. d)
 
-  module _ {block : ℕ} (b : block ≡ get_or blocks at 0) {rows : List (List ℕ)} {held : List ℕ} {before : ℕ} {inner : List (List ℕ)}
-      (g : Going h records formula masks rows at kind used limit block held before inner) {one : Value}
-      (turned : Evaluated h records formula masks (set inner block held) (at + 1) before limit one) where
+  module _ {block : ℕ} (b : block ≡ get_or ev.blocks.now at 0) {rows : List (List ℕ)} {held : List ℕ} {before : ℕ} {inner : List (List ℕ)}
+      (g : Going ev rows at kind used block held before inner) where
     -- the rows of the turn show the set held
     shows : (action : ℕ → Action) (ρ : Valuation) {u : States} {total : ℕ} → Shown n t rows ρ
-        → (l : Left (body h records formula at action ρ) (Holding n held) u before total) → Shown n t (set inner block held) (update ρ at l.now)
+        → (l : Left (body ev at action ρ) (Holding n held) u before total) → Shown n t (set inner block held) (update ρ at l.now)
     shows action ρ s l =
         rw (g.others held) (shown_update s at own_binder (block_of q own_binder b) l.now l.known.0 l.known.1)
 
     -- the rounds are spent in the body,
-    pub body_spent : one.spent ≡ true → Evaluated h records formula masks rows at used limit one
-    body_spent e = all_spent e (λ action ρ v r d.
-        let l = g.left action ρ v r d.0 d.1 (binder_rule action ρ v r d.2) in
-        let x = turn l.run in
-        omega (arith, turned.over e action (update ρ at l.now) x.next x.took (d.0, shows action ρ d.1 l, x.step.1), x.less, l.sum))
-
-    module _ (e : one.spent ≡ false) where
-      -- or none is left for this one,
-      pub round_spent : limit ≤ one.rounds → {next : ℕ}
-          → Evaluated h records formula masks rows at used limit (returned one.set next one.rounds true)
-      round_spent m = all_spent refl (λ action ρ v r d.
+    pub body_spent : Exceeded ev (set inner block held) (at + 1) before → Exceeded ev rows at used
+    body_spent turned = record {
+      over = λ action ρ v r d.
           let l = g.left action ρ v r d.0 d.1 (binder_rule action ρ v r d.2) in
           let x = turn l.run in
-          omega (arith, (turned.right e action (update ρ at l.now) x.next x.took (d.0, shows action ρ d.1 l, x.step.1)).0, x.less, l.sum))
+          omega (arith, turned.over action (update ρ at l.now) x.next x.took (d.0, shows action ρ d.1 l, x.step.1), x.less, l.sum);
+    }
+
+    module _ {one : Value} (turned : Reached ev (set inner block held) (at + 1) before one) where
+      -- or none is left for this one,
+      pub round_spent : ev.limit ≤ one.rounds → Exceeded ev rows at used
+      round_spent m = record {
+        over = λ action ρ v r d.
+            let l = g.left action ρ v r d.0 d.1 (binder_rule action ρ v r d.2) in
+            let x = turn l.run in
+            omega (arith, (turned.right action (update ρ at l.now) x.next x.took (d.0, shows action ρ d.1 l, x.step.1)).0, x.less, l.sum);
+      }
 
       -- or the body's set is there.
-      found : (action : ℕ → Action) (ρ : Valuation) {u : States} {total : ℕ} → ActionMasks action h.actions masks → Shown n t rows ρ
-          → (l : Left (body h records formula at action ρ) (Holding n held) u before total) (a w : States) (r : ℕ) → body h records formula at action ρ l.now a w r
+      found : (action : ℕ → Action) (ρ : Valuation) {u : States} {total : ℕ} → ActionMasks action ev.header.actions ev.masks.now → Shown n t rows ρ
+          → (l : Left (body ev at action ρ) (Holding n held) u before total) (a w : States) (r : ℕ) → body ev at action ρ l.now a w r
           → (length w ≡ n) × (one.set ≡ words word_count w) × (r ≡ one.rounds - before)
       found action ρ m s l a w r d =
-          let y = turned.right e action (update ρ at l.now) w r (m, shows action ρ s l, d.1) in
+          let y = turned.right action (update ρ at l.now) w r (m, shows action ρ s l, d.1) in
           (direct_sized n ts _ (update ρ at l.now) (shows action ρ s l).sized w r d.1, y.1, omega (arith, y.0))
 
       -- sets with equal words are equal
       same : (v w : States) → length v ≡ n → length w ≡ n → words word_count v ≡ words word_count w → v ≡ w
-      same v w y z = words_inj word_count v w (y ∙ sym z) (omega (arith, q.parts.model.few_states))
+      same v w y z = words_inj word_count v w (y ∙ sym z) (omega (arith, ev.parts.model.few_states))
 
       -- It is the set held: the loop stops.
-      pub stopped : one.rounds < limit → one.set ≡ held
-          → Evaluated h records formula masks rows at used limit (returned one.set one.next (one.rounds + 1) false)
+      pub stopped : one.rounds < ev.limit → one.set ≡ held
+          → Reached ev rows at used (record { set = one.set; next = one.next; rounds = one.rounds + 1 })
       stopped m is = record {
-        over = λ o. absurd (false_true o);
-        low = λ o. omega (arith, g.low, turned.low e);
-        high = λ o. omega arith;
-        ends = λ o. turned.ends e ∙ sym (end_one ks at (in_arities q) one_operand);
-        right = λ o action ρ v r d.
+        low = omega (arith, g.low, turned.low);
+        high = omega arith;
+        ends = turned.ends ∙ sym (end_one ks at (in_arities q) one_operand);
+        right = λ action ρ v r d.
             let l = g.left action ρ v r d.0 d.1 (binder_rule action ρ v r d.2) in
             let x = stops_here (λ a w c f.
             let y = found action ρ d.0 d.1 l a w c f in
             same w l.now y.0 l.known.0 (sym y.1 ∙ is ∙ l.known.1)) l.run in
             let y = found action ρ d.0 d.1 l v l.now x.took x.step in
-            (omega (arith, y.2, x.sum, l.sum, turned.low e), is ∙ l.known.1 ∙ ap (words word_count) (sym x.step.0));
+            (omega (arith, y.2, x.sum, l.sum, turned.low), is ∙ l.known.1 ∙ ap (words word_count) (sym x.step.0));
       }
 
       -- It is another: the loop goes on from there.
-      pub replaced : one.rounds < limit → ¬ (one.set ≡ held)
-          → Going h records formula masks rows at kind used limit block one.set (one.rounds + 1) (set inner block held)
+      pub replaced : one.rounds < ev.limit → ¬ (one.set ≡ held)
+          → Going ev rows at kind used block one.set (one.rounds + 1) (set inner block held)
       replaced m other = record {
         others = λ row. set-set inner block held row ∙ g.others row;
-        low = omega (arith, g.low, turned.low e);
+        low = omega (arith, g.low, turned.low);
         high = omega arith;
         left = λ action ρ v r masks s run.
             let l = g.left action ρ v r masks s run in
             let x = goes_on (λ a w c f p. other ((found action ρ masks s l a w c f).1 ∙ ap (words word_count) p ∙ sym l.known.1)) l.run in
             let y = found action ρ masks s l x.held x.next x.took x.step in
-            record { now = x.next; known = (y.0, y.1); rest = x.rest; run = x.run; sum = omega (arith, y.2, x.sum, l.sum, turned.low e) };
+            record { now = x.next; known = (y.0, y.1); rest = x.rest; run = x.run; sum = omega (arith, y.2, x.sum, l.sum, turned.low) };
       }

@@ -21,8 +21,8 @@ use Rattle.routes.specs.declared.Cause.TheVariants.{Run}
 use Rattle.solver.specs.declared.Report.{Report}
 use Rattle.routes.specs.declared.Value.{Value}
 use Rattle.routes.specs.Route.{route_number, route_answer, Route, direct, run_of, marks_only, too_short, exceeds, run_conditions, route_outcome, marks_after, RanBy}
-use Rattle.routes.specs.internal.Answering.{Reported, Rooted}
-use Rattle.routes.specs.internal.Evaluating.{case_in, CaseParts}
+use Rattle.routes.specs.internal.Answering.{Reported, RootValue}
+use Rattle.routes.specs.internal.Parts.{case_in, CaseParts}
 use Rattle.routes.proofs.DirectLaws.{worked_sized}
 
 -- the two causes that a run has beside those of its case
@@ -109,14 +109,14 @@ module _ {h : Header} {labels records actions formula : List ℕ} (parts : CaseP
   pub too_short_lem : {o : Outcome} → o ≡ refused 13 → length marks < word_count → RanBy (conditions c marks limit) direct c marks o marks
   too_short_lem is h = ran_refused is (number_13 c marks limit h) (λ z. omega arith)
 
-  module _ (room : word_count ≤ length marks) {o : Value} (r : Rooted (run_of direct c) limit o) where
-    pub spent : {said : Outcome} → said ≡ refused 14 → o.spent ≡ true → RanBy (conditions c marks limit) direct c marks said marks
-    spent is z = ran_refused is (number_14 c marks limit room (r.over z)) (λ z. omega arith)
+  module _ (room : word_count ≤ length marks) where
+    pub spent : {said : Outcome} → said ≡ refused 14 → limit < (run_of direct c).1 → RanBy (conditions c marks limit) direct c marks said marks
+    spent is over = ran_refused is (number_14 c marks limit room over) (λ z. omega arith)
 
     -- success
-    pub solved : o.spent ≡ false → {report : Report} → Reported h o.set o.rounds report → {after : List ℕ} → after ≡ o.set ++ drop word_count marks
-        → RanBy (conditions c marks limit) direct c marks (route_answer (Ok report)) after
+    pub solved : {x : Value} → RootValue (run_of direct c) limit x → {report : Report} → Reported h x.set x.rounds report
+        → {after : List ℕ} → after ≡ x.set ++ drop word_count marks → RanBy (conditions c marks limit) direct c marks (route_answer (Ok report)) after
     unfolding case_in
-    solved z f is = ran_solved (number_0 c marks limit room (r.within z))
-        (f.are c refl (run_of direct c).0 (run_sized c) (r.set z) ∙ ap (report_of c.initial (run_of direct c).0) (r.rounds z))
-        (is ∙ ap (λ (w : List ℕ). w ++ drop word_count marks) (r.set z))
+    solved r f is = ran_solved (number_0 c marks limit room r.within)
+        (f.are c refl (run_of direct c).0 (run_sized c) r.set ∙ ap (report_of c.initial (run_of direct c).0) r.rounds)
+        (is ∙ ap (λ (w : List ℕ). w ++ drop word_count marks) r.set)

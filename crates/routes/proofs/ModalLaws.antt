@@ -24,7 +24,7 @@ use Rattle.cases.specs.Meaning.{set_of, from, box_in, diamond_in}
 use Rattle.cases.proofs.TableTrees.{held}
 use Rattle.cases.proofs.MeaningLaws.{all_not}
 use Rattle.translate.proofs.ShapeLaws.{mask_bit, mark_low, map_range_more}
-use Rattle.routes.specs.internal.Evaluating.{Records}
+use Rattle.routes.specs.internal.Parts.{Records}
 
 -- ---- one transition
 

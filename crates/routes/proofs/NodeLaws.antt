@@ -12,7 +12,6 @@ use Rattle.sets.specs.States.{States, Valuation}
 use Rattle.solver.specs.File.{block_limit}
 use Rattle.cases.specs.Action.{Action}
 use Rattle.cases.specs.Formula.{Formula}
-use Rattle.cases.specs.declared.Header.{Header}
 use Rattle.cases.specs.declared.Node.{Node}
 use Rattle.cases.specs.File.{node_in}
 use Rattle.cases.specs.Prefix.{arity_in, formula_arities, whole_formulas, end_of, formula_at}
@@ -26,11 +25,12 @@ use Rattle.cases.proofs.TableTrees.{formula_table_lem, formula_at_lem}
 use Rattle.cases.proofs.Scopes.{variable_bound}
 use Rattle.cases.proofs.FormulaRules.{length_nodes}
 use Rattle.routes.specs.Direct.{Direct}
-use Rattle.routes.specs.internal.Evaluating.{Asks, KindAt}
+use Rattle.routes.specs.declared.evaluator.Evaluator.{Evaluator}
+use Rattle.routes.specs.internal.Evaluating.{nodes_of, transitions_of, Asks, KindAt}
 use Rattle.routes.proofs.TableLaws.{more_binders, binders_before}
 
 -- what holds of two kinds holds of a kind that is one of them
-pub by_kind : (P : ℕ → Type 0) {formula : List ℕ} {f at kind low high : ℕ} → KindAt formula f at kind low high → high ≡ low + 1
+pub by_kind : (P : ℕ → Type 0) {ev : Evaluator} {at kind low high : ℕ} → KindAt ev at kind low high → high ≡ low + 1
     → P low → P high → P kind
 by_kind P {kind = kind} {low = low} {high = high} k e p q = go (ℕ_discrete kind low)
   where
@@ -55,15 +55,15 @@ apart t i j b c e = go (ltb i j) refl (ltb j i) refl
     go false l false g = omega (arith, ltb-false i j l, ltb-false j i g)
 
 -- ---- a node to evaluate
-module _ {h : Header} {records formula masks blocks : List ℕ} {at used limit : ℕ} (q : Asks h records formula masks blocks at used limit) where
+module _ {ev : Evaluator} {at used : ℕ} (q : Asks ev at used) where
   abbrev t : List Node
-  t = nodes_in formula h.nodes
+  t = nodes_of ev
 
   abbrev ks : List ℕ
   ks = map (arity_in formula_arities) t
 
   abbrev Works : Formula → Valuation → States → ℕ → Type 0
-  Works = Direct h.states (transitions_in records h.transitions)
+  Works = Direct ev.header.states (transitions_of ev)
 
   -- what node `at` makes of its operands if its kind is k
   abbrev made_at : (ℕ → Action) → ℕ → Formula
@@ -71,61 +71,61 @@ module _ {h : Header} {records formula masks blocks : List ℕ} {at used limit :
 
   -- the table holds one whole formula
   formed : FormulaTable t
-  formed = formula_table_lem h.actions t q.parts.nodes.formed
+  formed = formula_table_lem ev.header.actions t ev.parts.nodes.formed
 
   pub whole : whole_formulas 1 ks ≡ true
   whole = exactly_whole 1 ks formed.whole
 
   -- the node is one of the table
   pub inside : at < length t
-  inside = rw (length_nodes formula h.nodes) q.node
+  inside = rw (length_nodes ev.formula.now ev.header.nodes) q.node
 
   pub in_arities : at < length ks
   in_arities = rw (length-map t (arity_in formula_arities)) inside
 
   -- it is read, and so is its kind
-  pub node_read : {x : Node} → x ≡ node_in formula at → node_at t at ≡ x
-  node_read e = node_in_lem formula h.nodes at _ q.node ∙ sym e
+  pub node_read : {x : Node} → x ≡ node_in ev.formula.now at → node_at t at ≡ x
+  node_read e = node_in_lem ev.formula.now ev.header.nodes at _ q.node ∙ sym e
 
-  pub kind_at : {x : Node} {low high : ℕ} → x ≡ node_in formula at → low ≤ x.kind → x.kind ≤ high
-      → KindAt formula h.nodes at x.kind low high
+  pub kind_at : {x : Node} {low high : ℕ} → x ≡ node_in ev.formula.now at → low ≤ x.kind → x.kind ≤ high
+      → KindAt ev at x.kind low high
   kind_at e l u = record { are = ap (λ (y : Node). y.kind) (sym (node_read e)); from = l; to = u }
 
   -- the kind is not more than 8
-  pub kind_known : {x : Node} → x ≡ node_in formula at → x.kind ≤ 8
+  pub kind_known : {x : Node} → x ≡ node_in ev.formula.now at → x.kind ≤ 8
   kind_known {x} e = subst (λ (y : Node). y.kind ≤ 8) (node_read e) (formed.kinds at inside)
 
   -- another node of the table is asked for, after so many rounds
-  pub asks : {to after : ℕ} → to < length ks → after ≤ limit → Asks h records formula masks blocks to after limit
-  asks {to} l w = record { parts = q.parts; node = rw (length-map t (arity_in formula_arities), length_nodes formula h.nodes) at l; within = w }
+  pub asks : {to after : ℕ} → to < length ks → after ≤ ev.limit → Asks ev to after
+  asks {to} l w = record { node = rw (length-map t (arity_in formula_arities), length_nodes ev.formula.now ev.header.nodes) at l; within = w }
 
   -- its first operand, if it has one
-  pub operand : {after : ℕ} → 1 ≤ get_or ks at 0 → after ≤ limit → Asks h records formula masks blocks (at + 1) after limit
+  pub operand : {after : ℕ} → 1 ≤ get_or ks at 0 → after ≤ ev.limit → Asks ev (at + 1) after
   operand l w = asks (first_node 1 ks whole at in_arities l) w
 
   -- a variable is bound by an earlier node
-  pub binder_of : {x : Node} → x ≡ node_in formula at → x.kind ≡ 6 → Binder t x.arg
+  pub binder_of : {x : Node} → x ≡ node_in ev.formula.now at → x.kind ≡ 6 → Binder t x.arg
   binder_of {x} e k = subst (λ (y : Node). Binder t y.arg) (node_read e) bound
     where
       bound : Binder t (node_at t at).arg
       bound =
-          let b = variable_bound t q.parts.nodes.bound at inside (ap (λ (y : Node). y.kind) (node_read e) ∙ k) in
+          let b = variable_bound t ev.parts.nodes.bound at inside (ap (λ (y : Node). y.kind) (node_read e) ∙ k) in
           record { inside = omega (arith, b.before, inside); is = b.binder }
 
   -- a binder has a block number,
-  pub block_read : {i : ℕ} → Binder t i → i < length blocks
-  block_read b = omega (arith, b.inside, length_nodes formula h.nodes, q.parts.blocks_room)
+  pub block_read : {i : ℕ} → Binder t i → i < length ev.blocks.now
+  block_read b = omega (arith, b.inside, length_nodes ev.formula.now ev.header.nodes, ev.parts.blocks_room)
 
   -- which counts the binders before it
-  pub block_of : {i k : ℕ} → Binder t i → k ≡ get_or blocks i 0 → k ≡ binder_count (take i t)
-  block_of {i} b e = e ∙ q.parts.numbered.block i b.inside b.is
+  pub block_of : {i k : ℕ} → Binder t i → k ≡ get_or ev.blocks.now i 0 → k ≡ binder_count (take i t)
+  block_of {i} b e = e ∙ ev.parts.numbered.block i b.inside b.is
 
   -- and is below six
-  pub block_fits : {i k : ℕ} → Binder t i → k ≡ get_or blocks i 0 → k < block_limit
+  pub block_fits : {i k : ℕ} → Binder t i → k ≡ get_or ev.blocks.now i 0 → k < block_limit
   block_fits {i} b e =
-      omega (arith, block_of b e, binders_before t i b.inside b.is, q.parts.nodes.shallow)
+      omega (arith, block_of b e, binders_before t i b.inside b.is, ev.parts.nodes.shallow)
 
-  module _ {kind low high : ℕ} (k : KindAt formula h.nodes at kind low high) where
+  module _ {kind low high : ℕ} (k : KindAt ev at kind low high) where
     -- how many operands it has
     pub arity : get_or ks at 0 ≡ get_or formula_arities kind 0
     arity = arity_at formula_arities t at inside ∙ ap (λ (m : ℕ). get_or formula_arities m 0) (sym k.are)

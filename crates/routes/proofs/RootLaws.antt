@@ -7,6 +7,7 @@ use native.Mathlib.Omega.{arith}
 use borrow.Author.Tests.{ltb-false}
 use borrow.Author.Rules.{part_to_end}
 use lib.ListN.{length, take, replicate, length-replicate, get_or-replicate}
+use Rattle.std.specs.Prelude.{Option, Some, None}
 use Rattle.sets.specs.Words.{words, word_count}
 use Rattle.sets.specs.computed.Iteration.{Worked}
 use Rattle.sets.proofs.Words.{words_none}
@@ -34,7 +35,9 @@ use Rattle.routes.specs.declared.Value.{Value}
 use Rattle.routes.specs.computed.Worked.{worked}
 use Rattle.routes.specs.Route.{direct, run_of, marks_only, run_conditions, RanBy, Ran}
 use Rattle.routes.specs.internal.Answering.{Rooted}
-use Rattle.routes.specs.internal.Evaluating.{Records, FormulaPart, case_in, CaseParts, BinderBlocks, Shown, Asks, Rule, Evaluated}
+use Rattle.routes.specs.internal.Parts.{FormulaPart, case_in, CaseParts}
+use Rattle.routes.specs.internal.Evaluating.{nodes_of, transitions_of, Shown, Asks, Rule, Evaluated}
+use Rattle.routes.specs.declared.evaluator.Evaluator.{Evaluator}
 use Rattle.routes.proofs.DirectLaws.{direct_exists}
 use Rattle.routes.proofs.TableLaws.{binders_before}
 use Rattle.routes.proofs.RouteLaws.{case_accepted}
@@ -57,50 +60,37 @@ none_shown n t few = record {
       get_or-replicate block_limit (binder_count (take i t)) (replicate word_count 0) [] low ∙ words_none word_count n;
 }
 
-module _ {h : Header} {records formula masks : List ℕ} (limit : ℕ) (nodes : FormulaPart formula h.nodes h.actions) where
-  -- what the evaluator is handed at the root
-  pub root_asked : {blocks : List ℕ} → Records records h.transitions h.states h.labels → h.actions ≤ length masks
-      → length blocks ≡ node_limit → BinderBlocks (nodes_in formula h.nodes) blocks → Asks h records formula masks blocks 0 0 limit
-  root_asked model l b numbered = record {
-    parts = record {
-      model = model;
-      nodes = nodes;
-      masks_room = l;
-      blocks_room = omega (arith, nodes.holds.few);
-      numbered = numbered;
-    };
-    node = some_node nodes;
-    within = omega arith;
-  }
+module _ (ev : Evaluator) where
+  -- what it is asked at the root
+  pub root_asked : Asks ev 0 0
+  root_asked = record { node = some_node ev.parts.nodes; within = omega arith }
 
-  -- what it answers there
-  root_worked : {action : ℕ → Action} {o : Value} → ActionMasks action h.actions masks
-      → Evaluated h records formula masks (replicate block_limit (replicate word_count 0)) 0 0 limit o
-      → Rooted (worked h.states (transitions_in records h.transitions) (formula_at action (nodes_in formula h.nodes) 0) (all_empty h.states))
-      limit o
-  root_worked {action} {o} are e =
-      let n : ℕ = h.states in
-      let t : List Node = nodes_in formula h.nodes in
-      let w : Worked = worked n (transitions_in records h.transitions) (formula_at action t 0) (all_empty n) in
-      let shown = none_shown n t nodes.shallow in
-      let given : Rule h records formula masks (replicate block_limit (replicate word_count 0)) 0 0 limit action (all_empty n) w.0 w.1 =
-      (are, shown, direct_exists n (transitions_in records h.transitions) (formula_at action t 0) (all_empty n) shown.sized) in
-      let right : o.spent ≡ false → (o.rounds ≡ 0 + w.1) × (o.set ≡ words word_count w.0) =
-      λ z. e.right z action (all_empty n) w.0 w.1 given in
-      record {
-        over = λ z. omega (arith, e.over z action (all_empty n) w.0 w.1 given);
-        within = λ z. omega (arith, e.high z, (right z).0);
-        rounds = λ z. omega (arith, (right z).0);
-        set = λ z. (right z).1;
-      }
+  -- and what it answers there, of the case that the parts give
+  pub root_answer : (labels actions : List ℕ) → ActionMasks (action_in ev.header labels actions) ev.header.actions ev.masks.now
+      → (o : Option Value) → Evaluated ev (replicate block_limit (replicate word_count 0)) 0 0 o
+      → Rooted (run_of direct (case_in ev.header labels ev.records.now actions ev.formula.now)) ev.limit o
+  unfolding run_of case_in
+  root_answer labels actions are = go
+    where
+      n : ℕ
+      n = ev.header.states
 
--- and so of the case that the parts give
-pub root_answer : {h : Header} {labels records actions formula masks : List ℕ} {limit : ℕ} {o : Value} → CaseParts h labels records actions formula
-    → ActionMasks (action_in h labels actions) h.actions masks
-    → Evaluated h records formula masks (replicate block_limit (replicate word_count 0)) 0 0 limit o
-    → Rooted (run_of direct (case_in h labels records actions formula)) limit o
-unfolding run_of case_in
-root_answer {limit = limit} parts are e = root_worked limit parts.formula_part are e
+      action : ℕ → Action
+      action = action_in ev.header labels actions
+
+      w : Worked
+      w = worked n (transitions_of ev) (formula_at action (nodes_of ev) 0) (all_empty n)
+
+      given : Rule ev (replicate block_limit (replicate word_count 0)) 0 0 action (all_empty n) w.0 w.1
+      given =
+          let shown = none_shown n (nodes_of ev) ev.parts.nodes.shallow in
+          (are, shown, direct_exists n (transitions_of ev) (formula_at action (nodes_of ev) 0) (all_empty n) shown.sized)
+
+      go : (o : Option Value) → Evaluated ev (replicate block_limit (replicate word_count 0)) 0 0 o → Rooted w ev.limit o
+      go None e = omega (arith, e.over action (all_empty n) w.0 w.1 given)
+      go (Some x) e =
+          let right : (x.rounds ≡ 0 + w.1) × (x.set ≡ words word_count w.0) = e.right action (all_empty n) w.0 w.1 given in
+          record { within = omega (arith, e.high, right.0); rounds = omega (arith, right.0); set = right.1 }
 
 -- ---- an accepted case
 

@@ -18,7 +18,7 @@ use Rattle.cases.specs.internal.Checks.{nodes_in}
 use Rattle.cases.proofs.FormulaRules.{length_nodes}
 use Rattle.translate.proofs.ShapeFields.{node_read}
 use Rattle.translate.proofs.CaseSources.{nodes_pass}
-use Rattle.routes.specs.internal.Evaluating.{FormulaPart, BinderBlocks}
+use Rattle.routes.specs.internal.Parts.{FormulaPart, BinderBlocks}
 
 -- ---- a number for each node
 

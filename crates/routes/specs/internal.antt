@@ -1,3 +1,4 @@
 -- What serves the contracts of inner functions, and laws beneath the promises.
+pub mod Parts
 pub mod Evaluating
 pub mod Answering

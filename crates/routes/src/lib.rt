@@ -2,6 +2,7 @@
 #![tactic(auto)]
 
 mod evaluate;
+mod evaluator;
 mod modal;
 mod outcome;
 mod tables;
@@ -15,7 +16,7 @@ ghost use Rattle.cases.specs.Opening.{case_number};
 ghost use Rattle.cases.specs.Tally.{no_tally};
 ghost use Rattle.routes.specs.Route.{route_answer, direct as direct_route, lent, marks_only, run_conditions, RanBy, Ran, EquationRan};
 ghost use Rattle.routes.specs.internal.Answering.{Reported};
-ghost use Rattle.routes.specs.internal.Evaluating.{case_in, CaseParts};
+ghost use Rattle.routes.specs.internal.Parts.{case_in, CaseParts};
 
 use cases::{Header, Opened, TRANSITIONS, Tally, first_appearances};
 use evaluate::evaluate_root;
@@ -51,13 +52,12 @@ pub struct Numbers {
     pub rounds: u64,
 }
 
-// The set of a node, the node after its subtree, and the rounds so far; or the rounds are spent.
+// The set of a node, the node after its subtree, and the rounds so far.
 #[derive(Clone, Copy)]
 pub struct Value {
     pub set: [u64; WORDS],
     pub next: usize,
     pub rounds: u64,
-    pub spent: bool,
 }
 
 // What is reported of a set of states, after so many rounds.
@@ -90,10 +90,9 @@ pub fn direct_parts(
     if marks.len() < WORDS {
         return Err(Cause::Run(solver::Cause::Memory));
     }
-    let value = evaluate_root(h, labels, records, actions, formula, limit);
-    if value.spent {
+    let Some(value) = evaluate_root(h, labels, records, actions, formula, limit) else {
         return Err(Cause::Run(solver::Cause::Spent));
-    }
+    };
     let set = value.set;
     sets::store(marks, set);
     Ok(report_of(h, set, value.rounds))

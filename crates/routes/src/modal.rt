@@ -9,7 +9,8 @@ ghost use Rattle.cases.specs.Action.{Action, accepts};
 ghost use Rattle.cases.specs.internal.Masks.{mask_of};
 ghost use Rattle.cases.specs.Meaning.{set_of, from};
 ghost use Rattle.cases.specs.internal.Checks.{transitions_in};
-ghost use Rattle.routes.specs.internal.Evaluating.{modal_in, Records};
+ghost use Rattle.routes.specs.internal.Evaluating.{modal_in};
+ghost use Rattle.routes.specs.internal.Parts.{Records};
 
 use cases::{Transition, transition_at};
 use sets::WORDS;

@@ -2,7 +2,7 @@
 ghost use Rattle.std.specs.Prelude.{◌≡◌, length};
 ghost use Rattle.cases.specs.File.{node_limit};
 ghost use Rattle.cases.specs.internal.Checks.{nodes_in, NodesFit};
-ghost use Rattle.routes.specs.internal.Evaluating.{BinderBlocks};
+ghost use Rattle.routes.specs.internal.Parts.{BinderBlocks};
 
 use cases::{NODES, is_binder, node_at};
 

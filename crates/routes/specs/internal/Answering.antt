@@ -1,5 +1,5 @@
 -- What the parts of the two calls answer.
-use Rattle.std.specs.Prelude.{◌≡◌, true, false, List, ℕ, ◌<◌, ◌≤◌, length, Ok}
+use Rattle.std.specs.Prelude.{◌≡◌, List, ℕ, ◌<◌, ◌≤◌, length, Ok, Option, MatchOption}
 use Rattle.sets.specs.States.{States}
 use Rattle.sets.specs.Words.{words, word_count}
 use Rattle.sets.specs.computed.Iteration.{Worked}
@@ -15,9 +15,12 @@ pub record Reported (h : Header) (set : List ℕ) (rounds : ℕ) (report : Repor
   pub are : (c : Case) → c.initial ≡ h.initial → (v : States) → length v ≡ h.states → set ≡ words word_count v
       → route_answer (Ok report) ≡ report_of c.initial v rounds
 
--- the root's set and rounds, if they are within the limit
-pub record Rooted (w : Worked) (limit : ℕ) (o : Value) : Type 0 where
-  pub over : o.spent ≡ true → limit < w.1
-  pub within : o.spent ≡ false → w.1 ≤ limit
-  pub rounds : o.spent ≡ false → o.rounds ≡ w.1
-  pub set : o.spent ≡ false → o.set ≡ words word_count w.0
+-- the root's set and rounds, which are within the limit
+pub record RootValue (w : Worked) (limit : ℕ) (x : Value) : Type 0 where
+  pub within : w.1 ≤ limit
+  pub rounds : x.rounds ≡ w.1
+  pub set : x.set ≡ words word_count w.0
+
+-- them, or none if the rounds exceed the limit
+abbrev pub Rooted : Worked → ℕ → Option Value → Type 0
+Rooted w limit o = MatchOption o (limit < w.1) (RootValue w limit)

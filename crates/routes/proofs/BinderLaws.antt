@@ -57,7 +57,7 @@ shown_update {n} {t} {rows} {ρ} s i b {k} e v {held} z w =
 
 -- one turn of the loop of binder `at`: its body is worked out
 abbrev body : Evaluator → ℕ → (ℕ → Action) → Valuation → Step States
-body ev at action ρ = itself λ u. Direct ev.header.states (transitions_of ev) (formula_at action (nodes_of ev) (at + 1)) (update ρ at u)
+body ev at action ρ = itself λ u. Direct ev.case.header.states (transitions_of ev) (formula_at action (nodes_of ev) (at + 1)) (update ρ at u)
 
 -- words that hold a set of n states
 abbrev pub Holding : ℕ → List ℕ → States → Type 0
@@ -69,26 +69,26 @@ pub record Going (ev : Evaluator) (rows : List (List ℕ)) (at kind used block :
   pub low : used ≤ before
   pub high : before ≤ ev.limit
   pub left : (action : ℕ → Action) (ρ : Valuation) (v : States) (r : ℕ)
-      → ActionMasks action ev.header.actions ev.masks.now → Shown ev.header.states (nodes_of ev) rows ρ
-      → Loop (body ev at action ρ) (start ev.header.states (eqb kind 8)) v r
-      → Left (body ev at action ρ) (Holding ev.header.states held) v before (used + r)
+      → ActionMasks action ev.case.header.actions ev.masks.now → Shown ev.case.header.states (nodes_of ev) rows ρ
+      → Loop (body ev at action ρ) (start ev.case.header.states (eqb kind 8)) v r
+      → Left (body ev at action ρ) (Holding ev.case.header.states held) v before (used + r)
 
 -- it begins
 pub begins : {ev : Evaluator} {rows : List (List ℕ)} {at kind used block : ℕ} → used ≤ ev.limit
-    → {held : List ℕ} → held ≡ words word_count (start ev.header.states (eqb kind 8))
+    → {held : List ℕ} → held ≡ words word_count (start ev.case.header.states (eqb kind 8))
     → Going ev rows at kind used block held used rows
 begins {ev} {kind = kind} l e = record {
   others = λ row. refl;
   low = omega arith;
   high = l;
   left = λ action ρ v r m s run.
-      record { now = start ev.header.states (eqb kind 8); known = (length-replicate ev.header.states (eqb kind 8), e); rest = r; run = run; sum = refl };
+      record { now = start ev.case.header.states (eqb kind 8); known = (length-replicate ev.case.header.states (eqb kind 8), e); rest = r; run = run; sum = refl };
 }
 
 module _ {ev : Evaluator} {at used : ℕ} (q : Asks ev at used)
     {kind : ℕ} (k : KindAt ev at kind 7 8) where
   abbrev n : ℕ
-  n = ev.header.states
+  n = ev.case.header.states
 
   abbrev ts : List Transition
   ts = transitions_of ev
@@ -149,7 +149,7 @@ module _ {ev : Evaluator} {at used : ℕ} (q : Asks ev at used)
       }
 
       -- or the body's set is there.
-      found : (action : ℕ → Action) (ρ : Valuation) {u : States} {total : ℕ} → ActionMasks action ev.header.actions ev.masks.now → Shown n t rows ρ
+      found : (action : ℕ → Action) (ρ : Valuation) {u : States} {total : ℕ} → ActionMasks action ev.case.header.actions ev.masks.now → Shown n t rows ρ
           → (l : Left (body ev at action ρ) (Holding n held) u before total) (a w : States) (r : ℕ) → body ev at action ρ l.now a w r
           → (length w ≡ n) × (one.set ≡ words word_count w) × (r ≡ one.rounds - before)
       found action ρ m s l a w r d =
@@ -158,7 +158,7 @@ module _ {ev : Evaluator} {at used : ℕ} (q : Asks ev at used)
 
       -- sets with equal words are equal
       same : (v w : States) → length v ≡ n → length w ≡ n → words word_count v ≡ words word_count w → v ≡ w
-      same v w y z = words_inj word_count v w (y ∙ sym z) (omega (arith, ev.parts.model.few_states))
+      same v w y z = words_inj word_count v w (y ∙ sym z) (omega (arith, ev.case.parts.model.few_states))
 
       -- It is the set held: the loop stops.
       pub stopped : one.rounds < ev.limit → one.set ≡ held

@@ -1,6 +1,6 @@
 -- What a run promises with each answer, by its conditions; and what direct answers from the parts of a case.
 use mathlib.Core.Path.{◌≡◌, refl, sym, ap, ◌∙◌}
-use mathlib.Core.Bool.{Bool, true, false}
+use mathlib.Core.Bool.{Bool, false}
 use mathlib.Core.List.{List, ◌++◌}
 use Prim.Native.Nat.{ℕ, ◌<◌, ◌≤◌}
 use native.Mathlib.Omega.{arith}
@@ -22,7 +22,9 @@ use Rattle.solver.specs.declared.Report.{Report}
 use Rattle.routes.specs.declared.Value.{Value}
 use Rattle.routes.specs.Route.{route_number, route_answer, Route, direct, run_of, marks_only, too_short, exceeds, run_conditions, route_outcome, marks_after, RanBy}
 use Rattle.routes.specs.internal.Answering.{Reported, RootValue}
-use Rattle.routes.specs.internal.Parts.{case_in, CaseParts}
+use Rattle.routes.specs.internal.Parts.{case_in}
+use Rattle.routes.specs.internal.Given.{case_given}
+use Rattle.routes.specs.declared.direct_case.DirectCase.{DirectCase}
 use Rattle.routes.proofs.DirectLaws.{worked_sized}
 
 -- the two causes that a run has beside those of its case
@@ -96,15 +98,9 @@ run_sized : (c : Case) → length (run_of direct c).0 ≡ c.states
 unfolding run_of
 run_sized c = worked_sized c.states c.transitions c.formula (all_empty c.states) (λ k. length-replicate c.states false)
 
-pub states_few : {h : Header} {labels records actions formula : List ℕ} → CaseParts h labels records actions formula → h.states ≤ state_limit
-states_few parts = parts.model.few_states
-
-pub initial_few : {h : Header} {labels records actions formula : List ℕ} → CaseParts h labels records actions formula → h.initial < state_limit
-initial_few parts = omega (arith, parts.initial, parts.model.few_states)
-
-module _ {h : Header} {labels records actions formula : List ℕ} (parts : CaseParts h labels records actions formula) (marks : List ℕ) (limit : ℕ) where
+module _ (d : DirectCase) (marks : List ℕ) (limit : ℕ) where
   abbrev c : Case
-  c = case_in h labels records actions formula
+  c = case_given d
 
   pub too_short_lem : {o : Outcome} → o ≡ refused 13 → length marks < word_count → RanBy (conditions c marks limit) direct c marks o marks
   too_short_lem is h = ran_refused is (number_13 c marks limit h) (λ z. omega arith)
@@ -114,7 +110,7 @@ module _ {h : Header} {labels records actions formula : List ℕ} (parts : CaseP
     spent is over = ran_refused is (number_14 c marks limit room over) (λ z. omega arith)
 
     -- success
-    pub solved : {x : Value} → RootValue (run_of direct c) limit x → {report : Report} → Reported h x.set x.rounds report
+    pub solved : {x : Value} → RootValue (run_of direct c) limit x → {report : Report} → Reported d.header x.set x.rounds report
         → {after : List ℕ} → after ≡ x.set ++ drop word_count marks → RanBy (conditions c marks limit) direct c marks (route_answer (Ok report)) after
     unfolding case_in
     solved r f is = ran_solved (number_0 c marks limit room r.within)

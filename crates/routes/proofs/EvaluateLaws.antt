@@ -5,9 +5,8 @@ use mathlib.Core.List.{List, [], map}
 use Prim.Native.Nat.{ℕ, ◌+◌, ◌<◌}
 use native.Mathlib.Omega.{arith}
 use lib.Dec.{eqb}
-use lib.ListN.{length, get_or}
+use lib.ListN.{get_or}
 use Rattle.sets.specs.States.{States, has, start, Valuation}
-use Rattle.sets.specs.Lists.{numbers_from}
 use Rattle.sets.specs.Words.{words, word_count}
 use Rattle.cases.specs.Action.{Action}
 use Rattle.cases.specs.declared.Node.{Node}
@@ -19,7 +18,7 @@ use Rattle.cases.specs.internal.Masks.{mask_of}
 use Rattle.cases.specs.Meaning.{set_of}
 use Rattle.cases.proofs.Spans.{end_leaf, end_one, end_two, second_node, second_inside}
 use Rattle.routes.specs.Direct.{FromTwo, FromOne, Direct}
-use Rattle.routes.specs.internal.Evaluating.{modal_in, nodes_of, transitions_of, Asks, KindAt, Reached, Exceeded}
+use Rattle.routes.specs.internal.Evaluating.{Joined, modal_in, Finds, nodes_of, transitions_of, Asks, KindAt, Reached, Exceeded}
 use Rattle.routes.specs.declared.Value.{Value}
 use Rattle.routes.specs.declared.evaluator.Evaluator.{Evaluator}
 use Rattle.routes.proofs.DirectLaws.{direct_sized}
@@ -32,7 +31,7 @@ value set next rounds = record { set = set; next = next; rounds = rounds }
 
 module _ {ev : Evaluator} {at used : ℕ} (q : Asks ev at used) where
   abbrev n : ℕ
-  n = ev.header.states
+  n = ev.case.header.states
 
   abbrev ts : List Transition
   ts = transitions_of ev
@@ -58,7 +57,7 @@ module _ {ev : Evaluator} {at used : ℕ} (q : Asks ev at used) where
     }
 
     -- a variable
-    pub variable_done : {x : Node} → x ≡ node_in ev.formula.now at → x.kind ≡ 6 → {k : ℕ} → k ≡ get_or ev.blocks.now x.arg 0
+    pub variable_done : {x : Node} → x ≡ node_in ev.case.formula.part.now at → x.kind ≡ 6 → {k : ℕ} → k ≡ get_or ev.blocks.now x.arg 0
         → Reached ev rows at used (value (get_or rows k []) (at + 1) used)
     unfolding Direct
     variable_done {x} e is {k} b = record {
@@ -137,9 +136,7 @@ module _ {ev : Evaluator} {at used : ℕ} (q : Asks ev at used) where
         }
 
         -- or both sets are there, and their words are put together.
-        pub pair_done : {two : Value} → Reached ev rows one.next one.rounds two → {set : List ℕ}
-            → ((n : ℕ) (v w : States) → length v ≡ n → length w ≡ n → one.set ≡ words word_count v → two.set ≡ words word_count w
-            → set ≡ words word_count (map (λ s. cond (eqb kind 3) (has v s || has w s) (has v s && has w s)) (numbers_from 0 n)))
+        pub pair_done : {two : Value} → Reached ev rows one.next one.rounds two → {set : List ℕ} → Joined kind one.set two.set set
             → Reached ev rows at used (value set two.next two.rounds)
         pair_done second {set} both = record {
           low = omega (arith, first.low, second.low);
@@ -176,10 +173,10 @@ module _ {ev : Evaluator} {at used : ℕ} (q : Asks ev at used) where
     modal_first = operand q (omega (arith, one_operand)) q.within
 
     -- its argument is an action node
-    pub modal_inside : {x : Node} → x ≡ node_in ev.formula.now at → x.arg < ev.header.actions
+    pub modal_inside : {x : Node} → x ≡ node_in ev.case.formula.part.now at → x.arg < ev.case.header.actions
     modal_inside {x} e =
         let same = ap (λ (w : Node). w.kind) (node_read q e) in
-        modal_arg ev.formula.now q.node e ev.header.actions ev.parts.nodes (omega (arith, same, k.are, k.from)) (omega (arith, same, k.are, k.to))
+        modal_arg ev.case.formula.part.now q.node e ev.case.header.actions ev.case.parts.formula_part (omega (arith, same, k.are, k.from)) (omega (arith, same, k.are, k.to))
 
     module _ {rows : List (List ℕ)} where
       -- it spends the rounds
@@ -191,10 +188,8 @@ module _ {ev : Evaluator} {at used : ℕ} (q : Asks ev at used) where
       }
 
       -- or its set is there, and the states are found
-      pub modal_done : {one : Value} → Reached ev rows (at + 1) used one → {y : Node} → y ≡ node_in ev.formula.now at → {set : List ℕ}
-          → ((α : Action) (v : States) → get_or ev.masks.now y.arg 0 ≡ mask_of α → length v ≡ n → one.set ≡ words word_count v
-          → set ≡ words word_count (set_of n (modal_in (eqb kind 5) n ts α v)))
-          → Reached ev rows at used (value set one.next one.rounds)
+      pub modal_done : {one : Value} → Reached ev rows (at + 1) used one → {y : Node} → y ≡ node_in ev.case.formula.part.now at → {set : List ℕ}
+          → Finds ev (get_or ev.masks.now y.arg 0) one.set (modal_in (eqb kind 5) n ts) set → Reached ev rows at used (value set one.next one.rounds)
       modal_done first {y} is {set} found = record {
         low = first.low;
         high = first.high;

@@ -66,6 +66,9 @@ in_range {part} {m} {n} {l} r i h t e =
 abbrev pub leads_from : Action → States → Bool → ℕ → Transition → Bool
 leads_from α v inside s t = from s α t && beq (has v t.target) inside
 
+abbrev pub sources_before : Bool → List Transition → Action → States → ℕ → Bool
+sources_before inside ts α v s = for_some (leads_from α v inside s) ts
+
 -- those of n states
 abbrev pub sources_of : ℕ → Action → States → Bool → List Transition → States
 sources_of n α v inside ts = set_of n (λ s. for_some (leads_from α v inside s) ts)

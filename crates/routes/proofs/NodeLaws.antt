@@ -1,22 +1,25 @@
 -- The node that is to be evaluated: its kind, its operands, its formula's rule, and the block of a binder.
 use mathlib.Core.Path.{◌≡◌, refl, sym, ap, subst, ◌∙◌}
 use mathlib.Core.Bool.{Bool, true, false}
-use mathlib.Core.List.{List, map}
+use mathlib.Core.Logic.{◌⊎◌, inl, inr}
+use mathlib.Core.List.{List, [], ◌∷◌, map}
 use Prim.Native.Nat.{ℕ, ◌+◌, ◌<◌, ◌≤◌}
 use native.Mathlib.Omega.{arith}
 use native.Mathlib.Decide.{ℕ_discrete}
-use borrow.Author.Tests.{ltb-true, ltb-false}
-use lib.Dec.{ltb}
+use borrow.Author.Tests.{ltb-true, ltb-false, ne_eqb}
+use lib.Dec.{eqb, ltb}
 use lib.ListN.{length, get_or, take, length-map}
 use Rattle.sets.specs.States.{States, Valuation}
 use Rattle.solver.specs.File.{block_limit}
 use Rattle.cases.specs.Action.{Action}
 use Rattle.cases.specs.Formula.{Formula}
 use Rattle.cases.specs.declared.Node.{Node}
+use Rattle.cases.specs.declared.kinds.FormulaKind.{FormulaKind}
+use Rattle.cases.specs.declared.kinds.FormulaKind.TheVariants as formula
+use Rattle.cases.specs.Kinds.{formula_number}
 use Rattle.cases.specs.File.{node_in}
 use Rattle.cases.specs.Prefix.{arity_in, formula_arities, whole_formulas, end_of, formula_at}
 use Rattle.cases.specs.Conditions.{node_at, is_binder, binder_count}
-use Rattle.cases.specs.internal.Checks.{transitions_in, nodes_in}
 use Rattle.cases.specs.internal.Tables.{made, formula_operator, FormulaTable}
 use Rattle.cases.proofs.PrefixRules.{node_in_lem}
 use Rattle.cases.proofs.Spans.{exactly_whole, first_node}
@@ -37,6 +40,26 @@ by_kind P {kind = kind} {low = low} {high = high} k e p q = go (ℕ_discrete kin
     go : Dec (kind ≡ low) → P kind
     go (yes s) = subst P (sym s) p
     go (no d) = let s : high ≡ kind = omega (arith, k.from, k.to) in subst P s q
+
+-- the kind with a number of the file
+kind_of : ℕ → FormulaKind
+kind_of k = get_or (formula.False ∷ formula.True ∷ formula.And ∷ formula.Or ∷ formula.Box ∷ formula.Diamond ∷ formula.Variable ∷ formula.Mu ∷ formula.Nu ∷ []) k formula.False
+
+kind_back : (kind : FormulaKind) → kind_of (formula_number kind) ≡ kind
+unfolding kind_of
+kind_back formula.False = refl
+kind_back formula.True = refl
+kind_back formula.And = refl
+kind_back formula.Or = refl
+kind_back formula.Box = refl
+kind_back formula.Diamond = refl
+kind_back formula.Variable = refl
+kind_back formula.Mu = refl
+kind_back formula.Nu = refl
+
+-- so different kinds have different numbers
+pub other_kind : {kind other : FormulaKind} → ¬ (kind ≡ other) → eqb (formula_number kind) (formula_number other) ≡ false
+other_kind {kind} {other} d = ne_eqb _ _ (λ e. d (sym (kind_back kind) ∙ ap kind_of e ∙ kind_back other))
 
 -- ---- binders
 
@@ -63,7 +86,7 @@ module _ {ev : Evaluator} {at used : ℕ} (q : Asks ev at used) where
   ks = map (arity_in formula_arities) t
 
   abbrev Works : Formula → Valuation → States → ℕ → Type 0
-  Works = Direct ev.header.states (transitions_of ev)
+  Works = Direct ev.case.header.states (transitions_of ev)
 
   -- what node `at` makes of its operands if its kind is k
   abbrev made_at : (ℕ → Action) → ℕ → Formula
@@ -71,59 +94,75 @@ module _ {ev : Evaluator} {at used : ℕ} (q : Asks ev at used) where
 
   -- the table holds one whole formula
   formed : FormulaTable t
-  formed = formula_table_lem ev.header.actions t ev.parts.nodes.formed
+  formed = formula_table_lem ev.case.header.actions t ev.case.parts.formula_part.formed
 
   pub whole : whole_formulas 1 ks ≡ true
   whole = exactly_whole 1 ks formed.whole
 
   -- the node is one of the table
   pub inside : at < length t
-  inside = rw (length_nodes ev.formula.now ev.header.nodes) q.node
+  inside = rw (length_nodes ev.case.formula.part.now ev.case.header.nodes) q.node
 
   pub in_arities : at < length ks
   in_arities = rw (length-map t (arity_in formula_arities)) inside
 
   -- it is read, and so is its kind
-  pub node_read : {x : Node} → x ≡ node_in ev.formula.now at → node_at t at ≡ x
-  node_read e = node_in_lem ev.formula.now ev.header.nodes at _ q.node ∙ sym e
+  pub node_read : {x : Node} → x ≡ node_in ev.case.formula.part.now at → node_at t at ≡ x
+  node_read e = node_in_lem ev.case.formula.part.now ev.case.header.nodes at _ q.node ∙ sym e
 
-  pub kind_at : {x : Node} {low high : ℕ} → x ≡ node_in ev.formula.now at → low ≤ x.kind → x.kind ≤ high
+  pub kind_at : {x : Node} {low high : ℕ} → x ≡ node_in ev.case.formula.part.now at → low ≤ x.kind → x.kind ≤ high
       → KindAt ev at x.kind low high
   kind_at e l u = record { are = ap (λ (y : Node). y.kind) (sym (node_read e)); from = l; to = u }
 
+  -- the kind that it has by name
+  pub kind_is : {x : Node} {kind : FormulaKind} → x ≡ node_in ev.case.formula.part.now at → formula_number kind ≡ x.kind
+      → (is : FormulaKind) → kind ≡ is → {low high : ℕ} → low ≤ formula_number is → formula_number is ≤ high → KindAt ev at (formula_number is) low high
+  kind_is e n is same l u = record { are = ap formula_number (sym same) ∙ n ∙ ap (λ (y : Node). y.kind) (sym (node_read e)); from = l; to = u }
+
+  -- which is one of two
+  pub kind_either : {x : Node} {kind : FormulaKind} → x ≡ node_in ev.case.formula.part.now at → formula_number kind ≡ x.kind
+      → (low high : FormulaKind) → (kind ≡ low) ⊎ (kind ≡ high) → formula_number high ≡ formula_number low + 1
+      → KindAt ev at (formula_number kind) (formula_number low) (formula_number high)
+  kind_either e n low high (inl is) next =
+      let k = kind_is e n low is {low = formula_number low} {high = formula_number high} (omega arith) (omega arith) in
+      subst (λ (j : FormulaKind). KindAt ev at (formula_number j) (formula_number low) (formula_number high)) (sym is) k
+  kind_either e n low high (inr is) next =
+      let k = kind_is e n high is {low = formula_number low} {high = formula_number high} (omega arith) (omega arith) in
+      subst (λ (j : FormulaKind). KindAt ev at (formula_number j) (formula_number low) (formula_number high)) (sym is) k
+
   -- the kind is not more than 8
-  pub kind_known : {x : Node} → x ≡ node_in ev.formula.now at → x.kind ≤ 8
+  pub kind_known : {x : Node} → x ≡ node_in ev.case.formula.part.now at → x.kind ≤ 8
   kind_known {x} e = subst (λ (y : Node). y.kind ≤ 8) (node_read e) (formed.kinds at inside)
 
   -- another node of the table is asked for, after so many rounds
   pub asks : {to after : ℕ} → to < length ks → after ≤ ev.limit → Asks ev to after
-  asks {to} l w = record { node = rw (length-map t (arity_in formula_arities), length_nodes ev.formula.now ev.header.nodes) at l; within = w }
+  asks {to} l w = record { node = rw (length-map t (arity_in formula_arities), length_nodes ev.case.formula.part.now ev.case.header.nodes) at l; within = w }
 
   -- its first operand, if it has one
   pub operand : {after : ℕ} → 1 ≤ get_or ks at 0 → after ≤ ev.limit → Asks ev (at + 1) after
   operand l w = asks (first_node 1 ks whole at in_arities l) w
 
   -- a variable is bound by an earlier node
-  pub binder_of : {x : Node} → x ≡ node_in ev.formula.now at → x.kind ≡ 6 → Binder t x.arg
+  pub binder_of : {x : Node} → x ≡ node_in ev.case.formula.part.now at → x.kind ≡ 6 → Binder t x.arg
   binder_of {x} e k = subst (λ (y : Node). Binder t y.arg) (node_read e) bound
     where
       bound : Binder t (node_at t at).arg
       bound =
-          let b = variable_bound t ev.parts.nodes.bound at inside (ap (λ (y : Node). y.kind) (node_read e) ∙ k) in
+          let b = variable_bound t ev.case.parts.formula_part.bound at inside (ap (λ (y : Node). y.kind) (node_read e) ∙ k) in
           record { inside = omega (arith, b.before, inside); is = b.binder }
 
   -- a binder has a block number,
   pub block_read : {i : ℕ} → Binder t i → i < length ev.blocks.now
-  block_read b = omega (arith, b.inside, length_nodes ev.formula.now ev.header.nodes, ev.parts.blocks_room)
+  block_read b = omega (arith, b.inside, length_nodes ev.case.formula.part.now ev.case.header.nodes, ev.beside.blocks_room)
 
   -- which counts the binders before it
   pub block_of : {i k : ℕ} → Binder t i → k ≡ get_or ev.blocks.now i 0 → k ≡ binder_count (take i t)
-  block_of {i} b e = e ∙ ev.parts.numbered.block i b.inside b.is
+  block_of {i} b e = e ∙ ev.beside.numbered.block i b.inside b.is
 
   -- and is below six
   pub block_fits : {i k : ℕ} → Binder t i → k ≡ get_or ev.blocks.now i 0 → k < block_limit
   block_fits {i} b e =
-      omega (arith, block_of b e, binders_before t i b.inside b.is, ev.parts.nodes.shallow)
+      omega (arith, block_of b e, binders_before t i b.inside b.is, ev.case.parts.formula_part.shallow)
 
   module _ {kind low high : ℕ} (k : KindAt ev at kind low high) where
     -- how many operands it has

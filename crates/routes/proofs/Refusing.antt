@@ -2,12 +2,10 @@
 use mathlib.Core.Path.{◌≡◌, sym, ap, ◌∙◌}
 use mathlib.Core.List.{List}
 use Prim.Native.Nat.{ℕ}
+use Rattle.std.specs.Prelude.{Result, Err}
 use Rattle.sets.specs.Refusals.{refused, Outcome}
-use Rattle.cases.specs.File.{header_of}
 use Rattle.cases.specs.Conditions.{case_refusal}
 use Rattle.cases.specs.Opening.{case_number, Opens}
-use Rattle.cases.specs.declared.Opened.{Opened}
-use Rattle.cases.specs.declared.Opened.TheVariants.{Refused}
 use Rattle.cases.specs.declared.Cause.{Cause}
 use Rattle.cases.specs.declared.Tally.{Tally}
 use Rattle.cases.specs.Tally.{no_tally, tally_of}
@@ -19,7 +17,7 @@ use Rattle.routes.proofs.RouteLaws.{case_refused}
 use Rattle.routes.proofs.DirectAnswers.{ran_refused}
 use Rattle.routes.proofs.EquationAnswers.{translate_refused}
 
-module _ (b : List ℕ) {opened : Opened} {cause : Cause} (opens : Opens (case_refusal b) (header_of b) opened) (is : opened ≡ Refused cause)
+module _ (b : List ℕ) {A : Type 0} {right : A → Type 0} {opened : Result A Cause} {cause : Cause} (opens : Opens (case_refusal b) right opened) (is : opened ≡ Err cause)
     {o : Outcome} {t : Tally} (answers : (o ≡ refused (case_number cause)) × (t ≡ no_tally)) where
   none_there : t ≡ tally_of b
   none_there = answers.1 ∙ sym (tally_refused b (opened_refused opens is).1)

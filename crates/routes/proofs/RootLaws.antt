@@ -1,12 +1,11 @@
 -- Evaluating from the root: what the evaluator is handed and answers there, and the three parts of an accepted case.
-use mathlib.Core.Path.{◌≡◌, sym, ◌∙◌}
+use mathlib.Core.Path.{◌≡◌, refl, sym, ◌∙◌}
 use mathlib.Core.Bool.{false}
 use mathlib.Core.List.{List, []}
 use Prim.Native.Nat.{ℕ, ◌+◌, ◌<◌, ◌≤◌}
 use native.Mathlib.Omega.{arith}
 use borrow.Author.Tests.{ltb-false}
-use borrow.Author.Rules.{part_to_end}
-use lib.ListN.{length, take, replicate, length-replicate, get_or-replicate}
+use lib.ListN.{take, replicate, length-replicate, get_or-replicate}
 use Rattle.std.specs.Prelude.{Option, Some, None}
 use Rattle.sets.specs.Words.{words, word_count}
 use Rattle.sets.specs.computed.Iteration.{Worked}
@@ -17,26 +16,27 @@ use Rattle.cases.specs.Action.{Action}
 use Rattle.cases.specs.declared.Header.{Header}
 use Rattle.cases.specs.declared.Node.{Node}
 use Rattle.cases.specs.Prefix.{formula_at}
-use Rattle.cases.specs.File.{header_of, label_table, transition_table, action_table, formula_table, node_limit}
-use Rattle.cases.specs.Case.{case_of}
+use Rattle.cases.specs.File.{header_of, label_table, transition_table, action_table, formula_table}
+use Rattle.cases.specs.Case.{Case, case_of}
 use Rattle.cases.specs.declared.Tally.{Tally}
 use Rattle.cases.specs.Tally.{tally_of}
 use Rattle.cases.specs.Conditions.{binder_count, block_total, too_deep, Accepted}
 use Rattle.sets.specs.Refusals.{Outcome}
-use Rattle.cases.specs.internal.Checks.{labels_in, transitions_in, nodes_in}
+use Rattle.cases.specs.internal.Checks.{label_part, transition_part, action_part, formula_part, labels_in, transitions_in, nodes_in}
 use Rattle.cases.specs.internal.Masks.{action_in, ActionMasks}
 use Rattle.cases.proofs.Accepting.{Passed, passed}
 use Rattle.cases.proofs.TableTrees.{formula_table_lem, root}
 use Rattle.cases.proofs.Masks.{whole_actions}
 use Rattle.cases.proofs.ModelRules.{labels_inside, transitions_inside, actions_inside, nodes_inside}
-use Rattle.cases.proofs.Tallies.{model_holds, part_at}
+use Rattle.cases.proofs.Tallies.{model_holds}
 use Rattle.cases.proofs.FormulaRules.{length_nodes}
 use Rattle.routes.specs.declared.Value.{Value}
 use Rattle.routes.specs.computed.Worked.{worked}
 use Rattle.routes.specs.Route.{direct, run_of, marks_only, run_conditions, RanBy, Ran}
 use Rattle.routes.specs.internal.Answering.{Rooted}
 use Rattle.routes.specs.internal.Parts.{FormulaPart, case_in, CaseParts}
-use Rattle.routes.specs.internal.Evaluating.{nodes_of, transitions_of, Shown, Asks, Rule, Evaluated}
+use Rattle.routes.specs.internal.Given.{case_given}
+use Rattle.routes.specs.internal.Evaluating.{states_of, nodes_of, transitions_of, Shown, Asks, Rule, Evaluated}
 use Rattle.routes.specs.declared.evaluator.Evaluator.{Evaluator}
 use Rattle.routes.proofs.DirectLaws.{direct_exists}
 use Rattle.routes.proofs.TableLaws.{binders_before}
@@ -63,27 +63,26 @@ none_shown n t few = record {
 module _ (ev : Evaluator) where
   -- what it is asked at the root
   pub root_asked : Asks ev 0 0
-  root_asked = record { node = some_node ev.parts.nodes; within = omega arith }
+  root_asked = record { node = some_node ev.case.parts.formula_part; within = omega arith }
 
-  -- and what it answers there, of the case that the parts give
-  pub root_answer : (labels actions : List ℕ) → ActionMasks (action_in ev.header labels actions) ev.header.actions ev.masks.now
-      → (o : Option Value) → Evaluated ev (replicate block_limit (replicate word_count 0)) 0 0 o
-      → Rooted (run_of direct (case_in ev.header labels ev.records.now actions ev.formula.now)) ev.limit o
+  -- and what it answers there
+  pub root_answer : ActionMasks (action_in ev.case.header ev.case.labels.now ev.case.actions.now) ev.case.header.actions ev.masks.now
+      → (o : Option Value) → Evaluated ev (replicate block_limit (replicate word_count 0)) 0 0 o → Rooted (run_of direct (case_given ev.case)) ev.limit o
   unfolding run_of case_in
-  root_answer labels actions are = go
+  root_answer are = go
     where
       n : ℕ
-      n = ev.header.states
+      n = states_of ev
 
       action : ℕ → Action
-      action = action_in ev.header labels actions
+      action = action_in ev.case.header ev.case.labels.now ev.case.actions.now
 
       w : Worked
       w = worked n (transitions_of ev) (formula_at action (nodes_of ev) 0) (all_empty n)
 
       given : Rule ev (replicate block_limit (replicate word_count 0)) 0 0 action (all_empty n) w.0 w.1
       given =
-          let shown = none_shown n (nodes_of ev) ev.parts.nodes.shallow in
+          let shown = none_shown n (nodes_of ev) ev.case.parts.formula_part.shallow in
           (are, shown, direct_exists n (transitions_of ev) (formula_at action (nodes_of ev) 0) (all_empty n) shown.sized)
 
       go : (o : Option Value) → Evaluated ev (replicate block_limit (replicate word_count 0)) 0 0 o → Rooted w ev.limit o
@@ -100,43 +99,48 @@ unfolding too_deep block_total
 few_binders t e = omega (arith, ltb-false block_limit (block_total t) e)
 
 module _ (b : List ℕ) (accepted : Accepted b) where
-  -- The parts of an accepted case at the offsets of its header are as the evaluator asks,
-  header_parts : CaseParts (header_of b) (part_at b (header_of b).labels_at) (part_at b (header_of b).transitions_at) (part_at b (header_of b).actions_at) (part_at b (header_of b).formula_at)
+  -- The parts of an accepted case that start at its tables are as direct needs them,
+  header_parts : CaseParts (header_of b) (label_part b) (transition_part b) (action_part b) (formula_part b)
   unfolding transition_table action_table formula_table transitions_in nodes_in
   header_parts =
       let good : Passed b = passed b accepted in
       let l = good.lies in
       record {
-        model = rw (part_to_end b (header_of b).transitions_at) (record {
+        model = record {
           inside = transitions_inside l;
           ok = (model_holds b good.model).1;
           few_states = l.counts.few_states;
           few_labels = l.counts.few_labels;
-        });
+        };
         initial = (model_holds b good.model).0;
-        label_part = rw (part_to_end b (header_of b).labels_at) (labels_inside l);
-        action_part = rw (part_to_end b (header_of b).actions_at) (actions_inside l);
-        whole_actions = rw (part_to_end b (header_of b).actions_at) (whole_actions b good.actions);
-        formula_part = rw (part_to_end b (header_of b).formula_at) (record {
+        label_part = labels_inside l;
+        action_part = actions_inside l;
+        whole_actions = whole_actions b good.actions;
+        formula_part = record {
           holds = nodes_inside l;
           formed = good.formula;
           bound = good.variables;
           shallow = few_binders (formula_table b) good.depth;
-        });
+        };
       }
 
   -- and their case is the case of the bytes.
-  header_case : case_in (header_of b) (part_at b (header_of b).labels_at) (part_at b (header_of b).transitions_at) (part_at b (header_of b).actions_at) (part_at b (header_of b).formula_at) ≡ case_of b
+  header_case : case_in (header_of b) (label_part b) (transition_part b) (action_part b) (formula_part b) ≡ case_of b
   unfolding case_in case_of label_table transition_table action_table formula_table labels_in transitions_in nodes_in
-  header_case = rw (part_to_end b (header_of b).labels_at, part_to_end b (header_of b).transitions_at, part_to_end b (header_of b).actions_at, part_to_end b (header_of b).formula_at)
+  header_case = refl
 
-  module _ {h : Header} (is : h ≡ header_of b) where
-    pub case_parts : CaseParts h (part_at b h.labels_at) (part_at b h.transitions_at) (part_at b h.actions_at) (part_at b h.formula_at)
-    case_parts = rw is header_parts
+  -- So are parts that are equal to them.
+  module _ {h : Header} {labels records actions formula : List ℕ} (read : h ≡ header_of b) (ls : labels ≡ label_part b) (ts : records ≡ transition_part b)
+      (acts : actions ≡ action_part b) (fs : formula ≡ formula_part b) where
+    pub given_parts : CaseParts h labels records actions formula
+    given_parts = rw (read, ls, ts, acts, fs) header_parts
 
-    -- So what direct promises from the parts it promises of the case.
-    pub case_ran : {marks : List ℕ} {limit : ℕ} {o : Outcome} {after : List ℕ}
-        → RanBy (run_conditions direct (case_in h (part_at b h.labels_at) (part_at b h.transitions_at) (part_at b h.actions_at) (part_at b h.formula_at)) (marks_only marks) limit) direct
-        (case_in h (part_at b h.labels_at) (part_at b h.transitions_at) (part_at b h.actions_at) (part_at b h.formula_at)) marks o after
-        → {t : Tally} → t ≡ tally_of b → Ran direct b (marks_only marks) limit o t after
-    case_ran {marks} {limit} r {t} tally_is = record { tally_is = tally_is; by = ran_first (sym (case_accepted direct b (marks_only marks) limit accepted)) (rw (is, header_case) at r) }
+    pub given_case : case_in h labels records actions formula ≡ case_of b
+    given_case = rw (read, ls, ts, acts, fs) header_case
+
+  -- What direct promises of that case it promises of the bytes.
+  pub case_ran : {c : Case} {marks : List ℕ} {limit : ℕ} {o : Outcome} {after : List ℕ}
+      → RanBy (run_conditions direct c (marks_only marks) limit) direct c marks o after → c ≡ case_of b
+      → {t : Tally} → t ≡ tally_of b → Ran direct b (marks_only marks) limit o t after
+  case_ran {marks = marks} {limit = limit} r is tally_is =
+      record { tally_is = tally_is; by = ran_first (sym (case_accepted direct b (marks_only marks) limit accepted)) (rw is at r) }

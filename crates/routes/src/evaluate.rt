@@ -1,117 +1,88 @@
 // Evaluating a formula on sets of states: each node after its operands, a binder by rounds.
+ghost use Rattle.std.specs.Prelude.{◌≡◌, ◌≤◌, eqb};
+ghost use Rattle.sets.specs.States.{start as sign_start};
+ghost use Rattle.sets.specs.Words.{words, word_count, state_limit};
+ghost use Rattle.cases.specs.Kinds.{formula_number};
 ghost use Rattle.routes.specs.Route.{direct, run_of};
 ghost use Rattle.routes.specs.internal.Answering.{Rooted};
-ghost use Rattle.routes.specs.internal.Parts.{case_in, CaseParts};
-ghost use Rattle.routes.specs.internal.Evaluating.{Asks, KindAt, Evaluated};
+ghost use Rattle.routes.specs.internal.Given.{case_given};
+ghost use Rattle.routes.specs.internal.Evaluating.{Joined, Asks, KindAt, Evaluated};
 
 use crate::Value;
+use crate::direct_case::DirectCase;
 use crate::evaluator::Evaluator;
-use crate::modal::modal_set;
 use crate::tables::blocks_of;
-use cases::{Header, action_masks, node_at};
-use sets::WORDS;
+use cases::{FormulaKind, action_masks};
+use sets::{Set, WORDS};
 use solver::BLOCKS;
 
 impl<'a> Evaluator<'a> {
     // The set of node `at`, after `used` rounds; none if they are spent.
     #[cycle(binder_evaluate_modal_pair)]
-    fn evaluate(&self, sets: &[[u64; WORDS]; BLOCKS], at: usize, used: u64) -> Option<Value>
+    fn evaluate(&self, sets: &[Set; BLOCKS], at: usize, used: u64) -> Option<Value>
         requires { Asks self.now at used }
         ensures { Evaluated self.now sets.now at used result }
     {
-        let x = node_at(self.formula, at);
-        let kind = x.kind;
-        if kind <= 1 {
-            return Some(Value {
-                set: sets::initial(self.header.states, kind == 1),
+        let node = self.case.formula.at(at);
+        let kind = node.formula_kind();
+        match kind {
+            FormulaKind::False => Some(Value {
+                set: sets::empty(),
                 next: at + 1,
                 rounds: used,
-            });
-        }
-        if kind <= 3 {
-            return self.pair(sets, at, kind, used);
-        }
-        if kind <= 5 {
-            return self.modal(sets, at, kind, used);
-        }
-        if kind == 6 {
-            let k = usize::from(self.blocks[x.arg]);
-            return Some(Value {
-                set: sets[k],
+            }),
+            FormulaKind::True => Some(Value {
+                set: sets::full(self.case.header.states),
                 next: at + 1,
                 rounds: used,
-            });
+            }),
+            FormulaKind::And | FormulaKind::Or => self.pair(sets, at, kind, used),
+            FormulaKind::Box | FormulaKind::Diamond => self.modal(sets, at, kind, used),
+            FormulaKind::Variable => Some(Value {
+                set: sets[usize::from(self.blocks[node.arg])],
+                next: at + 1,
+                rounds: used,
+            }),
+            FormulaKind::Mu | FormulaKind::Nu => self.binder(sets, at, kind, used),
         }
-        self.binder(sets, at, kind, used)
     }
 
     // An and or an or: both operands, left first.
     #[cycle(binder_evaluate_modal_pair)]
-    fn pair(
-        &self,
-        sets: &[[u64; WORDS]; BLOCKS],
-        at: usize,
-        kind: usize,
-        used: u64,
-    ) -> Option<Value>
-        requires { Asks self.now at used × KindAt self.now at kind 2 3 }
+    fn pair(&self, sets: &[Set; BLOCKS], at: usize, kind: FormulaKind, used: u64) -> Option<Value>
+        requires { Asks self.now at used × KindAt self.now at (formula_number kind) 2 3 }
         ensures { Evaluated self.now sets.now at used result }
     {
-        let one = self.evaluate(sets, at + 1, used)?;
-        let two = self.evaluate(sets, one.next, one.rounds)?;
-        let left = one.set;
-        let right = two.set;
+        let left = self.evaluate(sets, at + 1, used)?;
+        let right = self.evaluate(sets, left.next, left.rounds)?;
         Some(Value {
-            set: sets::combine(left, right, kind == 3),
-            next: two.next,
-            rounds: two.rounds,
+            set: joined(kind, left.set, right.set),
+            ..right
         })
     }
 
     // A box or a diamond.
     #[cycle(binder_evaluate_modal_pair)]
-    fn modal(
-        &self,
-        sets: &[[u64; WORDS]; BLOCKS],
-        at: usize,
-        kind: usize,
-        used: u64,
-    ) -> Option<Value>
-        requires { Asks self.now at used × KindAt self.now at kind 4 5 }
+    fn modal(&self, sets: &[Set; BLOCKS], at: usize, kind: FormulaKind, used: u64) -> Option<Value>
+        requires { Asks self.now at used × KindAt self.now at (formula_number kind) 4 5 }
         ensures { Evaluated self.now sets.now at used result }
     {
-        let action = node_at(self.formula, at).arg;
+        let action = self.case.formula.at(at).arg;
         let one = self.evaluate(sets, at + 1, used)?;
-        let set = modal_set(
-            self.records,
-            self.header.transitions,
-            self.header.states,
-            self.header.labels,
-            self.masks[action],
-            one.set,
-            kind == 5,
-        );
         Some(Value {
-            set: set,
-            next: one.next,
-            rounds: one.rounds,
+            set: self.modal_set(kind, self.masks[action], &one.set),
+            ..one
         })
     }
 
     // A mu or a nu: the rounds of its loop. The sets of outer binders are held.
     #[cycle(binder_evaluate_modal_pair)]
-    fn binder(
-        &self,
-        sets: &[[u64; WORDS]; BLOCKS],
-        at: usize,
-        kind: usize,
-        used: u64,
-    ) -> Option<Value>
-        requires { Asks self.now at used × KindAt self.now at kind 7 8 }
+    fn binder(&self, sets: &[Set; BLOCKS], at: usize, kind: FormulaKind, used: u64) -> Option<Value>
+        requires { Asks self.now at used × KindAt self.now at (formula_number kind) 7 8 }
         ensures { Evaluated self.now sets.now at used result }
     {
         let k = usize::from(self.blocks[at]);
-        let mut held = sets::initial(self.header.states, kind == 8);
+        let mut held = start(kind, self.case.header.states);
         let mut before = used;
         let mut s = *sets;
         loop {
@@ -121,38 +92,47 @@ impl<'a> Evaluator<'a> {
             if self.limit <= rounds {
                 return None;
             }
-            let next = one.set;
-            if sets::equal(&next, &held) {
+            if one.set == held {
                 return Some(Value {
-                    set: next,
-                    next: one.next,
                     rounds: rounds + 1,
+                    ..one
                 });
             }
-            held = next;
+            held = one.set;
             before = rounds + 1;
         }
     }
 }
 
-// The set of a formula's root. It is handed the counts, and the parts of the case that start at its tables.
-pub fn evaluate_root(
-    h: Header,
-    labels: &[u8],
-    records: &[u8],
-    actions: &[u8],
-    formula: &[u8],
-    limit: u64,
-) -> Option<Value>
-    requires { CaseParts h labels.now records.now actions.now formula.now }
-    ensures { Rooted (run_of direct (case_in h labels.now records.now actions.now formula.now)) limit result }
+// The states in both sets; for an or, those in at least one.
+fn joined(kind: FormulaKind, left: Set, right: Set) -> Set
+    ensures { Joined (formula_number kind) left right result }
 {
-    let masks = action_masks(labels, h, actions);
-    let blocks = blocks_of(formula, h.nodes);
+    match kind {
+        FormulaKind::Or => sets::union(left, right),
+        _ => sets::intersection(left, right),
+    }
+}
+
+// Where a binder's loop starts: no state; for a nu, every state below n.
+fn start(kind: FormulaKind, n: usize) -> Set
+    requires { n ≤ state_limit }
+    ensures { result ≡ words word_count (sign_start n (eqb (formula_number kind) 8)) }
+{
+    match kind {
+        FormulaKind::Nu => sets::full(n),
+        _ => sets::empty(),
+    }
+}
+
+// The set of a formula's root.
+pub fn evaluate_root(case: &DirectCase<'_>, limit: u64) -> Option<Value>
+    ensures { Rooted (run_of direct (case_given case.now)) limit result }
+{
+    let masks = action_masks(case.labels, case.header, case.actions);
+    let blocks = blocks_of(&case.formula);
     let evaluator = Evaluator {
-        header: h,
-        records: records,
-        formula: formula,
+        case: *case,
         masks: &masks,
         blocks: &blocks,
         limit: limit,

@@ -1,17 +1,14 @@
 // What evaluating a formula stands on.
-ghost use Rattle.routes.specs.internal.Parts.{Parts};
+ghost use Rattle.routes.specs.internal.Parts.{Beside};
 
-use cases::Header;
+use crate::direct_case::DirectCase;
 
-// The counts of a case, its transition records and its formula table, and beside them, for each action formula, the labels accepted as a
-// mask, and for each node its block; and how many rounds there may be.
+// A case, and beside it, for each action formula, the labels accepted as a mask, and for each node its block; and how many rounds there may be.
 #[derive(Clone, Copy)]
 pub struct Evaluator<'a> {
-    pub header: Header,
-    pub records: &'a [u8],
-    pub formula: &'a [u8],
+    pub case: DirectCase<'a>,
     pub masks: &'a [u64],
     pub blocks: &'a [u8],
     pub limit: u64,
-    ghost parts: { Parts header records.now formula.now masks.now blocks.now },
+    ghost beside: { Beside case.header case.formula.part.now masks.now blocks.now },
 }

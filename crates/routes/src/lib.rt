@@ -1,6 +1,7 @@
 // The two routes from a case to its marks: directly on sets of states, and by way of its equation file.
 #![tactic(auto)]
 
+mod direct_case;
 mod evaluate;
 mod evaluator;
 mod modal;
@@ -10,18 +11,17 @@ mod tables;
 ghost use Rattle.std.specs.Prelude.{◌≡◌, ◌<◌, ◌≤◌};
 ghost use Rattle.sets.specs.Words.{state_limit};
 ghost use Rattle.sets.specs.Refusals.{refused as refused_outcome};
-ghost use Rattle.cases.specs.File.{header_of};
-ghost use Rattle.cases.specs.Conditions.{Accepted};
 ghost use Rattle.cases.specs.Opening.{case_number};
 ghost use Rattle.cases.specs.Tally.{no_tally};
 ghost use Rattle.routes.specs.Route.{route_answer, direct as direct_route, lent, marks_only, run_conditions, RanBy, Ran, EquationRan};
 ghost use Rattle.routes.specs.internal.Answering.{Reported};
-ghost use Rattle.routes.specs.internal.Parts.{case_in, CaseParts};
+ghost use Rattle.routes.specs.internal.Given.{case_given};
 
-use cases::{Header, Opened, TRANSITIONS, Tally, first_appearances};
+use cases::{Header, OpenCase, TRANSITIONS, Tally, first_appearances};
+pub use direct_case::DirectCase;
 use evaluate::evaluate_root;
 pub use outcome::{numbers_of, solving_answer};
-use sets::WORDS;
+use sets::{Set, WORDS};
 pub use solver::Report;
 use translate::write_case;
 
@@ -55,13 +55,13 @@ pub struct Numbers {
 // The set of a node, the node after its subtree, and the rounds so far.
 #[derive(Clone, Copy)]
 pub struct Value {
-    pub set: [u64; WORDS],
+    pub set: Set,
     pub next: usize,
     pub rounds: u64,
 }
 
 // What is reported of a set of states, after so many rounds.
-fn report_of(h: Header, set: [u64; WORDS], rounds: u64) -> Report
+fn report_of(h: Header, set: Set, rounds: u64) -> Report
     requires { (h.states ≤ state_limit) × (h.initial < state_limit) }
     ensures { Reported h set rounds result }
 {
@@ -72,52 +72,36 @@ fn report_of(h: Header, set: [u64; WORDS], rounds: u64) -> Report
     }
 }
 
-// Direct on the header of a case and the parts of its file that start at its tables.
-pub fn direct_parts(
-    h: Header,
-    labels: &[u8],
-    records: &[u8],
-    actions: &[u8],
-    formula: &[u8],
-    marks: &mut [u64],
-    limit: u64,
-) -> Answer
-    requires { CaseParts h labels.now records.now actions.now formula.now }
-    ensures { RanBy
-        (run_conditions direct_route (case_in h labels.now records.now actions.now formula.now) (marks_only marks.old) limit)
-        direct_route (case_in h labels.now records.now actions.now formula.now) marks.old (route_answer result) marks.new }
+// Direct on a case and its tables.
+pub fn direct_parts(case: &DirectCase<'_>, marks: &mut [u64], limit: u64) -> Answer
+    ensures { RanBy (run_conditions direct_route (case_given case.now) (marks_only marks.old) limit)
+        direct_route (case_given case.now) marks.old (route_answer result) marks.new }
 {
     if marks.len() < WORDS {
         return Err(Cause::Run(solver::Cause::Memory));
     }
-    let Some(value) = evaluate_root(h, labels, records, actions, formula, limit) else {
+    let Some(value) = evaluate_root(case, limit) else {
         return Err(Cause::Run(solver::Cause::Spent));
     };
     let set = value.set;
     sets::store(marks, set);
-    Ok(report_of(h, set, value.rounds))
+    Ok(report_of(case.header, set, value.rounds))
 }
 
-// Direct on an accepted case and its header.
-fn direct_opened(case: &[u8], h: Header, marks: &mut [u64], limit: u64) -> Tallied
-    requires { Accepted case.now × (h ≡ header_of case.now) }
-    ensures { Ran direct_route case.now (marks_only marks.old) limit (route_answer result.answer) result.tally marks.new }
+// Direct on an accepted case.
+fn direct_opened(case: &OpenCase<'_>, marks: &mut [u64], limit: u64) -> Tallied
+    ensures { Ran direct_route case.now.bytes.now (marks_only marks.old) limit (route_answer result.answer) result.tally marks.new }
 {
     let mut first = [0u8; TRANSITIONS];
-    let tally = first_appearances(case, h, &mut first);
-    let labels = h.labels_at;
-    let records = h.transitions_at;
-    let actions = h.actions_at;
-    let formula = h.formula_at;
-    let answer = direct_parts(
-        h,
-        &case[labels..],
-        &case[records..],
-        &case[actions..],
-        &case[formula..],
-        marks,
-        limit,
-    );
+    let tally = first_appearances(case.bytes, case.header, &mut first);
+    let given = DirectCase {
+        header: case.header,
+        labels: case.labels().part,
+        transitions: case.transitions(),
+        actions: case.actions().part,
+        formula: case.formula(),
+    };
+    let answer = direct_parts(&given, marks, limit);
     Tallied {
         answer: answer,
         tally: tally,
@@ -142,28 +126,26 @@ pub fn direct(case: &[u8], marks: &mut [u64], limit: u64) -> Tallied
     ensures { Ran direct_route case.now (marks_only marks.old) limit (route_answer result.answer) result.tally marks.new }
 {
     match cases::open(case) {
-        Opened::Accepted(h) => direct_opened(case, h, marks, limit),
-        Opened::Refused(cause) => unopened(cause),
+        Ok(opened) => direct_opened(&opened, marks, limit),
+        Err(cause) => unopened(cause),
     }
 }
 
-// The equation route on an accepted case and its header. First appearances are found once, for the file and for the tally. Without a file
-// the buffer was too short, for the case is accepted.
+// The equation route on an accepted case. First appearances are found once, for the file and for the tally. Without a file the buffer was too
+// short, for the case is accepted.
 fn equation_opened(
-    case: &[u8],
-    h: Header,
+    case: &OpenCase<'_>,
     file: &mut [u8],
     work: &mut [u8],
     marks: &mut [u64],
     limit: u64,
 ) -> Tallied
-    requires { Accepted case.now × (h ≡ header_of case.now) }
-    ensures { EquationRan case.now (lent file.old work.old marks.old) limit (route_answer result.answer) result.tally
+    ensures { EquationRan case.now.bytes.now (lent file.old work.old marks.old) limit (route_answer result.answer) result.tally
         file.new work.new marks.new }
 {
     let mut first = [0u8; TRANSITIONS];
-    let tally = first_appearances(case, h, &mut first);
-    let written = write_case(case, h, &first, file);
+    let tally = first_appearances(case.bytes, case.header, &mut first);
+    let written = write_case(case.bytes, case.header, &first, file);
     let Ok(length) = written else {
         return Tallied {
             answer: Err(Cause::Run(solver::Cause::Memory)),
@@ -190,7 +172,7 @@ pub fn equation(
         file.new work.new marks.new }
 {
     match cases::open(case) {
-        Opened::Accepted(h) => equation_opened(case, h, file, work, marks, limit),
-        Opened::Refused(cause) => unopened(cause),
+        Ok(opened) => equation_opened(&opened, file, work, marks, limit),
+        Err(cause) => unopened(cause),
     }
 }

@@ -1,6 +1,6 @@
 // Answers of solve's as answers of a route, and answers as numbers.
 ghost use Rattle.std.specs.Prelude.{◌≡◌};
-ghost use Rattle.solver.specs.Outcome.{solve_answer, solve_number};
+ghost use Rattle.solver.specs.Outcome.{solve_answer};
 ghost use Rattle.routes.specs.Route.{route_number, route_answer, shown};
 ghost use Rattle.routes.specs.declared.Cause.TheVariants.{Open, Run};
 
@@ -28,22 +28,7 @@ impl From<solver::Cause> for Cause {
 pub fn solving_answer(answer: solver::Answer) -> Answer
     ensures { route_answer result ≡ solve_answer answer }
 {
-    match answer {
-        solver::Answer::Solved(report) => Ok(report),
-        solver::Answer::Refused(cause) => Err(Cause::from(cause)),
-    }
-}
-
-// The number of a cause that is found on running a case.
-fn running_number(cause: solver::Cause) -> u64
-    ensures { result ≡ solve_number cause }
-{
-    match cause {
-        solver::Cause::Layout => 11,
-        solver::Cause::Table => 12,
-        solver::Cause::Memory => 13,
-        solver::Cause::Spent => 14,
-    }
+    Ok(answer?)
 }
 
 // The number of a cause.
@@ -53,8 +38,8 @@ impl From<Cause> for u64 {
     #[tactic(auto, unfolding(crate::specs::Route::route_number))]
     fn from(cause: Cause) -> u64 {
         match cause {
-            Cause::Open(cause) => u64::from(cases::number_of(cause)),
-            Cause::Run(cause) => running_number(cause),
+            Cause::Open(cause) => u64::from(cause),
+            Cause::Run(cause) => u64::from(cause),
         }
     }
 }

@@ -1,10 +1,9 @@
-use mathlib.Core.Path.{refl}
 use Rattle.cases.proofs.Openings.{accepted}
 use Rattle.routes.proofs.Refusing.{equation_refused}
 use Rattle.routes.proofs.equation.Goals as goal
 
-pub equation_opened-requires : goal.equation_opened-requires
-equation_opened-requires c = accepted c.in-Accepted.ensures refl
+pub returns-in-Ok : goal.returns-in-Ok
+returns-in-Ok c = rw (accepted c.«open».ensures c.in-Ok.is).1.0 at c.equation_opened.ensures
 
-pub returns-in-Refused : goal.returns-in-Refused
-returns-in-Refused c = equation_refused _ c.in-Refused.ensures refl c.unopened.ensures
+pub returns-in-Err : goal.returns-in-Err
+returns-in-Err c = equation_refused _ c.«open».ensures c.in-Err.is c.unopened.ensures

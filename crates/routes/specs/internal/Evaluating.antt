@@ -1,14 +1,15 @@
 -- What the evaluator is asked, and what it answers.
-use Rattle.std.specs.Prelude.{◌≡◌, Bool, true, cond, List, [], map, ℕ, ◌+◌, ◌<◌, ◌≤◌, length, get_or, take, Option, MatchOption}
-use Rattle.sets.specs.States.{States, Valuation}
+use Rattle.std.specs.Prelude.{◌≡◌, Bool, true, cond, ◌&&◌, ◌||◌, eqb, List, [], map, ℕ, ◌+◌, ◌<◌, ◌≤◌, length, get_or, take, Option, MatchOption}
+use Rattle.sets.specs.States.{States, has, Valuation}
+use Rattle.sets.specs.Lists.{numbers_from}
 use Rattle.sets.specs.Words.{words, word_count}
 use Rattle.cases.specs.Action.{Action}
 use Rattle.cases.specs.declared.Node.{Node}
 use Rattle.cases.specs.declared.Transition.{Transition}
 use Rattle.cases.specs.Prefix.{arity_in, formula_arities, end_of, formula_at}
 use Rattle.cases.specs.Conditions.{node_at, is_binder, binder_count}
-use Rattle.cases.specs.internal.Masks.{ActionMasks}
-use Rattle.cases.specs.Meaning.{box_in, diamond_in}
+use Rattle.cases.specs.internal.Masks.{mask_of, ActionMasks}
+use Rattle.cases.specs.Meaning.{set_of, box_in, diamond_in}
 use Rattle.cases.specs.internal.Checks.{transitions_in, nodes_in}
 use Rattle.routes.specs.Direct.{Direct}
 use Rattle.routes.specs.declared.Value.{Value}
@@ -18,6 +19,11 @@ use Rattle.routes.specs.declared.evaluator.Evaluator.{Evaluator}
 abbrev pub modal_in : Bool → ℕ → List Transition → Action → States → ℕ → Bool
 modal_in diamond n ts α v = cond diamond (diamond_in n ts α v) (box_in n ts α v)
 
+-- the words of the states in both sets, or for the kind of an or in at least one
+abbrev pub Joined : ℕ → List ℕ → List ℕ → List ℕ → Type 0
+Joined kind left right both = (n : ℕ) (v w : States) → length v ≡ n → length w ≡ n → left ≡ words word_count v → right ≡ words word_count w
+    → both ≡ words word_count (map (λ s. cond (eqb kind 3) (has v s || has w s) (has v s && has w s)) (numbers_from 0 n))
+
 -- row k is the words of the set of the binder with block k
 pub record Shown (n : ℕ) (table : List Node) (rows : List (List ℕ)) (ρ : Valuation) : Type 0 where
   pub sized : (i : ℕ) → length (ρ i) ≡ n
@@ -25,16 +31,24 @@ pub record Shown (n : ℕ) (table : List Node) (rows : List (List ℕ)) (ρ : Va
 
 -- ---- of an evaluator
 
--- its formula table and its transitions
+-- its number of states, its formula table and its transitions
+abbrev pub states_of : Evaluator → ℕ
+states_of ev = ev.case.header.states
+
 abbrev pub nodes_of : Evaluator → List Node
-nodes_of ev = nodes_in ev.formula.now ev.header.nodes
+nodes_of ev = nodes_in ev.case.formula.part.now ev.case.header.nodes
 
 abbrev pub transitions_of : Evaluator → List Transition
-transitions_of ev = transitions_in ev.records.now ev.header.transitions
+transitions_of ev = transitions_in ev.case.transitions.part.now ev.case.header.transitions
+
+-- The set that is found has the states with a property that an action and a set decide, if these labels are the action's and this set is held.
+abbrev pub Finds : Evaluator → ℕ → List ℕ → (Action → States → ℕ → Bool) → List ℕ → Type 0
+Finds ev labels held p found = (α : Action) (v : States) → labels ≡ mask_of α → length v ≡ states_of ev → held ≡ words word_count v
+    → found ≡ words word_count (set_of (states_of ev) (p α v))
 
 -- a node to evaluate, after `used` rounds
 pub record Asks (ev : Evaluator) (at used : ℕ) : Type 0 where
-  pub node : at < ev.header.nodes
+  pub node : at < ev.case.header.nodes
   pub within : used ≤ ev.limit
 
 -- the kind of node `at`, which is one of two
@@ -47,9 +61,9 @@ module _ (ev : Evaluator) (rows : List (List ℕ)) (at used : ℕ) where
   -- what the rule works out at the node
   abbrev pub Rule : (ℕ → Action) → Valuation → States → ℕ → Type 0
   Rule action ρ v r =
-      ActionMasks action ev.header.actions ev.masks.now
-      × Shown ev.header.states (nodes_of ev) rows ρ
-      × Direct ev.header.states (transitions_of ev) (formula_at action (nodes_of ev) at) ρ v r
+      ActionMasks action ev.case.header.actions ev.masks.now
+      × Shown (states_of ev) (nodes_of ev) rows ρ
+      × Direct (states_of ev) (transitions_of ev) (formula_at action (nodes_of ev) at) ρ v r
 
   -- Its value: the set and the rounds are the rule's, and the rounds are within the limit.
   pub record Reached (x : Value) : Type 0 where

@@ -49,10 +49,8 @@ pub record CaseParts (h : Header) (labels records actions formula : List ℕ) : 
 pub record BinderBlocks (table : List Node) (blocks : List ℕ) : Type 0 where
   pub block : (i : ℕ) → i < length table → is_binder (node_at table i) ≡ true → get_or blocks i 0 ≡ binder_count (take i table)
 
--- all of it, with room for a mask of each action formula and a block of each node
-pub record Parts (h : Header) (records formula masks blocks : List ℕ) : Type 0 where
-  pub model : Records records h.transitions h.states h.labels
-  pub nodes : FormulaPart formula h.nodes h.actions
+-- room for a mask of each action formula, and the blocks of the nodes
+pub record Beside (h : Header) (formula masks blocks : List ℕ) : Type 0 where
   pub masks_room : h.actions ≤ length masks
   pub blocks_room : h.nodes ≤ length blocks
   pub numbered : BinderBlocks (nodes_in formula h.nodes) blocks

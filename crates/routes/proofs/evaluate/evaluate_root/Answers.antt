@@ -5,4 +5,4 @@ pub evaluate-requires : goal.evaluate-requires
 evaluate-requires c = root_asked _
 
 pub returns : goal.returns
-returns c = root_answer _ _ _ c.action_masks-masks.ensures.1 _ c.evaluate.ensures
+returns c = root_answer _ c.action_masks-masks.ensures.1 _ c.evaluate.ensures

@@ -93,7 +93,7 @@ fn direct_opened(case: &OpenCase<'_>, marks: &mut [u64], limit: u64) -> Tallied
     ensures { Ran direct_route case.now.bytes.now (marks_only marks.old) limit (route_answer result.answer) result.tally marks.new }
 {
     let mut first = [0u8; TRANSITIONS];
-    let tally = first_appearances(case.bytes, case.header, &mut first);
+    let tally = first_appearances(case, &mut first);
     let given = DirectCase {
         header: case.header,
         labels: case.labels().part,
@@ -134,18 +134,18 @@ pub fn direct(case: &[u8], marks: &mut [u64], limit: u64) -> Tallied
 // The equation route on an accepted case. First appearances are found once, for the file and for the tally. Without a file the buffer was too
 // short, for the case is accepted.
 fn equation_opened(
-    case: &OpenCase<'_>,
+    case: OpenCase<'_>,
     file: &mut [u8],
     work: &mut [u8],
     marks: &mut [u64],
     limit: u64,
 ) -> Tallied
-    ensures { EquationRan case.now.bytes.now (lent file.old work.old marks.old) limit (route_answer result.answer) result.tally
+    ensures { EquationRan case.entry.bytes.now (lent file.old work.old marks.old) limit (route_answer result.answer) result.tally
         file.new work.new marks.new }
 {
     let mut first = [0u8; TRANSITIONS];
-    let tally = first_appearances(case.bytes, case.header, &mut first);
-    let written = write_case(case.bytes, case.header, &first, file);
+    let tally = first_appearances(&case, &mut first);
+    let written = write_case(&case, &first, file);
     let Ok(length) = written else {
         return Tallied {
             answer: Err(Cause::Run(solver::Cause::Memory)),
@@ -172,7 +172,7 @@ pub fn equation(
         file.new work.new marks.new }
 {
     match cases::open(case) {
-        Ok(opened) => equation_opened(&opened, file, work, marks, limit),
+        Ok(opened) => equation_opened(opened, file, work, marks, limit),
         Err(cause) => unopened(cause),
     }
 }

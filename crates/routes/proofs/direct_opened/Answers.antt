@@ -13,4 +13,4 @@ pub returns : goal.returns
 returns c =
     let b = c.args.case.now in
     let is = given_case _ b.accepted b.read c.labels.ensures.part c.transitions.ensures.part c.actions.ensures.part c.formula.ensures.part in
-    case_ran _ b.accepted c.direct_parts-answer.ensures is c.first_appearances-tally.ensures.1
+    case_ran _ b.accepted c.direct_parts-answer.ensures is c.first_appearances-tally.ensures.tally

@@ -54,18 +54,6 @@ masks_first action a masks h m =
 
 -- Of an accepted case, by its header and its parts:
 module _ (b : List ℕ) (accepted : Accepted b) {h : Header} (e : h ≡ header_of b) where
-  module _ {labels actions : List ℕ} (l : labels ≡ label_part b) (a : actions ≡ action_part b) where
-    -- what is asked for the masks of its action formulas
-    pub masks_asked : LabelPart labels h × NodesFit action_limit actions h.actions × WholeActions h.labels (nodes_in actions h.actions)
-    masks_asked = rw (e, l, a) (of_case.masks_asked b accepted)
-
-    -- they are those of the case
-    pub masks_are : {masks : List ℕ} → ActionMasks (action_in h labels actions) h.actions masks → ActionMasks (case_action b) h.actions masks
-    unfolding action_table label_table labels_in nodes_in
-    masks_are {masks} m =
-        let is : action_in h labels actions ≡ case_action b = rw (e, l, a) refl in
-        subst (λ (f : ℕ → Action). ActionMasks f h.actions masks) is m
-
   -- its formula table can be read
   pub table_some : 1 ≤ h.nodes
   table_some = rw e (passed b accepted).lies.counts.some_node

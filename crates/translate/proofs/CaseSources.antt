@@ -136,12 +136,6 @@ module _ (b : List ℕ) (accepted : Accepted b) where
       ) in
       rw (node_in_lem (formula_part b) (header_of b).nodes i (record { kind = 0; arg = 0 }) h) at known
 
-  -- what is asked for the masks of its action formulas
-  pub masks_asked : LabelPart (label_part b) (header_of b) × NodesFit action_limit (action_part b) (header_of b).actions
-      × WholeActions (header_of b).labels (nodes_in (action_part b) (header_of b).actions)
-  unfolding action_table nodes_in
-  masks_asked = (labels_inside good.lies, actions_inside good.lies, whole_actions b good.actions)
-
   -- its parts and counts are within their limits
   pub parts : (6 * (header_of b).transitions ≤ length (transition_part b)) × ((header_of b).transitions ≤ transition_limit) × (1 ≤ (header_of b).nodes)
       × ((header_of b).transitions_at ≤ length b) × ((header_of b).actions_at ≤ length b) × ((header_of b).formula_at ≤ length b) × ((header_of b).labels_at ≤ length b)

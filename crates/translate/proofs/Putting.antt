@@ -15,16 +15,6 @@ unfolding bytes
 bytes_append [] ys = refl
 bytes_append (x ∷ xs) ys = rw (bytes_append xs ys)
 
--- four bytes that are stored one by one are those of a number
-pub wrote_number : (x : ℕ) (s : List ℕ) → 4 ≤ length s
-    → Wrote (x ∷ []) s (set (set (set (set s 0 (x % 256)) 1 (x / 256 % 256)) 2 (x / 65536 % 256)) 3 (x / 16777216 % 256))
-unfolding bytes
-wrote_number x [] h = absurd (omega arith)
-wrote_number x (_ ∷ []) h = absurd (omega arith)
-wrote_number x (_ ∷ _ ∷ []) h = absurd (omega arith)
-wrote_number x (_ ∷ _ ∷ _ ∷ []) h = absurd (omega arith)
-wrote_number x (_ ∷ _ ∷ _ ∷ _ ∷ s) h = record { exact = refl }
-
 -- nothing is written
 pub wrote_none : (s : List ℕ) → Wrote [] s s
 unfolding bytes

@@ -11,6 +11,11 @@ use borrow.Author.Tests.{eq-eqb, ne_eqb}
 use lib.Dec.{T, eqb, ltb, ltb→lt}
 use lib.ListN.{length, take, get_or, length-append, length-map, get_or-eq_default}
 use lib.Seq.{take_all}
+use Rattle.std.specs.Prelude.{count_by}
+use Rattle.std.specs.List.{range_with_len}
+use Rattle.std.proofs.lemmas.List.Sums.{sum_by-cons, count_by-le-length}
+use Rattle.std.proofs.lemmas.List.FromFn.{length-range_with_len}
+use Rattle.sets.proofs.Ranges.{range_is}
 use Rattle.sets.specs.Lists.{numbers_from, every, keep}
 use Rattle.sets.specs.States.{States}
 use Rattle.sets.specs.Words.{number_of_bits, words, marked, bit}
@@ -106,6 +111,24 @@ keep_append p (x ∷ xs) ys = rw (keep_append p xs ys) (go (p x))
     go true = refl
     go false = refl
 
+-- as many are kept of kept and mapped elements as pass both tests
+pub kept_counted : {A B : Type 0} (p : A → Bool) (f : A → B) (q : B → Bool) (xs : List A) → length (keep q (map f (keep p xs))) ≡ count_by (λ x. p x && q (f x)) xs
+unfolding keep
+kept_counted p f q [] = refl
+kept_counted p f q (x ∷ xs) = go (p x) (kept_counted p f q xs) ∙ sym (sum_by-cons (λ x. cond (p x && q (f x)) 1 0) x xs)
+  where
+    rest : ℕ
+    rest = count_by (λ x. p x && q (f x)) xs
+
+    one : (b : Bool) → length (keep q (map f (keep p xs))) ≡ rest
+        → length (cond b (f x ∷ keep q (map f (keep p xs))) (keep q (map f (keep p xs)))) ≡ cond b 1 0 + rest
+    one true e = omega (arith, e)
+    one false e = omega (arith, e)
+
+    go : (b : Bool) → length (keep q (map f (keep p xs))) ≡ rest → length (keep q (map f (cond b (x ∷ keep p xs) (keep p xs)))) ≡ cond (b && q (f x)) 1 0 + rest
+    go true e = one (q (f x)) e
+    go false e = omega (arith, e)
+
 -- What grows with each step is larger at a later one.
 pub grows : (f : ℕ → ℕ) → ((j : ℕ) → f j ≤ f (j + 1)) → (j m : ℕ) → j ≤ m → f j ≤ f m
 grows f h j m l =
@@ -181,9 +204,12 @@ module _ (part first : List ℕ) (s labels : ℕ) where
       go true = refl
       go false = refl
 
-  pub degree_none : length (leaving part first s labels 0) ≡ 0
-  unfolding leaving distinct_in keep numbers_from
-  degree_none = refl
+  pub degree_counted : (m : ℕ) → count_by (leaves_at part first s labels) (range_with_len 0 m) ≡ length (leaving part first s labels m)
+  unfolding leaving distinct_in leaves_at
+  degree_counted m = rw (range_is 0 m) (sym (kept_counted (flagged first) (transition_in part) (leaves s labels) (numbers_from 0 m)))
+
+  pub degree_few : (m : ℕ) → length (leaving part first s labels m) ≤ m
+  degree_few m = rw (← degree_counted m) (omega (arith, count_by-le-length (leaves_at part first s labels) (range_with_len 0 m), length-range_with_len 0 m))
 
   -- of some records no more leave s than of all
   pub degree_grows : (j m : ℕ) → j ≤ m → length (leaving part first s labels j) ≤ length (leaving part first s labels m)

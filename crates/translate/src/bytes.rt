@@ -10,10 +10,7 @@ pub fn put(part: &mut [u8], x: usize)
     requires { 4 ≤ length part.old }
     ensures { Wrote (x ∷ []) part.old part.new }
 {
-    part[0] = (x % 256) as u8;
-    part[1] = (x / 256 % 256) as u8;
-    part[2] = (x / 65536 % 256) as u8;
-    part[3] = (x / 16777216 % 256) as u8;
+    part[..4].copy_from_slice(&x.to_le_bytes()[..4]);
 }
 
 // One number, from the byte `at` on.

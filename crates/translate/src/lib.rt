@@ -29,7 +29,7 @@ use solver::HEADER;
 use sources::Equations;
 
 // Why no file is written: found on opening the case, or the buffer is too short.
-#[derive(Clone, Copy)]
+#[derive(Clone, Copy, PartialEq, Eq)]
 pub enum Cause {
     Open(cases::Cause),
     Memory,
@@ -112,9 +112,7 @@ pub fn write_case<'a>(case: &OpenCase<'a>, first: &'a [u8], out: &mut [u8]) -> W
     requires { FirstFlags (transition_part case.now.bytes.now) case.now.header.transitions first.now }
     ensures { Translated case.now.bytes.now out.old (written_number result) (written_length result) out.new }
 {
-    let labels = case.labels();
-    let actions = case.actions();
-    let masks = cases::action_masks(labels.part, case.header, actions.part);
+    let masks = case.action_masks();
     let a = case.header.actions;
     let nodes = case.formula();
     let formula = FormulaTable {

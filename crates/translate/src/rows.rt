@@ -10,6 +10,9 @@ ghost use Rattle.translate.specs.internal.Flags.{distinct_of};
 use crate::Shape;
 use crate::sources::Equations;
 
+// Each loop over nodes, and over the states of a node, is written out: what it carries differs, an operand count or the numbers written, and so
+// does what it needs at each step. One function over a closure would be handed both at each call, and be no plainer.
+
 impl Equations<'_, '_> {
     // The cells of node i, of a shape, behind those of the nodes before it. Answers how many operands come before those of the next node.
     fn write_cells_behind(&self, out: &mut [u8], i: usize, x: Shape, used: usize) -> usize

@@ -10,7 +10,7 @@ ghost use Rattle.translate.specs.internal.Tabled.{HoldsShapes};
 
 use crate::Shape;
 use crate::formula::FormulaTable;
-use cases::FormulaKind;
+use cases::{FormulaKind, Nodes};
 
 // The limit on nodes, and one more for a nu that is put before the root.
 pub const SHAPES: usize = cases::NODES + 1;
@@ -21,7 +21,7 @@ impl FormulaTable<'_> {
         requires { (added ≤ 1) × (i < self.now.nodes.count) }
         ensures { result ≡ end_of (map (arity_in formula_arities) (nodes_in self.now.nodes.part.now self.now.nodes.count)) (i + 1) + added }
     {
-        cases::subtree_end(self.nodes.part, self.nodes.count, i + 1) + added
+        self.nodes.subtree_end(i + 1) + added
     }
 
     // The block of the binder at node i: as many come before it as there are binders before it, and those that are put before the root.
@@ -29,7 +29,11 @@ impl FormulaTable<'_> {
         requires { (added ≤ 1) × (i ≤ self.now.nodes.count) }
         ensures { result ≡ binder_count (take i (nodes_in self.now.nodes.part.now self.now.nodes.count)) + added }
     {
-        cases::binders(self.nodes.part, i) + added
+        let before = Nodes {
+            part: self.nodes.part,
+            count: i,
+        };
+        before.binders() + added
     }
 
     // The shape of node i.

@@ -46,13 +46,9 @@ impl Steps<'_> {
     pub fn count(&self) -> usize
         ensures { (result ≡ length (followed self.now)) × (result ≤ self.now.records.table.count) }
     {
-        let mut found: usize = 0;
-        for j in 0..self.records.table.count {
-            if self.has(j) {
-                found += 1;
-            }
-        }
-        found
+        (0..self.records.table.count)
+            .filter(|j| self.has(*j))
+            .count()
     }
 
     // The target of record j.

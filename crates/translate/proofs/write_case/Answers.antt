@@ -1,23 +1,18 @@
 use mathlib.Core.Path.{sym}
 use native.Mathlib.Omega.{arith}
 use lib.Seq.{length-take-le}
-use Rattle.translate.proofs.CaseParts.{masks_first, masks_asked, masks_are, table_some, table_few, actions_few, table_readable, handed, left_as}
+use Rattle.translate.proofs.CaseParts.{masks_first, table_some, table_few, actions_few, table_readable, handed, left_as}
 use Rattle.translate.proofs.write_case.Goals as goal
-
-pub action_masks-masks-requires : goal.action_masks-masks-requires
-action_masks-masks-requires c =
-    let o = c.args.case.now in
-    masks_asked _ o.accepted o.read c.labels-labels.ensures.part c.actions-actions.ensures.part
 
 pub slice_bounds-masks-end : goal.slice_bounds-masks-end
 slice_bounds-masks-end c =
     let o = c.args.case.now in
-    omega (arith, c.action_masks-masks.ensures.0, actions_few _ o.accepted o.read)
+    omega (arith, c.action_masks-masks.ensures.long, actions_few _ o.accepted o.read)
 
 pub slice_bounds-formula-end : goal.slice_bounds-formula-end
 slice_bounds-formula-end c =
     let o = c.args.case.now in
-    sym (length-take-le _ _ (omega (arith, c.action_masks-masks.ensures.0, actions_few _ o.accepted o.read)))
+    sym (length-take-le _ _ (omega (arith, c.action_masks-masks.ensures.long, actions_few _ o.accepted o.read)))
 
 pub invariant_of-formula : goal.invariant_of-formula
 invariant_of-formula c =
@@ -26,7 +21,7 @@ invariant_of-formula c =
       some = rw c.formula-nodes.ensures.count (table_some _ o.accepted o.read);
       few = rw c.formula-nodes.ensures.count (table_few _ o.accepted o.read);
       readable = table_readable _ o.accepted o.read c.formula-nodes.ensures.part c.formula-nodes.ensures.count
-          (sym (length-take-le _ _ (omega (arith, c.action_masks-masks.ensures.0, actions_few _ o.accepted o.read))));
+          (sym (length-take-le _ _ (omega (arith, c.action_masks-masks.ensures.long, actions_few _ o.accepted o.read))));
     }
 
 pub invariant_of-equations : goal.invariant_of-equations
@@ -34,8 +29,7 @@ invariant_of-equations c =
     let o = c.args.case.now in
     let s =
     handed _ o.accepted o.read c.formula-nodes.ensures.part c.formula-nodes.ensures.count c.transitions-table.ensures.part c.transitions-table.ensures.count c.requires
-    (c.shapes-shapes.ensures _ (masks_first _ o.header.actions _ (omega (arith, c.action_masks-masks.ensures.0, actions_few _ o.accepted o.read))
-    (masks_are _ o.accepted o.read c.labels-labels.ensures.part c.actions-actions.ensures.part c.action_masks-masks.ensures.1)))
+    (c.shapes-shapes.ensures _ (masks_first _ o.header.actions _ (omega (arith, c.action_masks-masks.ensures.long, actions_few _ o.accepted o.read)) c.action_masks-masks.ensures.masks))
     c.added_before.ensures.0 in
     record {
       few_transitions = s.few_transitions;
@@ -49,6 +43,5 @@ pub returns : goal.returns
 returns c =
     let o = c.args.case.now in
     left_as _ o.accepted o.read c.formula-nodes.ensures.part c.formula-nodes.ensures.count c.transitions-table.ensures.part c.transitions-table.ensures.count c.requires
-    (c.shapes-shapes.ensures _ (masks_first _ o.header.actions _ (omega (arith, c.action_masks-masks.ensures.0, actions_few _ o.accepted o.read))
-    (masks_are _ o.accepted o.read c.labels-labels.ensures.part c.actions-actions.ensures.part c.action_masks-masks.ensures.1)))
+    (c.shapes-shapes.ensures _ (masks_first _ o.header.actions _ (omega (arith, c.action_masks-masks.ensures.long, actions_few _ o.accepted o.read)) c.action_masks-masks.ensures.masks))
     c.added_before.ensures.0 c.emit.ensures

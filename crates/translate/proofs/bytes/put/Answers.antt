@@ -1,5 +1,7 @@
-use Rattle.translate.proofs.Putting.{wrote_number}
+use mathlib.Core.Path.{refl}
+use Rattle.translate.specs.Bytes.{bytes}
 use Rattle.translate.proofs.bytes.put.Goals as goal
 
 pub returns : goal.returns
-returns c = wrote_number c.args.x c.args.part.now c.requires
+unfolding bytes
+returns c = record { exact = rw (c.copy_from_slice.ensures.after, c.to_le_bytes.ensures) refl }

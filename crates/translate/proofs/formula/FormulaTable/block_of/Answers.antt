@@ -7,4 +7,4 @@ pub returns : goal.returns
 returns c =
     let p = c.args in
     let t = p.self.now in
-    rw (take_nodes t.nodes.part.now p.i t.nodes.count c.requires.1) (ap (λ (k : ℕ). k + p.added) c.binders.ensures.0)
+    rw (take_nodes t.nodes.part.now p.i t.nodes.count c.requires.1) (ap (λ (k : ℕ). k + p.added) c.binders.ensures.count)

@@ -1,25 +1,20 @@
-use mathlib.Core.Path.{◌≡◌}
-use Prim.Native.Nat.{◌+◌}
+use mathlib.Core.Path.{◌∙◌}
 use native.Mathlib.Omega.{arith}
-use lib.ListN.{length}
-use Rattle.sets.specs.Words.{bit}
-use Rattle.translate.specs.internal.Parts.{leaving}
-use Rattle.translate.proofs.ShapeLaws.{degree_none, degree_more}
+use Rattle.std.proofs.Common.{rules, tests}
+use Rattle.std.proofs.lemmas.Iterator.{YieldsList-from_range}
+use Rattle.std.proofs.lemmas.Iterator.Consumers.{YieldsList-from_filter, count_from_yields_List}
+use Rattle.std.specs.List.{range_with_len}
+use Rattle.std.proofs.lemmas.List.Sums.{length-filter}
+use Rattle.translate.specs.internal.Flags.{follows}
+use Rattle.translate.proofs.ShapeLaws.{degree_counted, degree_few}
 use Rattle.translate.proofs.steps.Steps.count.Goals as goal
-use Rattle.translate.proofs.steps.Steps.count.Goals.{then-has, else-has}
 
-pub loop-j-init : goal.loop-j-init
-loop-j-init c = let p = c.args in
-    let e = p.self.now in (omega arith, omega arith, omega (arith, degree_none e.records.table.part.now e.records.first.now e.state e.labels))
-
-pub loop-j-preserved : goal.loop-j-preserved
-loop-j-preserved c =
-    let p = c.args in
-    let e = p.self.now in
-    let j = c.loop-j.j in
-    let step : length (leaving e.records.table.part.now e.records.first.now e.state e.labels (j + 1)) ≡ length (leaving e.records.table.part.now e.records.first.now e.state e.labels j) + bit c.has.result =
-    rw c.has.ensures (degree_more e.records.table.part.now e.records.first.now e.state e.labels j) in
-    elim c.if-has.branch [
-      | then-has w ↦ (omega arith, omega arith, omega (arith, rw w.if-has.true at step))
-      | else-has w ↦ (omega arith, omega arith, omega (arith, rw w.if-has.false at step))
-    ]
+pub returns : goal.returns
+returns c =
+    let e = c.args.self.now in
+    let m = e.records.table.count in
+    let counted =
+    count_from_yields_List c.filter.result c.count.result c.count.ensures.ran
+    (YieldsList-from_filter _ (follows e) (YieldsList-from_range 0 m m (cc) (omega arith)) c.filter.ensures.closure (λ x b q k. search (rules, tests)))
+    ∙ length-filter (follows e) (range_with_len 0 m) ∙ degree_counted e.records.table.part.now e.records.first.now e.state e.labels m in
+    (counted, omega (arith, counted, degree_few e.records.table.part.now e.records.first.now e.state e.labels m))

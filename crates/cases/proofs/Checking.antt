@@ -67,20 +67,6 @@ module _ (k i : ℕ) where
   pub range_next : i < k → drop i (numbers_from 0 k) ≡ i ∷ drop (i + 1) (numbers_from 0 k)
   range_next h = rw add-one (next_from_lem 0 k i h ∙ ap (λ (x : ℕ). x ∷ drop (suc i) (numbers_from 0 k)) (zero-add i))
 
--- A loop that tests the numbers below k, at number i: those before i have passed.
-module _ (p : ℕ → Bool) (k i : ℕ) (left : every p (numbers_from 0 k) ≡ every p (drop i (numbers_from 0 k))) where
-  pub all_done : k ≤ i → true ≡ every p (numbers_from 0 k)
-  unfolding every
-  all_done h = sym (left ∙ ap (every p) (range_done k i h))
-
-  pub all_breaks : i < k → p i ≡ false → false ≡ every p (numbers_from 0 k)
-  unfolding every
-  all_breaks h f = sym (left ∙ ap (every p) (range_next k i h) ∙ rw f refl)
-
-  pub all_goes_on : i < k → p i ≡ true → every p (numbers_from 0 k) ≡ every p (drop (i + 1) (numbers_from 0 k))
-  unfolding every
-  all_goes_on h t = left ∙ ap (every p) (range_next k i h) ∙ rw t refl
-
 -- a test of the elements of a mapped list
 pub all_map : {A B : Type 0} (p : B → Bool) (f : A → B) (xs : List A) → every p (map f xs) ≡ every (λ x. p (f x)) xs
 unfolding every

@@ -142,7 +142,7 @@ fn bad_actions(case: &LaidCase<'_>) -> bool
     ensures { result ≡ bad_actions case.now.bytes.now }
 {
     let actions = case.actions();
-    !actions.actions_fit(case.header.labels) || !actions.whole_actions()
+    !actions.all(|x| action_holds(x, case.header.labels)) || !actions.whole_actions()
 }
 
 // The model, the label records and the action table: the first of conditions 6, 15 and 7 that holds, if one does.
@@ -174,18 +174,16 @@ fn node_holds(x: Node, a: usize) -> bool
 }
 
 impl Nodes<'_> {
-    // Whether the kind and the argument of each action node are right, with l labels.
-    fn actions_fit(&self, l: usize) -> bool
-        ensures { result ≡ every (action_ok l) (nodes_in self.now.part.now self.now.count) }
+    // Whether a test holds of each node.
+    fn all<F: Fn(Node) -> bool>(&self, test: F) -> bool
+        requires { F.IsAlwaysCallable test }
+        ensures { (p : _) → ((x : _) (b : _) → F.post test x b → b ≡ p x) → result ≡ every p (nodes_in self.now.part.now self.now.count) }
     {
-        (0..self.count).all(|i| action_holds(self.at(i), l))
-    }
-
-    // Whether those of each formula node are, with a action nodes.
-    fn formula_fits(&self, a: usize) -> bool
-        ensures { result ≡ every (node_ok a) (nodes_in self.now.part.now self.now.count) }
-    {
-        (0..self.count).all(|i| node_holds(self.at(i), a))
+        (0..self.count).all(
+            |i: usize| -> bool
+                requires { (i < self.now.count) × F.IsAlwaysCallable test }
+            { test(self.at(i)) },
+        )
     }
 
     // Whether the nodes of an action table are whole formulas. Where a formula begins none is due, and its root stands for itself.
@@ -266,7 +264,7 @@ impl Nodes<'_> {
 fn bad_formula(nodes: &Nodes<'_>, actions: usize) -> bool
     ensures { result ≡ bad_formula actions (nodes_in nodes.now.part.now nodes.now.count) }
 {
-    !nodes.formula_fits(actions) || !nodes.one_formula()
+    !nodes.all(|x| node_holds(x, actions)) || !nodes.one_formula()
 }
 
 // Condition 9.

@@ -6,7 +6,6 @@ use Prim.Native.Nat.{ℕ, zero, suc, ◌+◌, ◌-◌, ◌*◌, ◌/◌, ◌%◌
 use native.Mathlib.Omega.{arith}
 use native.Mathlib.Nat.{pow-suc}
 use lib.ListN.{length, get_or, take, drop, length-map, length-replicate, get_or-replicate}
-use lib.Seq.{ext_get_or}
 use lib.Bits.{bit_and, bit_or, bit_xor, differ, and_step, or_step, xor_step, and_zero_l, or_zero_l, xor_zero_l}
 use lib.Dec.{eqb}
 use Rattle.std.proofs.lemmas.List.{get_or-map, take-map, drop-map}
@@ -15,7 +14,7 @@ use borrow.Author.Tests.{eq-eqb, ne_eqb}
 use Rattle.sets.specs.Lists.{numbers_from}
 use Rattle.sets.specs.States.{States, has, start}
 use Rattle.sets.specs.Words.{words, number_of_bits, bit}
-use Rattle.sets.proofs.Lists.{length_table, table_at}
+use Rattle.sets.proofs.Ranges.{by_places}
 use Rattle.sets.proofs.Words.{half, odd, number_fits, part, word_at, words_by}
 
 -- ---- operations bit by bit
@@ -67,11 +66,6 @@ bitwise_or = digitwise max (or_zero_l 0) or_step bit_or_lem
 -- exactly one
 bitwise_xor : Bitwise bit_xor (λ a b. cond a (not b) b)
 bitwise_xor = digitwise differ (xor_zero_l 0) xor_step bit_differ
-
--- an or, if `either`, else an and
-pub bitwise_either : (either : Bool) → Bitwise (λ x y. cond either (bit_or x y) (bit_and x y)) (λ a b. cond either (a || b) (a && b))
-bitwise_either true = bitwise_or
-bitwise_either false = bitwise_and
 
 -- ---- the numbers of sets
 
@@ -134,22 +128,16 @@ module _ {op : ℕ → ℕ → ℕ} {f : Bool → Bool → Bool} (o : Bitwise op
       → op (number_of_bits (part (map p xs) j)) (number_of_bits (part (map q xs) j)) ≡ number_of_bits (part (map (λ x. f (p x) (q x)) xs) j)
   word_bitwise p q xs j = simp (drop-map, take-map) (number_bitwise o p q (take 64 (drop (64 * j) xs)))
 
-  -- from the words of two sets of n states
-  pub word_combined : (k n : ℕ) (v w : States) → length v ≡ n → length w ≡ n → (j : ℕ) → j < k
-      → op (get_or (words k v) j 0) (get_or (words k w) j 0) ≡ number_of_bits (part (map (λ s. f (has v s) (has w s)) (numbers_from 0 n)) j)
-  word_combined k n v w d e j h =
-      rw (word_at k v j h, word_at k w j h) (rw (table n v d, table n w e) at (word_bitwise (has v) (has w) (numbers_from 0 n) j))
-    where
-      -- a set by its states
-      table : (n : ℕ) (v : States) → length v ≡ n → map (has v) (numbers_from 0 n) ≡ v
-      table n v d = ext_get_or false (map (has v) (numbers_from 0 n)) v (length_table (has v) n ∙ sym d) λ s b.
-          table_at (has v) n s false (omega (arith, length_table (has v) n))
-
   -- words that the operation makes of those of two sets of n states
   pub words_combined : (k n : ℕ) (v w : States) → length v ≡ n → length w ≡ n → (ws : List ℕ) → length ws ≡ k
       → ((j : ℕ) → j < k → get_or ws j 0 ≡ op (get_or (words k v) j 0) (get_or (words k w) j 0))
       → ws ≡ words k (map (λ s. f (has v s) (has w s)) (numbers_from 0 n))
-  words_combined k n v w d e ws l is = words_by k _ ws l λ j h. is j h ∙ word_combined k n v w d e j h
+  words_combined k n v w d e ws l is = words_by k _ ws l λ j h.
+      is j h ∙ rw (word_at k v j h, word_at k w j h) (rw (table n v d, table n w e) at (word_bitwise (has v) (has w) (numbers_from 0 n) j))
+    where
+      -- a set by its states
+      table : (n : ℕ) (v : States) → length v ≡ n → map (has v) (numbers_from 0 n) ≡ v
+      table n v d = sym (by_places (has v) v n false d λ s h. refl)
 
 -- words that turn over each bit of a state below n
 pub words_complemented : (k n : ℕ) (v : States) → length v ≡ n → (ws : List ℕ) → length ws ≡ k
@@ -158,7 +146,5 @@ pub words_complemented : (k n : ℕ) (v : States) → length v ≡ n → (ws : L
 words_complemented k n v d ws l is = words_combined bitwise_xor k n (start n true) v (length-replicate n true) d ws l is ∙ ap (words k) turned
   where
     turned : map (λ s. cond (has (start n true) s) (not (has v s)) (has v s)) (numbers_from 0 n) ≡ map not v
-    turned =
-        ext_get_or false _ (map not v) (length_table _ n ∙ sym (length-map v not ∙ d)) λ s b.
-        let h : s < n = omega (arith, length_table (λ s. cond (has (start n true) s) (not (has v s)) (has v s)) n) in
-        table_at _ n s false h ∙ rw (get_or-replicate n s true false h) (sym (get_or-map not v s false false (omega arith)))
+    turned = sym (by_places _ (map not v) n false (length-map v not ∙ d) λ s h.
+        get_or-map not v s false false (omega arith) ∙ rw (get_or-replicate n s true false h) refl)

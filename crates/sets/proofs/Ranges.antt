@@ -1,5 +1,5 @@
 -- What the library's `all` and `any` answer, and its range of numbers, in the words of this repository.
-use mathlib.Core.Path.{◌≡◌, refl, sym, ap}
+use mathlib.Core.Path.{◌≡◌, refl, sym, ap, ◌∙◌}
 use mathlib.Core.Bool.{Bool, true, false}
 use mathlib.Core.List.{List, [], ◌∷◌, map}
 use Prim.Native.Nat.{ℕ, zero, suc, ◌<◌}
@@ -48,11 +48,16 @@ module _ (p : ℕ → Bool) (n : ℕ) (answer : Bool) where
       → answer ≡ for_some p (numbers_from 0 n)
   some_below h = rw (range_is 0 n) at (some_decided p (range_with_len 0 n) 0 answer h)
 
--- the elements of a list, by their places
+-- a list is what stands at its places
+pub by_places : {A : Type 0} (f : ℕ → A) (xs : List A) (n : ℕ) (d : A) → length xs ≡ n → ((k : ℕ) → k < n → get_or xs k d ≡ f k)
+    → xs ≡ map f (numbers_from 0 n)
+by_places f xs n d l at = fill_by_all f xs n d l at ∙ ap (map f) (range_is 0 n)
+
+-- so a property of its elements is one of the places
 pub every_places : {A : Type 0} (p : A → Bool) (f : ℕ → A) (xs : List A) (n : ℕ) (d : A) → length xs ≡ n → ((k : ℕ) → k < n → get_or xs k d ≡ f k)
     → every p xs ≡ every (λ k. p (f k)) (numbers_from 0 n)
 unfolding every
-every_places p f xs n d l at = rw (fill_by_all f xs n d l at, range_is 0 n) (go (numbers_from 0 n))
+every_places p f xs n d l at = rw (by_places f xs n d l at) (go (numbers_from 0 n))
   where
     go : (ns : List ℕ) → every p (map f ns) ≡ every (λ k. p (f k)) ns
     go [] = refl

@@ -220,38 +220,6 @@ word_whole n from h = let e : min 64 (n - from) ≡ 64 = omega arith in rw (part
 pub word_partial : (n from left : ℕ) → n - from ≡ left → left < 64 → number_of_bits (take 64 (drop from (start n true))) ≡ (1 * 2 ^ left) % 2 ^ 64 - 1
 word_partial n from left l h = let e : min 64 (n - from) ≡ left = omega arith in rw (part_start n from true, e, shifted_one left h) (number_full left)
 
--- ---- words that are worked out one after the other
-
--- The first i of k words are as f says: a loop's invariant.
-pub record Filled (f : ℕ → ℕ) (k : ℕ) (ws : List ℕ) (i : ℕ) : Type 0 where
-  pub long : length ws ≡ k
-  pub within : i ≤ k
-  pub so_far : (j : ℕ) → j < i → get_or ws j 0 ≡ f j
-
-module _ {f : ℕ → ℕ} {k : ℕ} {ws : List ℕ} where
-  -- before the first turn
-  pub filled_none : length ws ≡ k → Filled f k ws 0
-  filled_none l = record { long = l; within = omega arith; so_far = λ j h. absurd (omega arith) }
-
-  -- one turn, which stores word i
-  pub filled_more : {i : ℕ} (x : ℕ) → Filled f k ws i → i < k → x ≡ f i → Filled f k (set ws i x) (i + 1)
-  filled_more {i} x w h e = record { long = length-set ws i x ∙ w.long; within = omega arith; so_far = λ j l. go j l (ℕ_discrete j i) }
-    where
-      go : (j : ℕ) → j < i + 1 → Dec (j ≡ i) → get_or (set ws i x) j 0 ≡ f j
-      go j l (yes q) = rw (q, get_or-set_same ws i x 0 (omega (arith, w.long))) e
-      go j l (no n) = rw (get_or-set_other ws i j x 0 n) (w.so_far j (omega arith))
-
--- after the last turn: a list of k words that are as f says
-pub filled_all : {f : ℕ → ℕ} {k i : ℕ} {ws : List ℕ} → Filled f k ws i → k ≤ i
-    → (us : List ℕ) → length us ≡ k → ((j : ℕ) → j < k → f j ≡ get_or us j 0) → ws ≡ us
-filled_all {ws = ws} w h us l is = ext_get_or 0 ws us (w.long ∙ sym l) λ j b.
-    w.so_far j (omega (arith, w.long)) ∙ is j (omega (arith, w.long))
-
--- the words of a set
-pub words_filled : {f : ℕ → ℕ} {k i : ℕ} {ws : List ℕ} → Filled f k ws i → k ≤ i
-    → (v : States) → ((j : ℕ) → j < k → f j ≡ number_of_bits (part v j)) → ws ≡ words k v
-words_filled {k = k} w h v is = filled_all w h (words k v) (words_length k v) λ j b. is j b ∙ sym (word_at k v j b)
-
 -- ---- one state more
 
 -- a state behind the first m

@@ -1,13 +1,10 @@
 // Sets of states in words: state s is bit s mod 64 of word s / 64.
 #![tactic(auto)]
 
-ghost use Rattle.std.specs.Prelude.{◌≡◌, true, false, not, cond, ◌&&◌, ◌||◌, map, ◌++◌, ℕ, ◌-◌, ◌^◌, ◌<◌, ◌≤◌, length, get_or, set, take, drop};
-ghost use Rattle.std.specs.Int.Bits.{bit_and, bit_or};
-ghost use Rattle.std.specs.Int.Count.{ones};
+ghost use Rattle.std.specs.Prelude.{◌≡◌, true, false, not, ◌&&◌, ◌||◌, map, ◌++◌, ℕ, ◌<◌, ◌≤◌, length, get_or, set, take, drop};
 ghost use Rattle.sets.specs.Lists.{numbers_from};
 ghost use Rattle.sets.specs.States.{States, has, start};
 ghost use Rattle.sets.specs.Words.{words, number_of_bits, marked, word_count, state_limit};
-ghost use Rattle.sets.specs.internal.DecidedBy.{DecidedBy};
 ghost use Rattle.sets.specs.internal.Size.{SizeIs};
 
 use std::array;
@@ -79,52 +76,11 @@ pub fn add(held: &mut Set, s: usize)
     put(held, s, true);
 }
 
-// Whether two sets hold the same words.
-pub fn equal(a: &Set, b: &Set) -> bool
-    ensures { DecidedBy (a.now ≡ b.now) result }
-{
-    equal_words(*a, *b)
-}
-
-// The same of arrays by value, whose length a proof may use.
-fn equal_words(a: Set, b: Set) -> bool
-    ensures { DecidedBy (a ≡ b) result }
-{
-    for i in 0..WORDS {
-        if a[i] != b[i] {
-            return false;
-        }
-    }
-    true
-}
-
 // How many states a set has: the sum of the ones of its words.
 pub fn count(set: &Set) -> usize
     ensures { SizeIs set.now result }
 {
     set.iter().map(|word| word.count_ones() as usize).sum()
-}
-
-// One word of the states in both sets, or (either) in at least one.
-fn combine_word(a: u64, b: u64, either: bool) -> u64
-    ensures { result ≡ cond either (bit_or a b) (bit_and a b) }
-{
-    if either {
-        return a | b;
-    }
-    a & b
-}
-
-// The states in both sets, or (either) in at least one.
-pub fn combine(a: Set, b: Set, either: bool) -> Set
-    ensures { (n : ℕ) (v w : States) → length v ≡ n → length w ≡ n → a ≡ words word_count v → b ≡ words word_count w
-        → result ≡ words word_count (map (λ s. cond either (has v s || has w s) (has v s && has w s)) (numbers_from 0 n)) }
-{
-    let mut c = [0u64; WORDS];
-    for i in 0..WORDS {
-        c[i] = combine_word(a[i], b[i], either);
-    }
-    c
 }
 
 // The words that an operation makes of the words of two sets, place by place.

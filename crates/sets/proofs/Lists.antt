@@ -7,31 +7,24 @@ use native.Mathlib.Nat.{zero-add}
 use native.Mathlib.Numerals.{add-one}
 use native.Mathlib.Omega.{arith}
 use lib.Dec.{T, ltb, ltb→lt}
-use lib.ListN.{length, get_or, take, drop, length-map, drop_of_length-le}
+use lib.ListN.{length, get_or, take, drop, drop_of_length-le}
 use lib.Seq.{drop-cons}
 use Rattle.std.specs.List.{sum_by}
 use Rattle.std.proofs.lemmas.List.{drop-map, take-take}
+use Rattle.std.proofs.lemmas.List.FromFn.{length-range_with_len, get_or-range_with_len, length-map-range_with_len, get_or-map-range_with_len}
 use Rattle.std.proofs.lemmas.List.Recursion.{is_sum_by}
 use Rattle.std.proofs.lemmas.List.Sums.{sum_by_more, sum_by-take-le}
 pub use Rattle.std.proofs.lemmas.Bool.{false≢true as false_true}
 pub use Rattle.std.proofs.lemmas.List.{get_or-map as get_or_map}
 use Rattle.sets.specs.Lists.{numbers_from, every, for_some, keep, sum}
+use Rattle.sets.proofs.Ranges.{range_is}
 
--- range i k has k numbers
+-- a range of numbers: how many, and each
 pub length_range : (i k : ℕ) → length (numbers_from i k) ≡ k
-unfolding numbers_from
-length_range i zero = refl
-length_range i (suc k) = ap suc (length_range (suc i) k)
-
--- the number at place j
-get_or_range : (i k j d : ℕ) → j < k → get_or (numbers_from i k) j d ≡ i + j
-unfolding numbers_from
-get_or_range i zero j d h = absurd (omega arith)
-get_or_range i (suc k) zero d h = omega arith
-get_or_range i (suc k) (suc j) d h = get_or_range (suc i) k j d (omega arith) ∙ (omega arith)
+length_range i k = rw (← range_is i k) (length-range_with_len i k)
 
 pub range_at : (k j d : ℕ) → j < k → get_or (numbers_from 0 k) j d ≡ j
-range_at k j d h = get_or_range 0 k j d h ∙ zero-add j
+range_at k j d h = rw (← range_is 0 k) (get_or-range_with_len 0 k j d h ∙ zero-add j)
 
 -- the elements of a mapped list, from place i on
 pub drop_map : {A B : Type 0} (f : A → B) (xs : List A) (i : ℕ) → drop i (map f xs) ≡ map f (drop i xs)
@@ -39,10 +32,10 @@ drop_map f xs i = drop-map f i xs
 
 -- f of a range of numbers: how many, and each
 pub length_map_range : {B : Type 0} (f : ℕ → B) (i k : ℕ) → length (map f (numbers_from i k)) ≡ k
-length_map_range f i k = length-map (numbers_from i k) f ∙ length_range i k
+length_map_range f i k = rw (← range_is i k) (length-map-range_with_len f i k)
 
 pub get_or_map_range : {B : Type 0} (f : ℕ → B) (i k j : ℕ) (b : B) → j < k → get_or (map f (numbers_from i k)) j b ≡ f (i + j)
-get_or_map_range f i k j b h = get_or_map f (numbers_from i k) j 0 b (omega (arith, length_range i k)) ∙ ap f (get_or_range i k j 0 h)
+get_or_map_range f i k j b h = rw (← range_is i k) (get_or-map-range_with_len f i k j (i + j) b h refl)
 
 -- the table of f at the first k numbers
 pub length_table : {B : Type 0} (f : ℕ → B) (k : ℕ) → length (map f (numbers_from 0 k)) ≡ k

@@ -1,4 +1,4 @@
--- What the library's `all` and `any` answer, and its range of numbers, in the words of this repository.
+-- What the library's `all` answers of a range of numbers, and that range, in the words of this repository.
 use mathlib.Core.Path.{◌≡◌, refl, sym, ap, ◌∙◌}
 use mathlib.Core.Bool.{Bool, true, false}
 use mathlib.Core.List.{List, [], ◌∷◌, map}
@@ -9,8 +9,8 @@ use lib.ListN.{length, get_or}
 use Rattle.std.specs.Bool.{MatchBool}
 use Rattle.std.specs.List.{range_with_len, AllWithin, HoldsAt}
 use Rattle.std.proofs.lemmas.List.FromFn.{fill_by_all}
-use Rattle.std.proofs.lemmas.List.Recursion.{and_from_places, and_fails_at, or_at, or_from_places}
-use Rattle.sets.specs.Lists.{numbers_from, every, for_some}
+use Rattle.std.proofs.lemmas.List.Recursion.{and_from_places, and_fails_at}
+use Rattle.sets.specs.Lists.{numbers_from, every}
 
 -- the numbers of a range
 pub range_is : (i k : ℕ) → range_with_len i k ≡ numbers_from i k
@@ -18,35 +18,16 @@ unfolding numbers_from
 range_is i zero = refl
 range_is i (suc k) = rw (add-one i) (ap (λ (ns : List ℕ). i ∷ ns) (range_is (suc i) k))
 
-module _ {A : Type 0} (p : A → Bool) (xs : List A) (d : A) where
-  -- what `all` answers of a list
-  pub every_decided : (answer : Bool)
-      → MatchBool answer (AllWithin (λ x. p x ≡ true) xs 0 (length xs)) ((k : ℕ) × (k < length xs) × HoldsAt (λ x. p x ≡ false) xs k)
-      → answer ≡ every p xs
-  unfolding every
-  every_decided true h = sym (and_from_places (every p) p refl (λ x ys. refl) xs d λ i l. h i d (omega arith) l)
-  every_decided false h = sym (and_fails_at (every p) p refl (λ x ys. refl) xs h.0 d h.1 (h.2 d))
-
-  -- what `any` answers of it
-  pub some_decided : (answer : Bool)
-      → MatchBool answer ((k : ℕ) × (k < length xs) × HoldsAt (λ x. p x ≡ true) xs k) (AllWithin (λ x. p x ≡ false) xs 0 (length xs))
-      → answer ≡ for_some p xs
-  unfolding for_some
-  some_decided true h = sym (or_at (for_some p) p refl (λ x ys. refl) xs h.0 d h.1 (h.2 d))
-  some_decided false h = sym (or_from_places (for_some p) p refl (λ x ys. refl) xs d λ i l. h i d (omega arith) l)
-
-module _ (p : ℕ → Bool) (n : ℕ) (answer : Bool) where
-  -- what `all` answers of the numbers below n
-  pub every_below : MatchBool answer (AllWithin (λ x. p x ≡ true) (range_with_len 0 n) 0 (length (range_with_len 0 n)))
-      ((k : ℕ) × (k < length (range_with_len 0 n)) × HoldsAt (λ x. p x ≡ false) (range_with_len 0 n) k)
-      → answer ≡ every p (numbers_from 0 n)
-  every_below h = rw (range_is 0 n) at (every_decided p (range_with_len 0 n) 0 answer h)
-
-  -- what `any` answers of them
-  pub some_below : MatchBool answer ((k : ℕ) × (k < length (range_with_len 0 n)) × HoldsAt (λ x. p x ≡ true) (range_with_len 0 n) k)
-      (AllWithin (λ x. p x ≡ false) (range_with_len 0 n) 0 (length (range_with_len 0 n)))
-      → answer ≡ for_some p (numbers_from 0 n)
-  some_below h = rw (range_is 0 n) at (some_decided p (range_with_len 0 n) 0 answer h)
+-- what `all` answers of the numbers below n
+pub every_below : (p : ℕ → Bool) (n : ℕ) (answer : Bool)
+    → MatchBool answer (AllWithin (λ x. p x ≡ true) (range_with_len 0 n) 0 (length (range_with_len 0 n)))
+    ((k : ℕ) × (k < length (range_with_len 0 n)) × HoldsAt (λ x. p x ≡ false) (range_with_len 0 n) k)
+    → answer ≡ every p (numbers_from 0 n)
+unfolding every
+every_below p n true h =
+    rw (range_is 0 n) at (sym (and_from_places (every p) p refl (λ x ys. refl) (range_with_len 0 n) 0 λ i l. h i 0 (omega arith) l))
+every_below p n false h =
+    rw (range_is 0 n) at (sym (and_fails_at (every p) p refl (λ x ys. refl) (range_with_len 0 n) h.0 0 h.1 (h.2 0)))
 
 -- a list is what stands at its places
 pub by_places : {A : Type 0} (f : ℕ → A) (xs : List A) (n : ℕ) (d : A) → length xs ≡ n → ((k : ℕ) → k < n → get_or xs k d ≡ f k)

@@ -303,29 +303,6 @@ fn check_formula(nodes: &Nodes<'_>, actions: usize) -> Result<(), Cause>
     Ok(())
 }
 
-// The node after the subtree of a node.
-pub fn subtree_end(part: &[u8], f: usize, at: usize) -> usize
-    requires { NodesFit node_limit part.now f }
-    ensures { result ≡ end_of (map (arity_in formula_arities) (nodes_in part.now f)) at }
-{
-    Nodes { part, count: f }.subtree_end(at)
-}
-
-// How many binders there are.
-pub fn binders(part: &[u8], f: usize) -> usize
-    requires { NodesFit node_limit part.now f }
-    ensures { (result ≡ binder_count (nodes_in part.now f)) × (result ≤ f) }
-{
-    Nodes { part, count: f }.binders()
-}
-
-// Whether a node is a mu or a nu.
-pub fn is_binder(x: Node) -> bool
-    ensures { result ≡ is_binder x }
-{
-    x.is_binder()
-}
-
 // Opens a case, or answers the first condition that holds.
 pub fn open(case: &[u8]) -> Result<OpenCase<'_>, Cause>
     ensures { Opens (case_refusal case.now) (λ o. (o.bytes.now ≡ case.now) × (o.header ≡ header_of case.now)) result }

@@ -1,9 +1,9 @@
 // Reading a case. Each table is read as the part of the file that starts at its offset.
 ghost use Rattle.std.specs.Prelude.{◌≡◌, ◌+◌, ◌*◌, ◌^◌, ◌<◌, ◌≤◌, length, take};
-ghost use Rattle.cases.specs.File.{u16, version as file_version, has_label_table, header_size, header_of, label_records, transitions_start, actions_start, formula_start, file_end, case_within, label_in, transition_in, node_in, label_limit, transition_limit, action_limit};
+ghost use Rattle.cases.specs.File.{u16, version as file_version, has_label_table, header_size, header_of, label_records, transitions_start, actions_start, formula_start, file_end, case_within, transition_in, label_limit, transition_limit, action_limit};
 ghost use Rattle.cases.specs.internal.Checks.{common_header, longest_header, CountsFit};
 
-use crate::{Header, Label, Node, Transition};
+use crate::{Header, Transition};
 
 // How many bytes the header has that all versions have, and how many the longest one has.
 pub const HEADER: usize = 20;
@@ -144,22 +144,6 @@ pub fn file_end(h: Header) -> usize
     formula_start(h) + 4 * h.nodes
 }
 
-// Record j of the label part.
-pub fn label_at(part: &[u8], j: usize) -> Label
-    requires { 8 * j + 8 ≤ length part.now }
-    ensures { result ≡ label_in part.now j }
-{
-    let at = 8 * j;
-    Label {
-        names: [
-            number_at(part, at),
-            number_at(part, at + 2),
-            number_at(part, at + 4),
-            number_at(part, at + 6),
-        ],
-    }
-}
-
 // Transition i of the transition part.
 pub fn transition_at(part: &[u8], i: usize) -> Transition
     requires { 6 * i + 6 ≤ length part.now }
@@ -170,17 +154,5 @@ pub fn transition_at(part: &[u8], i: usize) -> Transition
         source: number_at(part, at),
         label: number_at(part, at + 2),
         target: number_at(part, at + 4),
-    }
-}
-
-// Node i of the action or the formula part.
-pub fn node_at(part: &[u8], i: usize) -> Node
-    requires { 4 * i + 4 ≤ length part.now }
-    ensures { result ≡ node_in part.now i }
-{
-    let at = 4 * i;
-    Node {
-        kind: number_at(part, at),
-        arg: number_at(part, at + 2),
     }
 }

@@ -10,8 +10,8 @@ mod tables;
 mod transitions;
 
 pub use actions::action_masks;
-pub use conditions::{binders, check_layout, is_binder, open, subtree_end, transition_holds};
-pub use file::{case_end, node_at, number_at, transition_at};
+pub use conditions::{check_layout, open, transition_holds};
+pub use file::{case_end, number_at, transition_at};
 pub use kinds::{ActionKind, FormulaKind};
 pub use tables::{LabelRecords, LaidCase, Nodes, OpenCase, Table, Transitions};
 pub use transitions::{Flagged, first_appearances};

@@ -4,7 +4,7 @@ ghost use Rattle.cases.specs.File.{header_of, label_records as records_of, label
 ghost use Rattle.cases.specs.Conditions.{Accepted};
 ghost use Rattle.cases.specs.internal.Checks.{label_part, transition_part, action_part, formula_part, Laid};
 
-use crate::file::{label_at, label_records, node_at, transition_at};
+use crate::file::{label_records, number_at, transition_at};
 use crate::{Header, Label, Node, Transition};
 
 // A part of a file that starts with a table, and how many records the table has; each has SIZE bytes.
@@ -27,7 +27,15 @@ impl<'a> Table<'a, 8> {
         requires { j < self.now.count }
         ensures { result ≡ label_in self.now.part.now j }
     {
-        label_at(self.part, j)
+        let at = 8 * j;
+        Label {
+            names: [
+                number_at(self.part, at),
+                number_at(self.part, at + 2),
+                number_at(self.part, at + 4),
+                number_at(self.part, at + 6),
+            ],
+        }
     }
 }
 
@@ -47,7 +55,11 @@ impl<'a> Table<'a, 4> {
         requires { i < self.now.count }
         ensures { result ≡ node_in self.now.part.now i }
     {
-        node_at(self.part, i)
+        let at = 4 * i;
+        Node {
+            kind: number_at(self.part, at),
+            arg: number_at(self.part, at + 2),
+        }
     }
 }
 

@@ -152,7 +152,7 @@ fn check_model(case: &LaidCase<'_>) -> Result<(), Cause>
     if bad_model(case) {
         return Err(Cause::Model);
     }
-    if bad_labels(case.bytes, case.header) {
+    if bad_labels(case) {
         return Err(Cause::Labels);
     }
     if bad_actions(case) {

@@ -5,7 +5,7 @@ ghost use Rattle.sets.specs.Words.{number_of_bits};
 ghost use Rattle.cases.specs.File.{label_records, label_limit};
 ghost use Rattle.cases.specs.Labels.{record_numbers, names_of, occurrences as list_occurrences, same_names, alike_labels};
 ghost use Rattle.cases.specs.Conditions.{label_ok, bad_labels};
-ghost use Rattle.cases.specs.internal.Checks.{labels_in, LabelPart, Laid};
+ghost use Rattle.cases.specs.internal.Checks.{labels_in, LabelPart};
 ghost use Rattle.cases.specs.internal.Names.{equally_many, same_as};
 
 use crate::file::has_label_table;
@@ -19,15 +19,10 @@ fn label_holds(x: &Label) -> bool
 }
 
 // Condition 15.
-pub fn bad_labels(case: &[u8], h: Header) -> bool
-    requires { Laid case.now h }
-    ensures { result ≡ bad_labels case.now }
+pub fn bad_labels(case: &LaidCase<'_>) -> bool
+    ensures { result ≡ bad_labels case.now.bytes.now }
 {
-    let laid = LaidCase {
-        bytes: case,
-        header: h,
-    };
-    let table = laid.labels();
+    let table = case.labels();
     !(0..table.count).all(|j| label_holds(&table.at(j)))
 }
 

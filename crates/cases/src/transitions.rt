@@ -10,38 +10,42 @@ ghost use Rattle.cases.specs.internal.Links.{Sourced, Linked, FirstFlags};
 use crate::{OpenCase, TRANSITIONS, Tally, Transitions};
 use sets::STATES;
 
-// A place for each state, and one for each record.
-const LINKS: usize = STATES + TRANSITIONS;
+// The records of a table linked by their source, in rising order: the first record from each state, and after each record the next one with its
+// source. TRANSITIONS stands where there is none. It is no Option, since a walk to a record ends there, and so no link is read that is none.
+// The links are places in two arrays of fixed size, since there is no heap.
+#[derive(Drop)]
+struct Links {
+    first: [u16; STATES],
+    after: [u16; TRANSITIONS],
+}
 
-// Links the records of a table by their source, in rising order: place s has the first record from state s, and place STATES + j the
-// first record after j with the source of record j; TRANSITIONS where there is none.
-fn links_of(table: &Transitions<'_>) -> [u16; LINKS]
+fn links_of(table: &Transitions<'_>) -> Links
     requires { Sourced table.now.part.now table.now.count }
-    ensures { Linked table.now.part.now table.now.count result }
+    ensures { Linked table.now.part.now table.now.count result.first result.after }
 {
-    let mut links = [TRANSITIONS as u16; LINKS];
+    let mut first = [TRANSITIONS as u16; STATES];
+    let mut after = [TRANSITIONS as u16; TRANSITIONS];
     for j in (0..table.count).rev() {
         let s = table.at(j).source;
-        let after = links[s];
-        links[STATES + j] = after;
-        links[s] = j as u16;
+        after[j] = first[s];
+        first[s] = j as u16;
     }
-    links
+    Links { first, after }
 }
 
 // How many records before record i of a table equal it. Only those with its source are looked at.
-fn copies_before(table: &Transitions<'_>, links: &[u16], i: usize) -> usize
-    requires { Linked table.now.part.now table.now.count links.now × (i < table.now.count) }
+fn copies_before(table: &Transitions<'_>, links: &Links, i: usize) -> usize
+    requires { Linked table.now.part.now table.now.count links.now.first links.now.after × (i < table.now.count) }
     ensures { result ≡ copies_before (transitions_in table.now.part.now table.now.count) i }
 {
     let own = table.at(i);
     let mut copies: usize = 0;
-    let mut j = links[own.source] as usize;
+    let mut j = links.first[own.source] as usize;
     while j < i {
         if table.at(j) == own {
             copies += 1;
         }
-        j = links[STATES + j] as usize;
+        j = links.after[j] as usize;
     }
     copies
 }

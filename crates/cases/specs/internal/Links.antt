@@ -24,16 +24,17 @@ pub record Sourced (part : List ℕ) (m : ℕ) : Type 0 where
   pub inside : 6 * m ≤ length part
   pub source : (j : ℕ) → j < m → source_in part j < state_limit
 
--- The places of all states, and of the records from i on, are filled.
-pub record LinkedFrom (part : List ℕ) (m i : ℕ) (links : List ℕ) : Type 0 where
-  pub long : length links ≡ state_limit + transition_limit
-  pub state : (s : ℕ) → s < state_limit → get_or links s 0 ≡ next_from part m s i
-  pub after : (j : ℕ) → i ≤ j → j < m → get_or links (state_limit + j) 0 ≡ next_from part m (source_in part j) (j + 1)
+-- The first record of each state, and the one after each record, are known from record i on.
+pub record LinkedFrom (part : List ℕ) (m i : ℕ) (first after : List ℕ) : Type 0 where
+  pub states : length first ≡ state_limit
+  pub records : length after ≡ transition_limit
+  pub from_state : (s : ℕ) → s < state_limit → get_or first s 0 ≡ next_from part m s i
+  pub after_record : (j : ℕ) → i ≤ j → j < m → get_or after j 0 ≡ next_from part m (source_in part j) (j + 1)
 
--- All are filled.
-pub record Linked (part : List ℕ) (m : ℕ) (links : List ℕ) : Type 0 where
+-- They are of all records.
+pub record Linked (part : List ℕ) (m : ℕ) (first after : List ℕ) : Type 0 where
   pub sourced : Sourced part m
-  pub filled : LinkedFrom part m 0 links
+  pub filled : LinkedFrom part m 0 first after
 
 -- flag j is 1 where transition j is the first of its kind, and 0 where it is a copy
 pub record FirstFlags (part : List ℕ) (m : ℕ) (flags : List ℕ) : Type 0 where

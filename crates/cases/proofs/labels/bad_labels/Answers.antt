@@ -20,5 +20,5 @@ returns c =
     let ok = λ (j : ℕ). label_ok (label_in t.part.now j) in
     let hold = every_below ok t.count c.all.result (cases_from_all _ _ c.all.result (λ j. ok j ≡ true) (λ j. ok j ≡ false) c.all.ensures.ran (YieldsList-from_range 0 t.count t.count refl (omega arith)) (λ x q k. search rules) (λ x q k. search rules)) in
     let all = rw c.labels-table.ensures.part at (hold ∙ sym (labels_all t.part.now t.count)) in
-    labels_decide c.requires t.count c.labels-table.ensures.count c.all.result
-    (all ∙ ap (λ (h : Header). every label_ok (labels_in (drop h.labels_at c.args.case.now) t.count)) (sym c.requires.read))
+    labels_decide c.args.case.now.laid t.count c.labels-table.ensures.count c.all.result
+    (all ∙ ap (λ (h : Header). every label_ok (labels_in (drop h.labels_at c.args.case.now.bytes.now) t.count)) (sym c.args.case.now.laid.read))

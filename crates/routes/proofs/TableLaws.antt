@@ -1,5 +1,5 @@
 -- What is worked out once for each node: numbers stored one after the other, and the blocks of the binders.
-use mathlib.Core.Path.{◌≡◌, refl, ap, ◌∙◌}
+use mathlib.Core.Path.{◌≡◌, refl, ◌∙◌}
 use mathlib.Core.Logic.{◌⊎◌, inl, inr}
 use mathlib.Core.Bool.{Bool, true, false, cond}
 use mathlib.Core.List.{List, [], ◌∷◌}
@@ -47,10 +47,6 @@ module _ {P : ℕ → ℕ → Type 0} {xs : List ℕ} where
 
 -- node i of a formula part, as it is read
 module _ (part : List ℕ) {f i : ℕ} (h : i < f) {x : Node} (e : x ≡ node_in part i) where
-  -- it has the kind that was read
-  pub kind_read : (node_at (nodes_in part f) i).kind ≡ x.kind
-  kind_read = ap (λ (y : Node). y.kind) (node_read part f i h x e)
-
   -- the argument of a box or diamond is an action node
   pub modal_arg : (a : ℕ) → FormulaPart part f a → 4 ≤ x.kind → x.kind ≤ 5 → x.arg < a
   modal_arg a p l m = go (eq-or-lt_of_le {n = 4} {m = x.kind} l)

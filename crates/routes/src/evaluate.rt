@@ -135,7 +135,7 @@ pub fn evaluate_root(case: &DirectCase<'_>, limit: u64) -> Option<Value>
         case: *case,
         masks: &masks,
         blocks: &blocks,
-        limit: limit,
+        limit,
     };
     evaluator.evaluate(&[[0u64; WORDS]; BLOCKS], 0, 0)
 }

@@ -26,7 +26,7 @@ pub use solver::Report;
 use translate::write_case;
 
 // Why a case gets no marks: found on opening it, or on running it.
-#[derive(Clone, Copy)]
+#[derive(Clone, Copy, PartialEq, Eq)]
 pub enum Cause {
     Open(cases::Cause),
     Run(solver::Cause),
@@ -68,7 +68,7 @@ fn report_of(h: Header, set: Set, rounds: u64) -> Report
     Report {
         verdict: sets::test(&set, h.initial),
         count: sets::count(&set),
-        rounds: rounds,
+        rounds,
     }
 }
 
@@ -102,13 +102,10 @@ fn direct_opened(case: &OpenCase<'_>, marks: &mut [u64], limit: u64) -> Tallied
         formula: case.formula(),
     };
     let answer = direct_parts(&given, marks, limit);
-    Tallied {
-        answer: answer,
-        tally: tally,
-    }
+    Tallied { answer, tally }
 }
 
-// The answer to a case that is refused on opening.
+// The answer to a case that is refused on opening. A tally stands beside each answer, so `?` cannot hand a refusal on.
 fn unopened(cause: cases::Cause) -> Tallied
     ensures { (route_answer result.answer ≡ refused_outcome (case_number cause)) × (result.tally ≡ no_tally) }
 {
@@ -149,14 +146,11 @@ fn equation_opened(
     let Ok(length) = written else {
         return Tallied {
             answer: Err(Cause::Run(solver::Cause::Memory)),
-            tally: tally,
+            tally,
         };
     };
     let answer = solving_answer(solver::solve(&file[..length], work, marks, limit));
-    Tallied {
-        answer: answer,
-        tally: tally,
-    }
+    Tallied { answer, tally }
 }
 
 // Translates a case and solves its equation file. Is lent bytes for the file, a working byte for each cell, and the words of a set for

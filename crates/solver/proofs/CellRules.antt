@@ -1,4 +1,4 @@
--- Condition 12: the cells one by one, and the operands of each list.
+-- Condition 12: the cells one by one.
 use mathlib.Core.Path.{◌≡◌, refl, sym, ◌∙◌}
 use mathlib.Core.Bool.{Bool, true, false, cond, ◌&&◌}
 use mathlib.Core.List.{List, []}
@@ -127,11 +127,6 @@ module _ (e : List ℕ) (s : Sizes) (r : Read e s) (i used : ℕ) (before : used
       let none : drop i (numbers_from 0 (sizes_of e).cells) ≡ [] = drop_of_length-le (numbers_from 0 (sizes_of e).cells) {i = i} (omega (arith, length_range 0 (sizes_of e).cells)) in
       sym (left ∙ rw (none, ← all, ← before, ← (counted r.sizes_are).operands) refl)
 
-  module _ {found : Option ℕ} (f : Spans e i used found) where
-    -- cell i is broken
-    pub cell_breaks : found ≡ None → false ≡ rest_ok e 0
-    cell_breaks b = sym (left ∙ f.broken b)
-
-    -- cell i keeps its rule
-    pub cell_goes_on : i < s.cells → (count : ℕ) → found ≡ Some count → rest_ok e 0 ≡ rest_ok e (i + 1)
-    cell_goes_on h count t = left ∙ rest_step e i (omega (arith, (counted r.sizes_are).cells)) ∙ rw (f.holds count t) refl
+  -- cell i keeps its rule
+  pub cell_goes_on : {found : Option ℕ} → Spans e i used found → i < s.cells → (count : ℕ) → found ≡ Some count → rest_ok e 0 ≡ rest_ok e (i + 1)
+  cell_goes_on f h count t = left ∙ rest_step e i (omega (arith, (counted r.sizes_are).cells)) ∙ rw (f.holds count t) refl

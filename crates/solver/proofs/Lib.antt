@@ -8,7 +8,6 @@ pub mod Solving
 pub mod Starts
 pub mod Refusals
 pub mod Answers
-pub mod BlockRules
 pub mod CellRules
 pub mod Lookup
 pub mod Shown

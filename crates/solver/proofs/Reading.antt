@@ -78,11 +78,6 @@ layout_from e r =
 layout_read : (e : List ℕ) (s : Sizes) → s ≡ sizes_of e → layout_ok e ≡ true → Read e s
 layout_read e s are h = rw are (layout_facts e h)
 
--- a file too short for the header
-pub layout_short : (e : List ℕ) → length e < 36 → layout_ok e ≡ false
-unfolding layout_ok every
-layout_short e h = rw (lt-leb 36 (length e) h) refl
-
 -- a file that is opened can be read
 pub opens_read : {e : List ℕ} {s : Sizes} → OpenFile e s → Read e s
 opens_read {e} {s} o = layout_read e s o.counts o.formed.layout
@@ -98,23 +93,17 @@ own_block o h = omega (arith, (counted o.counts).blocks)
 pub row_fits : {k : ℕ} → k < block_limit → Fits w64 (k * 32)
 row_fits h = record { fits = omega arith }
 
--- each element of a table stands inside a file that can be read
-module _ {e : List ℕ} {s : Sizes} (r : Read e s) where
-  pub block_inside : {k : ℕ} → k < s.blocks → blocks_at + 8 * k + 8 ≤ length e
-  block_inside h = omega (arith, r.places.ends)
-
-  pub cell_inside : {i : ℕ} → i < s.cells → cells_at (sizes_of e) + 12 * i + 12 ≤ length e
-  cell_inside h = let n = counted r.sizes_are in omega (arith, r.places.ends)
-
-  pub operand_inside : {j : ℕ} → j < s.operands → operands_at (sizes_of e) + 4 * j + 4 ≤ length e
-  operand_inside h = let n = counted r.sizes_are in omega (arith, r.places.ends)
-
 -- What opening a file answers: condition 11 holds,
-pub opened_layout : (e : List ℕ) → layout_ok e ≡ false → Err Layout ≡ opened e
+opened_layout : (e : List ℕ) → layout_ok e ≡ false → Err Layout ≡ opened e
 unfolding opened
 opened_layout e f = rw (opened, f) refl
 
--- since the file cannot be read,
+-- since the file is too short for the header,
+pub opened_short : (e : List ℕ) → length e < 36 → Err Layout ≡ opened e
+unfolding layout_ok every
+opened_short e h = opened_layout e (rw (lt-leb 36 (length e) h) refl)
+
+-- or cannot be read,
 pub opened_unread : (e : List ℕ) (s : Sizes) → s ≡ sizes_of e → ¬ Read e s → Err Layout ≡ opened e
 opened_unread e s are n = go (layout_ok e) refl
   where

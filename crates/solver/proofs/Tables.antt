@@ -33,12 +33,7 @@ counted are = record {
   initial = ap (λ (x : Sizes). x.initial) are;
 }
 
--- what is read number by number is read whole: the counts
-pub sizes_read : (e : List ℕ) {n d c p i : ℕ} → n ≡ (sizes_of e).states → d ≡ (sizes_of e).blocks → c ≡ (sizes_of e).cells → p ≡ (sizes_of e).operands → i ≡ (sizes_of e).initial
-    → ◌≡◌ {A = Sizes} (record { states = n; blocks = d; cells = c; operands = p; initial = i }) (sizes_of e)
-sizes_read e states blocks cells operands initial = rw (states, blocks, cells, operands, initial) refl
-
--- and a cell, by its kind
+-- a cell is read by its kind
 module _ (e : List ℕ) (i at : ℕ) {k x y : ℕ} (place : at ≡ cells_at (sizes_of e) + 12 * i) (kind : k ≡ u32 e at) (one : x ≡ u32 e (at + 4)) (two : y ≡ u32 e (at + 8)) where
   numbers_read : cell_of k x y ≡ cell_read (entry_at e i)
   numbers_read = cc

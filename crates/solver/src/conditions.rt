@@ -29,22 +29,6 @@ fn counts_hold(sizes: Sizes) -> bool
     sizes.initial < sizes.states
 }
 
-// Where the cells start.
-fn cells_from(sizes: Sizes) -> usize
-    requires { SizesFit sizes }
-    ensures { result ≡ cells_at sizes }
-{
-    HEADER + 8 * sizes.blocks
-}
-
-// Where the operands start.
-fn operands_from(sizes: Sizes) -> usize
-    requires { SizesFit sizes }
-    ensures { result ≡ operands_at sizes }
-{
-    cells_from(sizes) + 12 * sizes.cells
-}
-
 // Whether the version, the offsets and the length are right.
 fn places_hold(file: &[u8], sizes: Sizes) -> bool
     requires long_enough { blocks_at ≤ length file.now }
@@ -57,10 +41,10 @@ fn places_hold(file: &[u8], sizes: Sizes) -> bool
     if number_at(file, 24) != HEADER {
         return false;
     }
-    if number_at(file, 28) != cells_from(sizes) {
+    if number_at(file, 28) != sizes.cells_from() {
         return false;
     }
-    let end = operands_from(sizes);
+    let end = sizes.operands_from();
     if number_at(file, 32) != end {
         return false;
     }
@@ -68,6 +52,7 @@ fn places_hold(file: &[u8], sizes: Sizes) -> bool
 }
 
 // The tables of a file, or that condition 11 holds.
+#[tactic(auto, using(crate::proofs::Reading::opened_short, crate::proofs::Reading::opened_unread))]
 fn lay_out(file: &[u8]) -> Result<Tables<'_>, Cause>
     ensures lays_out { IfOk result (λ tables. tables.bytes.now ≡ file.now) }
     ensures refuses { IfErr result (λ cause. Err cause ≡ opened file.now) }
@@ -83,6 +68,7 @@ fn lay_out(file: &[u8]) -> Result<Tables<'_>, Cause>
 }
 
 // Whether block k keeps its rule.
+#[tactic(auto, using(crate::proofs::Tables::counted), unfolding(crate::specs::Conditions::block_ok))]
 fn block_holds(tables: &Tables<'_>, k: usize) -> bool
     requires inside { k < tables.now.sizes.blocks }
     ensures { result ≡ block_ok tables.now.bytes.now k }
@@ -160,6 +146,7 @@ fn cells_hold(tables: &Tables<'_>) -> bool
 }
 
 // Whether condition 12 does not hold.
+#[tactic(auto, unfolding(crate::specs::Conditions::tables_ok))]
 fn tables_hold(tables: &Tables<'_>) -> bool
     ensures { result ≡ tables_ok tables.now.bytes.now }
 {

@@ -2,7 +2,7 @@
 ghost use Rattle.std.specs.Prelude.{◌≡◌, ◌+◌, ◌*◌, ◌^◌, ◌<◌, ◌≤◌, leb, length};
 ghost use Rattle.solver.specs.File.{u32, cells_at, operands_at, entry_at, sizes_of, blocks_at};
 ghost use Rattle.solver.specs.internal.Reading.{cell_read};
-ghost use Rattle.solver.specs.internal.Checks.{Read};
+ghost use Rattle.solver.specs.internal.Checks.{Read, SizesFit};
 ghost use Rattle.solver.specs.internal.Working.{OpenFile};
 
 use crate::{Cell, Operands, Sizes};
@@ -30,6 +30,24 @@ pub fn sizes_of(file: &[u8]) -> Sizes
         cells: number_at(file, 12),
         operands: number_at(file, 16),
         initial: number_at(file, 20),
+    }
+}
+
+impl Sizes {
+    // Where the cells start.
+    pub fn cells_from(&self) -> usize
+        requires { SizesFit self.now }
+        ensures { result ≡ cells_at self.now }
+    {
+        HEADER + 8 * self.blocks
+    }
+
+    // Where the operands start.
+    pub fn operands_from(&self) -> usize
+        requires { SizesFit self.now }
+        ensures { result ≡ operands_at self.now }
+    {
+        self.cells_from() + 12 * self.cells
     }
 }
 
@@ -63,7 +81,7 @@ impl<'a> Tables<'a> {
         requires { i < self.now.sizes.cells }
         ensures { result ≡ (entry_at self.now.bytes.now i).kind }
     {
-        number_at(self.bytes, HEADER + 8 * self.sizes.blocks + 12 * i)
+        number_at(self.bytes, self.sizes.cells_from() + 12 * i)
     }
 
     // Cell i, whose kind is that of an and, an or or a variable.
@@ -72,7 +90,7 @@ impl<'a> Tables<'a> {
         requires known { (entry_at self.now.bytes.now i).kind ≤ 2 }
         ensures { result ≡ cell_read (entry_at self.now.bytes.now i) }
     {
-        let at = HEADER + 8 * self.sizes.blocks + 12 * i;
+        let at = self.sizes.cells_from() + 12 * i;
         let one = number_at(self.bytes, at + 4);
         let two = number_at(self.bytes, at + 8);
         let operands = Operands {
@@ -95,10 +113,7 @@ impl<'a> Tables<'a> {
         requires { j < self.now.sizes.operands }
         ensures { result ≡ u32 self.now.bytes.now (operands_at (sizes_of self.now.bytes.now) + 4 * j) }
     {
-        number_at(
-            self.bytes,
-            HEADER + 8 * self.sizes.blocks + 12 * self.sizes.cells + 4 * j,
-        )
+        number_at(self.bytes, self.sizes.operands_from() + 4 * j)
     }
 }
 

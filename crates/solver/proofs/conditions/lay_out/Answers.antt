@@ -1,8 +1,5 @@
-use Rattle.solver.proofs.Reading.{layout_short, opened_layout, opened_unread}
+use Rattle.solver.proofs.Reading.{opened_short, opened_unread}
 use Rattle.solver.proofs.conditions.lay_out.Goals as goal
-
-pub returns-then-file-lt-HEADER-clause-refuses : goal.returns-then-file-lt-HEADER-clause-refuses
-returns-then-file-lt-HEADER-clause-refuses c = opened_layout _ (layout_short _ c.if-file-lt-HEADER.true)
 
 pub returns-clause-refuses : goal.returns-clause-refuses
 returns-clause-refuses c = opened_unread _ _ c.sizes_of-sizes.ensures (λ read. elim c.else-counts_hold.branch [

@@ -2,7 +2,7 @@
 use mathlib.Core.Path.{◌≡◌, refl}
 use mathlib.Core.Bool.{Bool, true, false}
 use mathlib.Core.List.{List}
-use Prim.Native.Nat.{ℕ, ◌+◌, ◌*◌, ◌≤◌, ◌<◌}
+use Prim.Native.Nat.{ℕ, ◌*◌, ◌<◌}
 use native.Mathlib.Omega.{arith}
 use mir.Syntax.{w64}
 use mir.Val.{Fits}
@@ -16,7 +16,7 @@ use Rattle.sets.specs.Words.{state_limit}
 use Rattle.sets.proofs.Lists.{test}
 use Rattle.solver.specs.declared.Cause.TheVariants.{Layout, Table}
 use Rattle.solver.specs.declared.Sizes.{Sizes}
-use Rattle.solver.specs.File.{sizes_of, blocks_at, cells_at, operands_at, block_limit, cell_limit, operand_limit}
+use Rattle.solver.specs.File.{sizes_of, block_limit, cell_limit, operand_limit}
 use Rattle.solver.specs.Conditions.{layout_ok, tables_ok}
 use Rattle.solver.specs.internal.Forms.{opened}
 use Rattle.solver.specs.internal.Checks.{Read}

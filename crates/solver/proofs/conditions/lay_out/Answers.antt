@@ -1,4 +1,4 @@
-use Rattle.solver.proofs.Reading.{opened_short, opened_unread}
+use Rattle.solver.proofs.Reading.{opened_unread}
 use Rattle.solver.proofs.conditions.lay_out.Goals as goal
 
 pub returns-clause-refuses : goal.returns-clause-refuses

@@ -13,7 +13,7 @@ ghost use Rattle.records.specs.Places.{place_of, without_at};
 ghost use Rattle.records.specs.internal.Writing.{RecordsWritten};
 
 use bytes::{put_head, put_record};
-use cases::{Flagged, Header, LaidCase, Transition, Transitions, transition_at};
+use cases::{Flagged, Header, LaidCase, Transition, Transitions};
 
 // How many bytes a record has.
 const RECORD: usize = 6;
@@ -77,7 +77,11 @@ pub fn remove(bytes: &mut [u8], h: Header, i: usize)
     ensures { bytes.new ≡ written_to bytes.old (with_transitions (case_within bytes.old) (without_at (transition_table (case_within bytes.old)) i)) }
 {
     let records = h.transitions_at;
-    let last = transition_at(&bytes[records..], h.transitions - 1);
+    let table = Transitions {
+        part: &bytes[records..],
+        count: h.transitions,
+    };
+    let last = table.at(h.transitions - 1);
     put_record(bytes, records + RECORD * i, last);
     let at = h.actions_at;
     let end = at + 4 * h.actions + 4 * h.nodes;

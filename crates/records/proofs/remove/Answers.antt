@@ -9,14 +9,16 @@ use Rattle.records.specs.internal.Writing.{over}
 use Rattle.records.proofs.Files.{within_behind, within_few, within_bytes, lies_in, removed}
 use Rattle.records.proofs.remove.Goals as goal
 
-pub slice_bounds-transition_at-count : goal.slice_bounds-transition_at-count
-slice_bounds-transition_at-count c = let p = lies_in c.requires.0 c.args.bytes.now (within_few c.args.bytes.now) in omega arith
+pub slice_bounds-table-count : goal.slice_bounds-table-count
+slice_bounds-table-count c = let p = lies_in c.requires.0 c.args.bytes.now (within_few c.args.bytes.now) in omega arith
 
-pub slice_bounds-transition_at-start : goal.slice_bounds-transition_at-start
-slice_bounds-transition_at-start c = let p = lies_in c.requires.0 c.args.bytes.now (within_few c.args.bytes.now) in omega arith
+pub slice_bounds-table-start : goal.slice_bounds-table-start
+slice_bounds-table-start c = let p = lies_in c.requires.0 c.args.bytes.now (within_few c.args.bytes.now) in omega arith
 
-pub transition_at-last-requires : goal.transition_at-last-requires
-transition_at-last-requires c = let p = lies_in c.requires.0 c.args.bytes.now (within_few c.args.bytes.now) in rw (part_to_end c.args.bytes.now c.args.h.transitions_at) (omega (arith, length-drop c.args.h.transitions_at c.args.bytes.now))
+pub invariant_of-table : goal.invariant_of-table
+invariant_of-table c =
+    let p = lies_in c.requires.0 c.args.bytes.now (within_few c.args.bytes.now) in
+    record { inside = rw (part_to_end c.args.bytes.now c.args.h.transitions_at) (omega (arith, length-drop c.args.h.transitions_at c.args.bytes.now)) }
 
 pub put_record-requires : goal.put_record-requires
 put_record-requires c = let p = lies_in c.requires.0 c.args.bytes.now (within_few c.args.bytes.now) in omega arith
@@ -38,4 +40,4 @@ returns c =
     let m = c.args.bytes.now in
     c.put_head.ensures
     ∙ removed c.requires.0 m _ (within_behind m) (within_bytes m (search rules)) c.args.i (c.args.h.transitions - 1) (omega (arith, c.requires.1)) (omega (arith, c.requires.1))
-    (c.put_record.ensures ∙ ap (λ (t : Transition). over m (c.args.h.transitions_at + 6 * c.args.i) (record_bytes t)) c.transition_at-last.ensures) c.copy_within.ensures.after
+    (c.put_record.ensures ∙ ap (λ (t : Transition). over m (c.args.h.transitions_at + 6 * c.args.i) (record_bytes t)) c.at-last.ensures) c.copy_within.ensures.after

@@ -6,14 +6,13 @@ mod conditions;
 mod file;
 mod rounds;
 
-ghost use Rattle.std.specs.Prelude.{◌≡◌, length, replicate};
-ghost use Rattle.solver.specs.File.{sizes_of};
+ghost use Rattle.std.specs.Prelude.{◌≡◌, length};
 ghost use Rattle.solver.specs.Outcome.{solve_number, solve_answer, Answered};
-ghost use Rattle.solver.specs.internal.Working.{OpenFile, AllSolved};
+ghost use Rattle.solver.specs.internal.Working.{AllSolved};
 
 use conditions::open_file;
+use file::EquationFile;
 pub use file::HEADER;
-use file::{EquationFile, Tables};
 use sets::{Set, WORDS};
 
 pub const BLOCKS: usize = 6;

@@ -1,10 +1,5 @@
-use native.Mathlib.Omega.{arith}
-use Rattle.solver.proofs.Tables.{counted}
 use Rattle.solver.proofs.Lookup.{operand_low, search_ends, hit, miss}
 use Rattle.solver.proofs.cells.finds.Goals as goal
-
-pub operand-o-requires : goal.operand-o-requires
-operand-o-requires c = omega (arith, c.requires.1.fits, (counted c.args.file.opens.counts).operands)
 
 pub bounds-work-o : goal.bounds-work-o
 bounds-work-o c = operand_low c.requires.0 c.requires.1 c.loop-j-test.true c.operand-o.ensures

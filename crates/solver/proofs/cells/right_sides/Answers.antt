@@ -2,13 +2,9 @@ use Prim.Native.Nat.{◌+◌, ◌-◌}
 use mathlib.Core.Path.{◌≡◌}
 use native.Mathlib.Omega.{arith}
 use Rattle.solver.proofs.Tables.{counted}
-use Rattle.solver.proofs.Reading.{opens_read, few_blocks, row_fits}
 use Rattle.solver.proofs.Shown.{byte_is}
 use Rattle.solver.proofs.Sides.{block_fits, replacing_none, replacing_more, replacing_all}
 use Rattle.solver.proofs.cells.right_sides.Goals as goal
-
-pub overflow_add-first : goal.overflow_add-first
-overflow_add-first c = omega (arith, (opens_read c.args.file.opens).counts.few_states)
 
 pub evaluate-requires : goal.evaluate-requires
 evaluate-requires c = (c.requires.0, block_fits record { opens = c.args.file.opens; has = c.requires.1; is = c.first-first.ensures.0 })
@@ -16,26 +12,11 @@ evaluate-requires c = (c.requires.0, block_fits record { opens = c.args.file.ope
 pub loop-s-init : goal.loop-s-init
 loop-s-init c = replacing_none record { opens = c.args.file.opens; has = c.requires.1; is = c.first-first.ensures.0 } (omega arith) c.evaluate.ensures
 
-pub overflow_add-first-in-loop-s : goal.overflow_add-first-in-loop-s
-overflow_add-first-in-loop-s c = omega (arith, block_fits c.loop-s.invariant.block, (opens_read c.args.file.opens).counts.few_cells)
-
 pub value_of-v-requires : goal.value_of-v-requires
 value_of-v-requires c = (c.loop-s.invariant.worked.ready, omega (arith, block_fits c.loop-s.invariant.block))
 
-pub overflow_add-work : goal.overflow_add-work
-overflow_add-work c = omega (arith, block_fits c.loop-s.invariant.block, (opens_read c.args.file.opens).counts.few_cells)
-
 pub bounds-work-first : goal.bounds-work-first
 bounds-work-first c = omega (arith, block_fits c.loop-s.invariant.block, c.loop-s.invariant.worked.ready.room, (counted c.args.file.opens.counts).cells)
-
-pub offset_bounds-next-k : goal.offset_bounds-next-k
-offset_bounds-next-k c = row_fits (few_blocks c.args.file.opens c.requires.1)
-
-pub bounds-next-k : goal.bounds-next-k
-bounds-next-k c = few_blocks c.args.file.opens c.requires.1
-
-pub put-requires : goal.put-requires
-put-requires c = omega (arith, (opens_read c.args.file.opens).counts.few_states)
 
 pub loop-s-preserved : goal.loop-s-preserved
 loop-s-preserved c =

@@ -5,21 +5,9 @@ use native.Mathlib.Omega.{arith}
 use Rattle.std.proofs.Common.{rules, None}
 use Rattle.std.specs.Cmp.Lexicographic.{same_text, other_text}
 use Rattle.solver.proofs.Tables.{counted}
-use Rattle.solver.proofs.Reading.{few_blocks, own_block, row_fits}
+use Rattle.solver.proofs.Reading.{own_block}
 use Rattle.solver.proofs.Turns.{is_stable, is_replaced, unchanged, begins, out_of_rounds, stopped, goes_on}
 use Rattle.solver.proofs.rounds.+round_solve_last.Goals as goal
-
-pub round-offset_bounds-next-k : goal.round-offset_bounds-next-k
-round-offset_bounds-next-k t c = row_fits (few_blocks c.args.file.now.opens (omega arith))
-
-pub round-bounds-next-k : goal.round-bounds-next-k
-round-bounds-next-k t c = few_blocks c.args.file.now.opens (omega arith)
-
-pub round-offset_bounds-sets-k : goal.round-offset_bounds-sets-k
-round-offset_bounds-sets-k t c = row_fits (few_blocks c.args.file.now.opens (omega arith))
-
-pub round-bounds-sets-k : goal.round-bounds-sets-k
-round-bounds-sets-k t c = few_blocks c.args.file.now.opens (omega arith)
 
 pub round-returns-then-eq : goal.round-returns-then-eq
 round-returns-then-eq t c =
@@ -64,18 +52,6 @@ solve_last-returns-in-Stable t c =
     let i = c.loop-end.invariant in
     let n = rw c.in-Stable.is at c.in_ok-end.ensures in
     record { ready = n.ready; answers = stopped c.args.file.now.opens (omega (arith, i.0, i.1)) i.6 n.answers }
-
-pub solve_last-offset_bounds-t-k : goal.solve_last-offset_bounds-t-k
-solve_last-offset_bounds-t-k t c = let i = c.loop-end.invariant in row_fits (few_blocks c.args.file.now.opens (omega (arith, i.0, i.1)))
-
-pub solve_last-bounds-t-k : goal.solve_last-bounds-t-k
-solve_last-bounds-t-k t c = let i = c.loop-end.invariant in few_blocks c.args.file.now.opens (omega (arith, i.0, i.1))
-
-pub solve_last-offset_bounds-s-k : goal.solve_last-offset_bounds-s-k
-solve_last-offset_bounds-s-k t c = let i = c.loop-end.invariant in row_fits (few_blocks c.args.file.now.opens (omega (arith, i.0, i.1)))
-
-pub solve_last-bounds-s-k : goal.solve_last-bounds-s-k
-solve_last-bounds-s-k t c = let i = c.loop-end.invariant in few_blocks c.args.file.now.opens (omega (arith, i.0, i.1))
 
 pub solve_last-loop-end-preserved : goal.solve_last-loop-end-preserved
 solve_last-loop-end-preserved t c =

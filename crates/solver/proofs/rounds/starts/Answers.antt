@@ -1,18 +1,12 @@
 use mathlib.Core.Path.{◌∙◌}
 use native.Mathlib.Omega.{arith}
 use lib.ListN.{length-set}
-use Rattle.solver.proofs.Reading.{few_blocks, row_fits}
+use Rattle.solver.proofs.Reading.{few_blocks}
 use Rattle.solver.proofs.Runs.{none_started, more_started}
 use Rattle.solver.proofs.rounds.starts.Goals as goal
 
 pub loop-k-init : goal.loop-k-init
 loop-k-init c = (omega arith, omega arith, omega arith, none_started _)
-
-pub offset_bounds-sets-k : goal.offset_bounds-sets-k
-offset_bounds-sets-k c = row_fits (few_blocks c.args.file.now.opens (omega arith))
-
-pub bounds-sets-k : goal.bounds-sets-k
-bounds-sets-k c = few_blocks c.args.file.now.opens (omega arith)
 
 pub loop-k-preserved : goal.loop-k-preserved
 loop-k-preserved c =

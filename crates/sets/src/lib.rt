@@ -2,6 +2,7 @@
 #![tactic(auto)]
 
 ghost use Rattle.std.specs.Prelude.{◌≡◌, true, false, not, ◌&&◌, ◌||◌, map, ◌++◌, ℕ, ◌<◌, ◌≤◌, length, get_or, set, take, drop};
+ghost use Rattle.std.specs.Int.Count.{ones};
 ghost use Rattle.sets.specs.Lists.{numbers_from};
 ghost use Rattle.sets.specs.States.{States, has, start};
 ghost use Rattle.sets.specs.Words.{words, number_of_bits, marked, word_count, state_limit};
@@ -76,11 +77,18 @@ pub fn add(held: &mut Set, s: usize)
     put(held, s, true);
 }
 
+// How many bits of a word are 1.
+fn word_ones(word: u64) -> usize
+    ensures { (result ≡ ones word) × (result ≤ 64) }
+{
+    word.count_ones() as usize
+}
+
 // How many states a set has: the sum of the ones of its words.
 pub fn count(set: &Set) -> usize
     ensures { SizeIs set.now result }
 {
-    set.iter().map(|word| word.count_ones() as usize).sum()
+    set.iter().map(|word| word_ones(*word)).sum()
 }
 
 // The words that an operation makes of the words of two sets, place by place.

@@ -1,5 +1,5 @@
 -- What `write_case` holds at each step: the parts of an accepted case as the header's numbers give them.
-use mathlib.Core.Path.{◌≡◌, refl, sym, ap, ◌∙◌, subst}
+use mathlib.Core.Path.{◌≡◌, refl, ap, ◌∙◌}
 use mathlib.Core.Bool.{Bool, true, false, cond}
 use mathlib.Core.List.{List, ◌++◌}
 use Prim.Native.Nat.{ℕ, ◌+◌, ◌≤◌, ◌<◌}
@@ -8,17 +8,17 @@ use lib.ListN.{length, take, drop}
 use borrow.Author.Tests.{ltb-true, ltb-false}
 use lib.Seq.{get_or-take, length-take-le}
 use Rattle.cases.specs.declared.Header.{Header}
-use Rattle.cases.specs.File.{header_of, node_in, label_table, action_table, action_limit, node_limit}
+use Rattle.cases.specs.File.{header_of, node_in, action_limit, node_limit}
 use Rattle.cases.specs.Action.{Action}
 use Rattle.cases.specs.Case.{case_action, case_of}
 use Rattle.cases.specs.Conditions.{node_at, is_binder, Accepted}
-use Rattle.cases.specs.internal.Checks.{labels_in, nodes_in, label_part, transition_part, action_part, formula_part, LabelPart, NodesFit}
-use Rattle.cases.specs.internal.Masks.{WholeActions, action_in, ActionMasks}
+use Rattle.cases.specs.internal.Checks.{nodes_in, transition_part, formula_part}
+use Rattle.cases.specs.internal.Masks.{ActionMasks}
 use Rattle.translate.specs.declared.Shape.{Shape}
 use Rattle.translate.specs.declared.Cause.{Cause}
 use Rattle.translate.specs.declared.Cause.TheVariants.{Memory}
 use Rattle.std.specs.Prelude.{Result, Ok, Err}
-use Rattle.translate.specs.Bytes.{System, system_of, file_of}
+use Rattle.translate.specs.Bytes.{system_of, file_of}
 use Rattle.translate.specs.internal.Parts.{distinct_in}
 use Rattle.cases.specs.internal.Links.{FirstFlags}
 use Rattle.cases.proofs.Accepting.{passed}

@@ -13,20 +13,18 @@ use Rattle.cases.specs.Action.{Action}
 use Rattle.cases.specs.Formula.{Formula}
 use Rattle.cases.specs.declared.Node.{Node}
 use Rattle.cases.specs.declared.Transition.{Transition}
-use Rattle.cases.specs.Prefix.{arity_in, formula_arities, exactly, end_of, formula_at}
+use Rattle.cases.specs.Prefix.{arity_in, formula_arities, exactly, formula_at}
 use Rattle.cases.proofs.PrefixRules.{node_in_lem}
-use Rattle.cases.specs.File.{node_in, header_of, label_limit, transition_limit, action_limit, node_limit, transition_table, action_table, formula_table}
+use Rattle.cases.specs.File.{node_in, header_of, label_limit, transition_limit, node_limit, transition_table, formula_table}
 use Rattle.cases.specs.Case.{case_action, case_of, distinct}
 use Rattle.cases.specs.Conditions.{transition_ok, node_at, node_ok, is_binder, bad_formula, Accepted}
-use Rattle.cases.specs.internal.Checks.{transitions_in, nodes_in, label_part, transition_part, action_part, formula_part, LabelPart, NodesFit}
-use Rattle.cases.specs.internal.Masks.{WholeActions}
+use Rattle.cases.specs.internal.Checks.{transitions_in, nodes_in, transition_part, formula_part}
 use Rattle.cases.specs.internal.Links.{FirstFlags}
 use Rattle.cases.specs.internal.Tables.{FormulaTable}
 use Rattle.cases.proofs.Spans.{exactly_whole, second_node}
 use Rattle.cases.proofs.Trees.{arity_at}
 use Rattle.cases.proofs.TableTrees.{held, each_kind, formula_table_lem}
-use Rattle.cases.proofs.Masks.{whole_actions}
-use Rattle.cases.proofs.ModelRules.{labels_inside, transitions_inside, actions_inside, nodes_inside}
+use Rattle.cases.proofs.ModelRules.{transitions_inside}
 use Rattle.translate.specs.declared.Shape.{Shape}
 use Rattle.translate.specs.Whole.{whole, block_in}
 use Rattle.translate.specs.Bytes.{System, system_of, all_operands}

@@ -2,13 +2,13 @@
 use mathlib.Core.Path.{◌≡◌, refl, sym, ap, ap₂, ◌∙◌}
 use mathlib.Core.Bool.{Bool, true, false, cond, ◌||◌}
 use mathlib.Core.List.{List, [], ◌∷◌, ◌++◌, map, append-nil, append_assoc, map-append}
-use Prim.Native.Nat.{ℕ, zero, suc, ◌+◌, ◌*◌, ◌≤◌, ◌<◌}
+use Prim.Native.Nat.{ℕ, zero, suc, ◌+◌, ◌≤◌, ◌<◌}
 use native.Mathlib.Nat.{add-zero}
 use native.Mathlib.Numerals.{add-one}
 use native.Mathlib.Omega.{arith}
 use borrow.Author.Tests.{ne_eqb}
-use lib.Dec.{eqb, leb, eqb-suc-suc}
-use lib.ListN.{length, get_or, take, length-append, get_or-map}
+use lib.Dec.{eqb, eqb-suc-suc}
+use lib.ListN.{length, get_or, length-append, get_or-map}
 use Rattle.sets.specs.Lists.{numbers_from}
 use Rattle.solver.specs.Cells.{Cell}
 use Rattle.solver.specs.File.{Block}
@@ -18,7 +18,7 @@ use Rattle.cases.specs.declared.Node.{Node}
 use Rattle.cases.specs.declared.Transition.{Transition}
 use Rattle.cases.specs.Prefix.{arity_in, formula_arities, end_of, formula_at}
 use Rattle.cases.specs.internal.Masks.{mask_of}
-use Rattle.cases.specs.Conditions.{node_at, is_binder, binder_count}
+use Rattle.cases.specs.Conditions.{node_at, is_binder}
 use Rattle.cases.specs.internal.Tables.{made, formula_operator, FormulaTable}
 use Rattle.cases.proofs.Trees.{arity_at}
 use Rattle.cases.proofs.TableTrees.{each_kind, formula_at_lem, root}

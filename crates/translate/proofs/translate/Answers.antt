@@ -1,5 +1,5 @@
 use Rattle.std.proofs.lemmas.Result.{err_from_is_err_and}
-use Rattle.cases.proofs.Openings.{accepted, refused}
+use Rattle.cases.proofs.Openings.{refused}
 use Rattle.translate.specs.Translating.{translate_number, written_number, written_length}
 use Rattle.translate.proofs.Translations.{case_refused}
 use Rattle.translate.proofs.translate.Goals as goal

@@ -1,28 +1,11 @@
-use mathlib.Core.Path.{◌≡◌, refl, sym, ap, ◌∙◌}
-use Prim.Native.Nat.{ℕ, ◌<◌, ◌≤◌}
-use native.Mathlib.Omega.{arith}
-use borrow.Author.Rules.{rules}
-use lib.ListN.{length}
+use mathlib.Core.Path.{refl, sym, ap, ◌∙◌}
 use Rattle.cases.specs.Kinds.{formula_number}
 use Rattle.translate.specs.declared.Shape.{Shape}
 use Rattle.translate.proofs.ShapeFields.{readable_here, shape_read}
 use Rattle.translate.proofs.formula.FormulaTable.shape_at.Goals as goal
 
-pub formula_kind-requires : goal.formula_kind-requires
-formula_kind-requires c = let known = (c.args.self.now.readable c.args.i c.requires.1).0 in rw c.at-x.ensures known
-
-pub offset_bounds-self-x : goal.offset_bounds-self-x
-offset_bounds-self-x c =
-    let inside : c.at-x.result.arg < length c.args.self.now.masks.now = (readable_here c.at-x.ensures (c.args.self.now.readable c.args.i c.requires.1)).2 (rw (sym c.formula_kind.ensures ∙ ap formula_number c.in-Box.is) refl) in
-    search rules
-
 pub bounds-self-x : goal.bounds-self-x
 bounds-self-x c = (readable_here c.at-x.ensures (c.args.self.now.readable c.args.i c.requires.1)).2 (rw (sym c.formula_kind.ensures ∙ ap formula_number c.in-Box.is) refl)
-
-pub offset_bounds-self-x-in-Diamond : goal.offset_bounds-self-x-in-Diamond
-offset_bounds-self-x-in-Diamond c =
-    let inside : c.at-x.result.arg < length c.args.self.now.masks.now = (readable_here c.at-x.ensures (c.args.self.now.readable c.args.i c.requires.1)).2 (rw (sym c.formula_kind.ensures ∙ ap formula_number c.in-Diamond.is) refl) in
-    search rules
 
 pub bounds-self-x-in-Diamond : goal.bounds-self-x-in-Diamond
 bounds-self-x-in-Diamond c = (readable_here c.at-x.ensures (c.args.self.now.readable c.args.i c.requires.1)).2 (rw (sym c.formula_kind.ensures ∙ ap formula_number c.in-Diamond.is) refl)

@@ -4,110 +4,72 @@
 // states, the rounds, the records and the distinct ones too. Ends after a refused open, at any other call, and where the stream does.
 #![tactic(auto)]
 
-ghost use Rattle.std.specs.Prelude.{◌≤◌, length};
-
-use cases::{LARGEST, Transition, number_at};
-use models::change_number;
+use cases::{LARGEST, Transition};
+use lines::{Printed, next_bytes, next_case};
+use models::{Change, change_number};
+use routes::numbers_of;
 use sets::WORDS;
 use std::io;
 use std::io::{Read, Write};
 
 // The line of a change: its name, and its refusal number.
-fn print_change<W: Write>(output: &mut W, name: &[u8], refusal: u64) -> io::Result<()> {
-    output.write_all(name)?;
-    lines::print_number(output, refusal)?;
-    output.write_all(b"\n")
+fn print_change<W: Write>(output: &mut W, name: &str, refusal: u64) -> io::Result<()> {
+    writeln!(output, "{name} {refusal}")
 }
 
-// Reads a case that fills a buffer, as far as the stream goes, and opens it; answers whether it was accepted.
-fn open_whole<R: Read, W: Write>(
-    input: &mut R,
-    output: &mut W,
-    case: &mut [u8],
-    model: &mut [u8],
-) -> io::Result<bool> {
-    let length = lines::read_full(input, case)?;
-    let refusal = change_number(models::open(&case[..length], model));
-    print_change(output, b"open", refusal)?;
-    Ok(refusal == 0)
-}
-
-// Reads the length of a case and opens that case; answers whether it was accepted.
+// Opens the case that comes next, as far as the stream goes, and answers whether it was accepted.
 fn open_next<R: Read, W: Write>(
     input: &mut R,
     output: &mut W,
     model: &mut [u8],
 ) -> io::Result<bool> {
-    let mut prefix = [0u8; 2];
-    if lines::read_full(input, &mut prefix)? < 2 {
-        return Ok(false);
-    }
-    let length = number_at(&prefix, 0);
     let mut space = [0u8; lines::LONGEST];
-    open_whole(input, output, &mut space[..length], model)
+    let Some(case) = next_case(input, &mut space)? else {
+        return Ok(false);
+    };
+    let refusal = change_number(models::open(case.bytes, model));
+    print_change(output, "open", refusal)?;
+    Ok(refusal == 0)
 }
 
 // The transition of three 16-bit numbers.
-fn transition_of(bytes: &[u8]) -> Transition
-    requires { 6 ≤ length bytes.now }
-{
+fn transition_of(bytes: [u8; 6]) -> Transition {
+    let [s0, s1, l0, l1, t0, t1] = bytes;
     Transition {
-        source: number_at(bytes, 0),
-        label: number_at(bytes, 2),
-        target: number_at(bytes, 4),
+        source: u16::from_le_bytes([s0, s1]) as usize,
+        label: u16::from_le_bytes([l0, l1]) as usize,
+        target: u16::from_le_bytes([t0, t1]) as usize,
     }
 }
 
-// Adds the transition that comes next, and answers whether the stream may go on.
-fn add_next<R: Read, W: Write>(
+// Makes a change, add or drop, by the transition that comes next, and answers whether the stream may go on.
+fn change_next<R: Read, W: Write, F: FnOnce(&mut [u8], Transition) -> Change>(
     input: &mut R,
     output: &mut W,
     model: &mut [u8],
-) -> io::Result<bool> {
-    let mut bytes = [0u8; 6];
-    if lines::read_full(input, &mut bytes)? < 6 {
-        return Ok(false);
-    }
-    let refusal = change_number(models::add(model, transition_of(&bytes)));
-    print_change(output, b"add", refusal)?;
-    Ok(true)
-}
-
-// Drops the transition that comes next, and answers whether the stream may go on.
-fn drop_next<R: Read, W: Write>(
-    input: &mut R,
-    output: &mut W,
-    model: &mut [u8],
-) -> io::Result<bool> {
-    let mut bytes = [0u8; 6];
-    if lines::read_full(input, &mut bytes)? < 6 {
-        return Ok(false);
-    }
-    let refusal = change_number(models::drop(model, transition_of(&bytes)));
-    print_change(output, b"drop", refusal)?;
-    Ok(true)
-}
-
-// The 64-bit number of eight bytes, low byte first.
-fn limit_of(bytes: &[u8]) -> u64
-    requires { 8 ≤ length bytes.now }
+    name: &str,
+    change: F,
+) -> io::Result<bool>
+    requires { F.IsAlwaysCallable change }
 {
-    let low = number_at(bytes, 0) + 65_536 * number_at(bytes, 2);
-    let high = number_at(bytes, 4) + 65_536 * number_at(bytes, 6);
-    (low + 4_294_967_296 * high) as u64
+    let Some(bytes) = next_bytes(input)? else {
+        return Ok(false);
+    };
+    let refusal = change_number(change(model, transition_of(bytes)));
+    print_change(output, name, refusal)?;
+    Ok(true)
 }
 
 // Works out the marks by the limit that comes next, and answers whether the stream may go on.
 fn want_next<R: Read, W: Write>(input: &mut R, output: &mut W, model: &[u8]) -> io::Result<bool> {
-    let mut bytes = [0u8; 8];
-    if lines::read_full(input, &mut bytes)? < 8 {
+    let Some(limit) = next_bytes(input)? else {
         return Ok(false);
-    }
+    };
     let mut marks = [0u64; WORDS];
-    let run = models::want(model, &mut marks, limit_of(&bytes));
-    lines::print_route(output, b"want", run)?;
-    lines::print_records(output, run)?;
-    output.write_all(b"\n")?;
+    let run = models::want(model, &mut marks, u64::from_le_bytes(limit));
+    let numbers = Printed(numbers_of(run.answer));
+    let tally = Printed(run.tally);
+    writeln!(output, "want{numbers}{tally}")?;
     Ok(true)
 }
 
@@ -117,14 +79,13 @@ fn call_next<R: Read, W: Write>(
     output: &mut W,
     model: &mut [u8],
 ) -> io::Result<bool> {
-    let mut call = [0u8; 1];
-    if lines::read_full(input, &mut call)? < 1 {
+    let Some(call) = next_bytes::<1, R>(input)? else {
         return Ok(false);
-    }
-    match call[0] {
-        1 => add_next(input, output, model),
-        2 => drop_next(input, output, model),
-        3 => want_next(input, output, model),
+    };
+    match call {
+        [1] => change_next(input, output, model, "add", models::add),
+        [2] => change_next(input, output, model, "drop", models::drop),
+        [3] => want_next(input, output, model),
         _ => Ok(false),
     }
 }

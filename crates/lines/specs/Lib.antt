@@ -1,2 +1,3 @@
--- What the programs print.
+-- What the programs read and print.
+pub mod Streams
 pub mod Printed

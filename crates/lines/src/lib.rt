@@ -1,20 +1,22 @@
 // Both routes and solve, as the programs run them: their limit, their memory, how input is read, and how the numbers are printed.
 #![tactic(auto)]
 
-ghost use Rattle.std.specs.Prelude.{◌≡◌, ◌<◌, ◌≤◌, ◌++◌, codes, length, take, IfOk, OnOk};
-ghost use Rattle.std.specs.Io.KnownBytes.{Appends, Consumes, IsAtEnd};
+ghost use Rattle.std.specs.Prelude.{◌≡◌, ◌↔◌, ◌<◌, ◌≤◌, length, take, Some, IfOk, IfSome, IsNone, IsTrue};
+ghost use Rattle.std.specs.Io.KnownBytes.{Consumes, IsAtEnd};
 ghost use Rattle.sets.specs.Words.{word_count};
 ghost use Rattle.solver.specs.File.{cell_limit};
 ghost use Rattle.solver.specs.Outcome.{solve_outcome};
 ghost use Rattle.cases.specs.Tally.{tally_of};
 ghost use Rattle.routes.specs.Route.{route_answer, direct, equation, outcome_of, shown, program_limit, program_memory};
-ghost use Rattle.lines.specs.Printed.{number_text, outcome_text, records_text};
+ghost use Rattle.lines.specs.Printed.{outcome_text, records_text};
+ghost use Rattle.lines.specs.Streams.{CaseRead};
 
+use cases::Tally;
 use routes::{Numbers, Tallied, numbers_of, solving_answer};
 use sets::WORDS;
 use solver::CELLS;
-use std::io;
-use std::io::{Read, Write};
+use std::io::Read;
+use std::{fmt, io};
 
 const LIMIT: u64 = 1_000_000;
 
@@ -50,7 +52,9 @@ pub fn by_file(file: &[u8]) -> Numbers
     numbers_of(solving_answer(solver::solve(file, &mut work, &mut marks, LIMIT)))
 }
 
-// Reads until a buffer is full or the input ends, and answers how many bytes came. They are the first ones of the buffer.
+// Reads until a buffer is full or the input ends, and answers how many bytes came. They are the first ones of the buffer. No method of the
+// library does it: `read_exact` refuses an input that ends before, and `read_to_end` needs a heap. A turn goes on by as many bytes as one
+// read gives, so no range counts the turns.
 pub fn read_full<R: Read>(reader: &mut R, buffer: &mut [u8]) -> io::Result<usize>
     ensures within { IfOk result (λ n. n ≤ length buffer.new) }
     ensures bytes { IfOk result (λ n. Consumes (R.remaining reader.old) (R.remaining reader.new) (take n buffer.new)) }
@@ -67,46 +71,77 @@ pub fn read_full<R: Read>(reader: &mut R, buffer: &mut [u8]) -> io::Result<usize
     Ok(filled)
 }
 
-// A space, and a number.
-pub fn print_number<W: Write>(writer: &mut W, n: u64) -> io::Result<()>
-    ensures { OnOk result (Appends (W.contents writer.old) (W.contents writer.new) (number_text n)) }
+// Reads the next N bytes; none where the input ends before.
+pub fn next_bytes<const N: usize, R: Read>(reader: &mut R) -> io::Result<Option<[u8; N]>>
+    ensures bytes { IfOk result (λ o. IfSome o (λ bytes. Consumes (R.remaining reader.old) (R.remaining reader.new) bytes)) }
+    ensures end { IfOk result (λ o. IsNone o → IsAtEnd (R.remaining reader.new)) }
 {
-    write!(writer, " {n}")
+    let mut bytes = [0u8; N];
+    let count = read_full(reader, &mut bytes)?;
+    if count < N {
+        return Ok(None);
+    }
+    Ok(Some(bytes))
 }
 
-// A name, as S of solve, and its numbers.
-#[tactic(auto, unfolding(routes::specs::Route::shown))]
-pub fn print<W: Write>(writer: &mut W, name: &[u8], numbers: Numbers) -> io::Result<()>
-    ensures { OnOk result (Appends (W.contents writer.old) (W.contents writer.new) (name.now ++ outcome_text (shown numbers))) }
-{
-    writer.write_all(name)?;
-    print_number(writer, numbers.refusal)?;
-    print_number(writer, numbers.verdict)?;
-    print_number(writer, numbers.count)?;
-    print_number(writer, numbers.rounds)
+// A case of a stream: how many bytes were announced, and those that came.
+#[derive(Clone, Copy)]
+pub struct Announced<'a> {
+    pub length: usize,
+    pub bytes: &'a [u8],
 }
 
-// A name, E or D, and the numbers of a route's answer.
-pub fn print_route<W: Write>(writer: &mut W, name: &[u8], run: Tallied) -> io::Result<()>
-    ensures { OnOk result (Appends (W.contents writer.old) (W.contents writer.new) (name.now ++ outcome_text (route_answer run.answer))) }
-{
-    let answer = run.answer;
-    print(writer, name, numbers_of(answer))
+impl Announced<'_> {
+    // Whether all of them came.
+    pub fn is_whole(&self) -> bool
+        ensures { IsTrue result ↔ (length self.now.bytes.now ≡ self.now.length) }
+    {
+        self.bytes.len() == self.length
+    }
 }
 
-// How many records the case's transition table has, and how many of them are distinct.
-pub fn print_records<W: Write>(writer: &mut W, run: Tallied) -> io::Result<()>
-    ensures { OnOk result (Appends (W.contents writer.old) (W.contents writer.new) (records_text run.tally)) }
+// Reads the next case of a stream into lent bytes, as far as the stream goes: its length, a 16-bit number, low byte first, and then so many
+// bytes. None where the stream ends in the length or before it.
+pub fn next_case<'a, R: Read>(
+    reader: &mut R,
+    space: &'a mut [u8; LONGEST],
+) -> io::Result<Option<Announced<'a>>>
+    ensures case { IfOk result (λ o. IfSome o (λ case. CaseRead (R.remaining reader.entry.now) (R.remaining reader.exit.now) case.length case.bytes.now)) }
+    ensures end { IfOk result (λ o. IsNone o → IsAtEnd (R.remaining reader.exit.now)) }
 {
-    let tally = run.tally;
-    print_number(writer, tally.records as u64)?;
-    print_number(writer, tally.distinct as u64)
+    let Some(prefix) = next_bytes(reader)? else {
+        return Ok(None);
+    };
+    let length = u16::from_le_bytes(prefix) as usize;
+    let count = read_full(reader, &mut space[..length])?;
+    let bytes = &space[..count];
+    Ok(Some(Announced { length, bytes }))
 }
 
-// T, and the numbers of the tally.
-pub fn print_tally<W: Write>(writer: &mut W, run: Tallied) -> io::Result<()>
-    ensures { OnOk result (Appends (W.contents writer.old) (W.contents writer.new) (codes "T" ++ records_text run.tally)) }
-{
-    writer.write_all(b"T")?;
-    print_records(writer, run)
+// The numbers of an answer, or of a tally, as the programs print them behind a name: a space, and the number in decimal digits, for each.
+#[derive(Clone, Copy)]
+pub struct Printed<T>(pub T);
+
+impl fmt::Display for Printed<Numbers> {
+    ghost output = { λ p. Some (outcome_text (shown p.0)) };
+
+    #[tactic(auto, unfolding(routes::specs::Route::shown))]
+    fn fmt<W: fmt::Write>(&self, f: &mut fmt::Formatter<W>) -> fmt::Result {
+        let Numbers {
+            refusal,
+            verdict,
+            count,
+            rounds,
+        } = self.0;
+        write!(f, " {refusal} {verdict} {count} {rounds}")
+    }
+}
+
+impl fmt::Display for Printed<Tally> {
+    ghost output = { λ p. Some (records_text p.0) };
+
+    fn fmt<W: fmt::Write>(&self, f: &mut fmt::Formatter<W>) -> fmt::Result {
+        let Tally { records, distinct } = self.0;
+        write!(f, " {records} {distinct}")
+    }
 }

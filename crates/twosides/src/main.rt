@@ -3,30 +3,23 @@
 // table and the distinct ones, both 0 where the case itself is refused.
 #![tactic(auto)]
 
-ghost use Rattle.std.specs.Prelude.{◌≡◌, ◌+◌, length};
-ghost use Rattle.cases.specs.internal.Checks.{largest_case};
-
 use cases::LARGEST;
+use lines::Printed;
+use routes::numbers_of;
 use std::io;
 use std::io::Write;
 
-// Room for the largest case and one byte more, so that a longer input is refused for its length.
-fn room() -> [u8; LARGEST + 1]
-    ensures { length result ≡ largest_case + 1 }
-{
-    [0u8; LARGEST + 1]
-}
-
 fn main(rt: HostRuntime) -> io::Result<()> {
-    let mut case = room();
-    let length = lines::read_full(&mut rt.reader(), &mut case)?;
-    let equation = lines::by_equation(&case[..length]);
-    let direct = lines::by_direct(&case[..length]);
+    // Room for the largest case and one byte more, so that a longer input is refused for its length.
+    let mut space = [0u8; LARGEST + 1];
+    let length = lines::read_full(&mut rt.reader(), &mut space)?;
+    let case = &space[..length];
+    let equation = Printed(numbers_of(lines::by_equation(case).answer));
+    let run = lines::by_direct(case);
+    let direct = Printed(numbers_of(run.answer));
+    let tally = Printed(run.tally);
     let mut output = io::writer(&rt);
-    lines::print_route(&mut output, b"E", equation)?;
-    output.write_all(b"\n")?;
-    lines::print_route(&mut output, b"D", direct)?;
-    output.write_all(b"\n")?;
-    lines::print_tally(&mut output, direct)?;
-    output.write_all(b"\n")
+    writeln!(output, "E{equation}")?;
+    writeln!(output, "D{direct}")?;
+    writeln!(output, "T{tally}")
 }

@@ -7,15 +7,10 @@
 use cases::{LARGEST, Transition};
 use lines::{Printed, next_bytes, next_case};
 use models::{Change, change_number};
-use routes::numbers_of;
+use routes::Numbers;
 use sets::WORDS;
 use std::io;
 use std::io::{Read, Write};
-
-// The line of a change: its name, and its refusal number.
-fn print_change<W: Write>(output: &mut W, name: &str, refusal: u64) -> io::Result<()> {
-    writeln!(output, "{name} {refusal}")
-}
 
 // Opens the case that comes next, as far as the stream goes, and answers whether it was accepted.
 fn open_next<R: Read, W: Write>(
@@ -27,9 +22,10 @@ fn open_next<R: Read, W: Write>(
     let Some(case) = next_case(input, &mut space)? else {
         return Ok(false);
     };
-    let refusal = change_number(models::open(case.bytes, model));
-    print_change(output, "open", refusal)?;
-    Ok(refusal == 0)
+    let change = models::open(case.bytes, model);
+    let refusal = change_number(change);
+    writeln!(output, "open {refusal}")?;
+    Ok(change.is_ok())
 }
 
 // The transition of three 16-bit numbers.
@@ -56,7 +52,7 @@ fn change_next<R: Read, W: Write, F: FnOnce(&mut [u8], Transition) -> Change>(
         return Ok(false);
     };
     let refusal = change_number(change(model, transition_of(bytes)));
-    print_change(output, name, refusal)?;
+    writeln!(output, "{name} {refusal}")?;
     Ok(true)
 }
 
@@ -67,7 +63,7 @@ fn want_next<R: Read, W: Write>(input: &mut R, output: &mut W, model: &[u8]) -> 
     };
     let mut marks = [0u64; WORDS];
     let run = models::want(model, &mut marks, u64::from_le_bytes(limit));
-    let numbers = Printed(numbers_of(run.answer));
+    let numbers = Printed(Numbers::from(run.answer));
     let tally = Printed(run.tally);
     writeln!(output, "want{numbers}{tally}")?;
     Ok(true)

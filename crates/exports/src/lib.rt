@@ -12,8 +12,8 @@ ghost use Rattle.exports.specs.internal.Saying.{Says};
 
 use cases::Transition;
 use models::change_number;
-use routes::{Answer, Tallied, numbers_of, solving_answer};
-use translate::{Written, number_of};
+use routes::{Answer, Tallied, solving_answer};
+use translate::Written;
 
 // The refusal number (0 if none), the verdict as 1 or 0, the count of marked states, the rounds, and the length of the file that was
 // written. What a call does not answer is 0, and so are all but the first after a refusal.
@@ -41,55 +41,76 @@ pub struct RouteNumbers {
 }
 
 // The numbers of an answer.
-fn answered(answer: Answer) -> Numbers
-    ensures { Says result (route_answer answer) 0 }
-{
-    let numbers = numbers_of(answer);
-    Numbers {
-        refusal: numbers.refusal,
-        verdict: numbers.verdict,
-        count: numbers.count,
-        rounds: numbers.rounds,
-        length: 0,
+impl From<Answer> for Numbers {
+    ghost from_gives = { λ answer numbers. Says numbers (route_answer answer) 0 };
+
+    #[tactic(auto, unfolding(crate::specs::Exported::exported, routes::specs::Route::shown))]
+    fn from(answer: Answer) -> Numbers {
+        let numbers = routes::Numbers::from(answer);
+        Numbers {
+            refusal: numbers.refusal,
+            verdict: numbers.verdict,
+            count: numbers.count,
+            rounds: numbers.rounds,
+            length: 0,
+        }
+    }
+}
+
+// What a call says that answers nothing.
+const NOTHING: Numbers = Numbers {
+    refusal: 0,
+    verdict: 0,
+    count: 0,
+    rounds: 0,
+    length: 0,
+};
+
+// The numbers of a translation.
+impl From<Written> for Numbers {
+    ghost from_gives = { λ answer numbers. Says numbers (refused (written_number answer)) (written_length answer) };
+
+    #[tactic(auto, unfolding(crate::specs::Exported::exported, translate::specs::Translating::written_number, translate::specs::Translating::written_length))]
+    fn from(answer: Written) -> Numbers {
+        match answer {
+            Ok(length) => Numbers {
+                length: length as u64,
+                ..NOTHING
+            },
+            Err(cause) => Numbers {
+                refusal: u64::from(cause),
+                ..NOTHING
+            },
+        }
     }
 }
 
 // The numbers of a route's answer, and of its tally.
-fn route_numbers(run: Tallied) -> RouteNumbers
-    ensures { (exported_route result ≡ route_answer run.answer) × (exported_tally result ≡ run.tally) }
-{
-    let answer = run.answer;
-    let tally = run.tally;
-    let five = answered(answer);
-    RouteNumbers {
-        refusal: five.refusal,
-        verdict: five.verdict,
-        count: five.count,
-        rounds: five.rounds,
-        records: tally.records as u64,
-        distinct: tally.distinct as u64,
+impl From<Tallied> for RouteNumbers {
+    ghost from_gives = { λ run numbers. (exported_route numbers ≡ route_answer run.answer) × (exported_tally numbers ≡ run.tally) };
+
+    #[tactic(auto, unfolding(crate::specs::Exported::exported, crate::specs::Exported::exported_route, crate::specs::Exported::exported_tally))]
+    fn from(run: Tallied) -> RouteNumbers {
+        let five = Numbers::from(run.answer);
+        RouteNumbers {
+            refusal: five.refusal,
+            verdict: five.verdict,
+            count: five.count,
+            rounds: five.rounds,
+            records: run.tally.records as u64,
+            distinct: run.tally.distinct as u64,
+        }
     }
 }
 
-// The numbers of a translation.
-fn written(answer: Written) -> Numbers
-    ensures { Says result (refused (written_number answer)) (written_length answer) }
+// A transition of three 64-bit numbers.
+fn transition_of(source: u64, label: u64, target: u64) -> Transition
+    ensures { result ≡ record { source = source; label = label; target = target } }
 {
-    match answer {
-        Written::File(length) => Numbers {
-            refusal: 0,
-            verdict: 0,
-            count: 0,
-            rounds: 0,
-            length: length as u64,
-        },
-        Written::Refused(cause) => Numbers {
-            refusal: number_of(cause) as u64,
-            verdict: 0,
-            count: 0,
-            rounds: 0,
-            length: 0,
-        },
+    Transition {
+        source: source as usize,
+        label: label as usize,
+        target: target as usize,
     }
 }
 
@@ -97,7 +118,7 @@ fn written(answer: Written) -> Numbers
 pub extern "C" fn bithrowy_translate(case: &[u8], file: &mut [u8]) -> Numbers
     ensures { TranslateSays case.now file.old result file.new }
 {
-    written(translate::translate(case, file))
+    Numbers::from(translate::translate(case, file))
 }
 
 #[unsafe(no_mangle)]
@@ -109,14 +130,14 @@ pub extern "C" fn bithrowy_solve(
 ) -> Numbers
     ensures { SolveSays file.now work.old marks.old limit result work.new marks.new }
 {
-    answered(solving_answer(solver::solve(file, work, marks, limit)))
+    Numbers::from(solving_answer(solver::solve(file, work, marks, limit)))
 }
 
 #[unsafe(no_mangle)]
 pub extern "C" fn bithrowy_direct(case: &[u8], marks: &mut [u64], limit: u64) -> RouteNumbers
     ensures { DirectSays case.now marks.old limit result marks.new }
 {
-    route_numbers(routes::direct(case, marks, limit))
+    RouteNumbers::from(routes::direct(case, marks, limit))
 }
 
 #[unsafe(no_mangle)]
@@ -130,7 +151,7 @@ pub extern "C" fn bithrowy_equation(
     ensures { EquationSays case.now (lent file.old work.old marks.old) limit result
         file.new work.new marks.new }
 {
-    route_numbers(routes::equation(case, file, work, marks, limit))
+    RouteNumbers::from(routes::equation(case, file, work, marks, limit))
 }
 
 #[unsafe(no_mangle)]
@@ -144,29 +165,19 @@ pub extern "C" fn bithrowy_open(case: &[u8], model: &mut [u8]) -> u64
 pub extern "C" fn bithrowy_add(model: &mut [u8], source: u64, label: u64, target: u64) -> u64
     ensures { AddSays model.old (record { source = source; label = label; target = target }) result model.new }
 {
-    let t = Transition {
-        source: source as usize,
-        label: label as usize,
-        target: target as usize,
-    };
-    change_number(models::add(model, t))
+    change_number(models::add(model, transition_of(source, label, target)))
 }
 
 #[unsafe(no_mangle)]
 pub extern "C" fn bithrowy_drop(model: &mut [u8], source: u64, label: u64, target: u64) -> u64
     ensures { DropSays model.old (record { source = source; label = label; target = target }) result model.new }
 {
-    let t = Transition {
-        source: source as usize,
-        label: label as usize,
-        target: target as usize,
-    };
-    change_number(models::drop(model, t))
+    change_number(models::drop(model, transition_of(source, label, target)))
 }
 
 #[unsafe(no_mangle)]
 pub extern "C" fn bithrowy_want(model: &[u8], marks: &mut [u64], limit: u64) -> RouteNumbers
     ensures { DirectSays (case_within model.now) marks.old limit result marks.new }
 {
-    route_numbers(models::want(model, marks, limit))
+    RouteNumbers::from(models::want(model, marks, limit))
 }

@@ -1,4 +1,5 @@
 // The calls of the crate exports under C's names: a static library, where that crate is a library for others. Each has the same promises.
+// Each is written out, since the C interface needs it: a static library exports the functions of its own source, and none by `pub use`.
 #![tactic(auto)]
 
 ghost use Rattle.routes.specs.Route.{lent};

@@ -12,7 +12,7 @@ ghost use Rattle.lines.specs.Printed.{outcome_text, records_text};
 ghost use Rattle.lines.specs.Streams.{CaseRead};
 
 use cases::Tally;
-use routes::{Numbers, Tallied, numbers_of, solving_answer};
+use routes::{Numbers, Tallied, solving_answer};
 use sets::WORDS;
 use solver::CELLS;
 use std::io::Read;
@@ -49,7 +49,7 @@ pub fn by_file(file: &[u8]) -> Numbers
 {
     let mut work = [0u8; CELLS];
     let mut marks = [0u64; WORDS];
-    numbers_of(solving_answer(solver::solve(file, &mut work, &mut marks, LIMIT)))
+    Numbers::from(solving_answer(solver::solve(file, &mut work, &mut marks, LIMIT)))
 }
 
 // Reads until a buffer is full or the input ends, and answers how many bytes came. They are the first ones of the buffer. No method of the
@@ -69,6 +69,13 @@ pub fn read_full<R: Read>(reader: &mut R, buffer: &mut [u8]) -> io::Result<usize
         filled += count;
     }
     Ok(filled)
+}
+
+// Room for N bytes. The check does not count them out, as it would those of an array that stands where it is used.
+pub fn room<const N: usize>() -> [u8; N]
+    ensures { length result ≡ N }
+{
+    [0u8; N]
 }
 
 // Reads the next N bytes; none where the input ends before.

@@ -1,37 +1,33 @@
 -- What an edit answers and leaves, condition by condition.
-use mathlib.Core.Path.{◌≡◌, sym, ap, subst, ◌∙◌}
+use mathlib.Core.Path.{◌≡◌, refl, sym, ap, ◌∙◌}
 use mathlib.Core.Bool.{Bool, true, false, not, ◌&&◌}
 use mathlib.Core.List.{List, [], ◌∷◌, ◌++◌}
 use Prim.Native.Nat.{ℕ, ◌+◌, ◌-◌, ◌*◌, ◌≤◌, ◌<◌}
 use native.Mathlib.Omega.{arith}
-use borrow.Author.Rules.{part_to_end}
-use borrow.Author.Tests.{le-ltb, lt-ltb, le-leb, lt-leb}
+use borrow.Author.Tests.{not-false, le-ltb, lt-ltb, le-leb, lt-leb}
 use lib.Dec.{ltb}
-use lib.ListN.{length, take, drop, length-drop}
-use lib.Seq.{length-take-le}
+use lib.ListN.{length, take}
+use Rattle.std.proofs.Common.{append_assoc}
+use Rattle.std.proofs.lemmas.Bool.{false≢true}
 use Rattle.sets.specs.Lists.{every}
 use Rattle.sets.specs.Refusals.{Conditions, first_of}
-use Rattle.sets.proofs.Refusals.{refusing, none_of_first, one_of_first, holds_here, holds_later, none_holds}
+use Rattle.sets.proofs.Refusals.{refusing, none_of_first, one_of_first, none_reached, holds_here, holds_later, none_holds}
 use Rattle.cases.specs.declared.Header.{Header}
 use Rattle.cases.specs.declared.Transition.{Transition}
 use Rattle.cases.specs.declared.Cause.{Cause}
-use Rattle.cases.specs.declared.Opened.{Opened}
-use Rattle.cases.specs.declared.Opened.TheVariants.{Accepted as accepted_header, Refused}
-use Rattle.cases.specs.File.{header_of, transition_table, case_within, label_limit, transition_limit, action_limit, node_limit}
+use Rattle.std.specs.Prelude.{Result, Ok, Err, Option, Some, None, MatchOption}
+use Rattle.std.specs.Option.{is_some}
+use Rattle.cases.specs.File.{header_of, transition_table, case_within, transition_limit}
 use Rattle.cases.specs.Conditions.{transition_ok, layout_conditions, model_conditions, formula_conditions, case_conditions, case_refusal, Accepted}
 use Rattle.cases.specs.Opening.{case_number, Opens}
-use Rattle.cases.specs.internal.Checks.{longest_header, transition_part, transitions_in, Laid}
-use Rattle.cases.specs.internal.Links.{FirstFlags}
-use Rattle.cases.proofs.Accepting.{passed}
+use Rattle.cases.specs.internal.Checks.{transition_part, transitions_in}
 use Rattle.cases.proofs.Openings.{accepted, refused}
-use Rattle.cases.proofs.Tallies.{length_transitions, part_at}
+use Rattle.cases.proofs.Tallies.{length_transitions}
 use Rattle.records.specs.Places.{place_of}
-use Rattle.records.proofs.Heads.{start_few}
-use Rattle.records.proofs.Files.{within_few, lies_in}
 use Rattle.records.proofs.Places.{stands, stands_not}
-use Rattle.records.proofs.ReadBack.{table_within}
 use Rattle.records.specs.Replaced.{with_transitions, written_to}
-use Rattle.models.specs.Model.{holds, add_checks, drop_checks, Edited, model_room, open_conditions, add_conditions, added_model, drop_conditions}
+use Rattle.models.specs.Model.{holds, out_of_range, add_checks, drop_checks, Edited, model_room, open_conditions, add_conditions, added_model, drop_conditions}
+use Rattle.models.specs.internal.Looking.{look_conditions, Placed, RefusedBy}
 
 -- ---- any edit
 
@@ -76,14 +72,40 @@ module _ (model : List ℕ) (t : Transition) where
   abbrev right : Bool
   right = transition_ok (header_of b).states (header_of b).labels t
 
-  -- a number of the layout
-  pub add_layout : ¬ (first_of (layout_conditions b) ≡ 0) → first_of (layout_conditions b) ≡ first_of (add_conditions model t)
-  unfolding add_conditions
-  add_layout d = sym (one_of_first (layout_conditions b) _ d)
+  abbrev range : Conditions
+  range = (6, out_of_range (header_of b).states (header_of b).labels t) ∷ []
 
-  pub drop_layout : ¬ (first_of (layout_conditions b) ≡ 0) → first_of (layout_conditions b) ≡ first_of (drop_conditions model t)
-  unfolding drop_conditions
-  drop_layout d = sym (one_of_first (layout_conditions b) _ d)
+  -- a number of the layout, and 6
+  pub look_layout : ¬ (first_of (layout_conditions b) ≡ 0) → first_of (layout_conditions b) ≡ first_of (look_conditions model t)
+  unfolding look_conditions
+  look_layout d = sym (one_of_first (layout_conditions b) _ d)
+
+  module _ (none : first_of (layout_conditions b) ≡ 0) where
+    look_own : first_of (look_conditions model t) ≡ first_of range
+    unfolding look_conditions layout_conditions every
+    look_own = none_of_first (layout_conditions b) _ tt none
+
+    pub look_range : right ≡ false → 6 ≡ first_of (look_conditions model t)
+    look_range e = holds_here _ _ _ (ap not e) ∙ sym look_own
+
+    pub look_none : right ≡ true → first_of (look_conditions model t) ≡ 0
+    look_none e = look_own ∙ sym (holds_later _ _ _ (ap not e) none_holds)
+
+  -- none of them holds
+  pub looked : first_of (look_conditions model t) ≡ 0 → (first_of (layout_conditions b) ≡ 0) × (right ≡ true)
+  unfolding look_conditions layout_conditions every
+  looked none = let r = (none_reached (layout_conditions b) 6 _ (λ e. omega arith) tt).0 none in (r.0, not-false _ r.1)
+
+  -- one of them holds
+  pub look_adds : {k : ℕ} {made : List ℕ} → RefusedBy (look_conditions model t) k → Edited (add_conditions model t) made model k model
+  unfolding look_conditions add_conditions add_checks
+  look_adds r =
+      refuses (r.number ∙ sym (one_of_first (look_conditions model t) _ (λ z. r.some (r.number ∙ z))) ∙ ap first_of (append_assoc (layout_conditions b) range _)) r.some
+
+  pub look_drops : {k : ℕ} {made : List ℕ} → RefusedBy (look_conditions model t) k → Edited (drop_conditions model t) made model k model
+  unfolding look_conditions drop_conditions drop_checks
+  look_drops r =
+      refuses (r.number ∙ sym (one_of_first (look_conditions model t) _ (λ z. r.some (r.number ∙ z))) ∙ ap first_of (append_assoc (layout_conditions b) range _)) r.some
 
   module _ (none : first_of (layout_conditions b) ≡ 0) where
     add_own : first_of (add_conditions model t)
@@ -94,15 +116,6 @@ module _ (model : List ℕ) (t : Transition) where
     drop_own : first_of (drop_conditions model t) ≡ first_of (drop_checks (header_of b).states (header_of b).labels held t)
     unfolding drop_conditions layout_conditions every
     drop_own = none_of_first (layout_conditions b) _ tt none
-
-    -- 6
-    pub add_range : right ≡ false → 6 ≡ first_of (add_conditions model t)
-    unfolding add_checks
-    add_range e = holds_here _ _ _ (ap not e) ∙ sym add_own
-
-    pub drop_range : right ≡ false → 6 ≡ first_of (drop_conditions model t)
-    unfolding drop_checks
-    drop_range e = holds_here _ _ _ (ap not e) ∙ sym drop_own
 
     module _ (ok : right ≡ true) where
       -- a transition that is held
@@ -149,59 +162,47 @@ module _ (model : List ℕ) (t : Transition) where
 pub right_is : (model : List ℕ) (t : Transition) {h : Header} {r v : Bool} → h ≡ header_of (case_within model) → r ≡ transition_ok h.states h.labels t → r ≡ v → right model t ≡ v
 right_is model t is made e = ap (λ (x : Header). transition_ok x.states x.labels t) (sym is) ∙ sym made ∙ e
 
-module _ (model : List ℕ) (t : Transition) {h : Header} (l : Laid (case_within model) h) where
-  pub count_is : length (transition_table (case_within model)) ≡ h.transitions
-  count_is = length_transitions (case_within model) ∙ ap (λ (x : Header). x.transitions) (sym l.read)
+-- how many are held
+pub count_is : (model : List ℕ) {h : Header} → h ≡ header_of (case_within model) → length (transition_table (case_within model)) ≡ h.transitions
+count_is model is = length_transitions (case_within model) ∙ ap (λ (x : Header). x.transitions) (sym is)
 
-  module _ {r : ℕ} (found : r ≡ place_of t (transitions_in (part_at model h.transitions_at) h.transitions)) where
-    pub place_is : r ≡ place_of t (transition_table (case_within model))
-    place_is = found ∙ ap (place_of t) (table_within model l)
+-- the place that is found in a table of them
+module _ (model : List ℕ) (t : Transition) {part : List ℕ} {count : ℕ} (there : part ≡ transition_part (case_within model)) (many : count ≡ (header_of (case_within model)).transitions) where
+  table_is : transitions_in part count ≡ transition_table (case_within model)
+  unfolding transitions_in transition_table
+  table_is = rw (there, many) refl
 
-    -- a place among the records, or none
-    pub is_held : r < h.transitions → holds (transition_table (case_within model)) t ≡ true
-    is_held g = stands t (transition_table (case_within model)) (omega (arith, place_is, count_is))
+  pub placed : (place : Option ℕ) → MatchOption place (place_of t (transitions_in part count) ≡ count) (λ i. (place_of t (transitions_in part count) ≡ i) × (i < count)) → Placed model t place
+  placed None e = let same = ap (place_of t) table_is in stands_not t (transition_table (case_within model)) (omega (arith, same, e, many, length_transitions (case_within model)))
+  placed (Some i) e =
+      let same = ap (place_of t) table_is in
+      let long = length_transitions (case_within model) in
+      (stands t (transition_table (case_within model)) (omega (arith, same, e.0, e.1, many, long)), sym e.0 ∙ same, omega (arith, e.1, many, long))
 
-    pub is_new : h.transitions ≤ r → holds (transition_table (case_within model)) t ≡ false
-    is_new g = stands_not t (transition_table (case_within model)) (omega (arith, place_is, count_is))
+-- what a place says
+module _ (model : List ℕ) (t : Transition) where
+  pub is_held : (place : Option ℕ) → Placed model t place → is_some place ≡ true → holds (transition_table (case_within model)) t ≡ true
+  is_held (Some i) p e = p.0
+  is_held None p e = absurd (false≢true e)
 
--- where the records lie in the bytes
-pub records_inside : (model : List ℕ) {h : Header} → Laid (case_within model) h → (h.transitions_at ≤ length model) × (6 * h.transitions ≤ length (part_at model h.transitions_at))
-records_inside model {h} l =
-    let p = lies_in l model (within_few model) in
-    let r : ℕ = h.transitions_at in
-    (omega arith, rw (part_to_end model r) (omega (arith, length-drop r model)))
+  pub is_new : (place : Option ℕ) → Placed model t place → is_some place ≡ false → holds (transition_table (case_within model)) t ≡ false
+  is_new None p e = p
+  is_new (Some i) p e = absurd (false≢true (sym e))
 
 -- what was found of the bytes up to the end of the case was found of the case
-module _ (model : List ℕ) (e : ℕ) (cut : take e model ≡ case_within model) {answer : Opened} (o : Opens (first_of (layout_conditions (take e model))) (header_of (take e model)) answer) where
+module _ (model : List ℕ) (e : ℕ) (cut : take e model ≡ case_within model) {answer : Result Header Cause}
+    (o : Opens (first_of (layout_conditions (take e model))) (λ h. h ≡ header_of (take e model)) answer) where
   same : first_of (layout_conditions (take e model)) ≡ first_of (layout_conditions (case_within model))
   same = ap (λ (b : List ℕ). first_of (layout_conditions b)) cut
 
-  pub laid_out : {h : Header} → answer ≡ accepted_header h → (first_of (layout_conditions (case_within model)) ≡ 0) × (h ≡ header_of (case_within model))
+  pub laid_out : {h : Header} → answer ≡ Ok h → (first_of (layout_conditions (case_within model)) ≡ 0) × (h ≡ header_of (case_within model))
   laid_out is = let a = accepted o is in (sym same ∙ a.0, a.1 ∙ ap header_of cut)
 
-  pub not_laid_out : {cause : Cause} → answer ≡ Refused cause → (case_number cause ≡ first_of (layout_conditions (case_within model))) × ¬ (first_of (layout_conditions (case_within model)) ≡ 0)
+  pub not_laid_out : {cause : Cause} → answer ≡ Err cause → (case_number cause ≡ first_of (layout_conditions (case_within model))) × ¬ (first_of (layout_conditions (case_within model)) ≡ 0)
   not_laid_out is = let r = refused o is in (r.0 ∙ same, λ z. r.1 (same ∙ z))
-
--- a list that is cut at its own length or before
-pub cut_long : (s : List ℕ) (e : ℕ) → e ≤ length s → e ≡ length (take e s)
-cut_long s e h = sym (length-take-le e s h)
 
 -- ---- an accepted case and its header
 
-module _ (b : List ℕ) {h : Header} (is : h ≡ header_of b) where
-  pub accepted_laid : Accepted b → Laid b h
-  accepted_laid ok = rw is (passed b ok).lies
-
-  pub flags_here : {m : ℕ} {flags : List ℕ} → FirstFlags (transition_part b) m flags → FirstFlags (drop h.transitions_at b) m flags
-  flags_here {m} {flags} f = subst (λ (x : Header). FirstFlags (drop x.transitions_at b) m flags) (sym is) f
-
-  pub room_is : length b + 6 * (transition_limit - h.transitions) ≡ model_room b
-  unfolding model_room
-  room_is = ap (λ (x : Header). length b + 6 * (transition_limit - x.transitions)) is
-
-  -- how many bytes the case has at most
-  pub few_bytes : Accepted b → length b ≤ longest_header + 8 * label_limit + 6 * transition_limit + 4 * action_limit + 4 * node_limit
-  few_bytes ok =
-      let l = accepted_laid ok in
-      let n = l.counts in
-      omega (arith, l.ends, start_few h n, n.few_transitions, n.few_actions, n.few_nodes)
+pub room_is : (b : List ℕ) {h : Header} → h ≡ header_of b → length b + 6 * (transition_limit - h.transitions) ≡ model_room b
+unfolding model_room
+room_is b is = ap (λ (x : Header). length b + 6 * (transition_limit - x.transitions)) is

@@ -2,3 +2,4 @@
 pub mod Model
 pub mod History
 pub mod examples
+pub mod internal

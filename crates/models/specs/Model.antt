@@ -1,5 +1,5 @@
 -- A model that is edited: lent bytes that start with a case. What opening one, adding a transition and dropping one answer and leave in it.
-use Rattle.std.specs.Prelude.{◌≡◌, Bool, cond, not, ◌&&◌, List, [], ◌∷◌, ◌++◌, ℕ, ◌+◌, ◌-◌, ◌*◌, ltb, leb, length}
+use Rattle.std.specs.Prelude.{◌≡◌, Result, Ok, Err, Bool, cond, not, ◌&&◌, List, [], ◌∷◌, ◌++◌, ℕ, ◌+◌, ◌-◌, ◌*◌, ltb, leb, length}
 use Rattle.sets.specs.Lists.{for_some}
 use Rattle.sets.specs.Refusals.{Conditions, first_of, by_refusal}
 use Rattle.cases.specs.declared.Transition.{Transition}
@@ -11,8 +11,6 @@ use Rattle.records.specs.Replaced.{with_transitions, written_to}
 use Rattle.records.specs.Places.{place_of, without_at}
 use Rattle.models.specs.declared.Cause.{Cause}
 use Rattle.models.specs.declared.Cause.TheVariants.{Case, Range, Full, Absent, Memory}
-use Rattle.models.specs.declared.Change.{Change}
-use Rattle.models.specs.declared.Change.TheVariants.{Made, Refused}
 
 -- the paper's number of each cause
 abbrev pub cause_number : Cause → ℕ
@@ -23,9 +21,9 @@ cause_number Absent = 17
 cause_number Memory = 13
 
 -- an answer's refusal number, 0 if there is none
-abbrev pub change_number : Change → ℕ
-change_number Made = 0
-change_number (Refused cause) = cause_number cause
+abbrev pub change_number : Result (Unit {0}) Cause → ℕ
+change_number (Ok done) = 0
+change_number (Err cause) = cause_number cause
 
 -- ---- sets of transitions, each of which stands once in a list
 

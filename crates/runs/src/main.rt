@@ -3,15 +3,15 @@
 #![tactic(auto)]
 
 use lines::Printed;
-use routes::numbers_of;
+use routes::Numbers;
 use std::io;
 use std::io::Write;
 
 // The line of a case.
 fn run<W: Write>(output: &mut W, number: u64, case: &[u8]) -> io::Result<()> {
-    let equation = Printed(numbers_of(lines::by_equation(case).answer));
+    let equation = Printed(Numbers::from(lines::by_equation(case).answer));
     let run = lines::by_direct(case);
-    let direct = Printed(numbers_of(run.answer));
+    let direct = Printed(Numbers::from(run.answer));
     let tally = Printed(run.tally);
     writeln!(output, "{number} E{equation} D{direct} T{tally}")
 }

@@ -7,9 +7,11 @@ use solver::LARGEST;
 use std::io;
 use std::io::Write;
 
+// Room for the largest file and one byte more, so that a longer input is refused for its length.
+const ROOM: usize = LARGEST + 1;
+
 fn main(rt: HostRuntime) -> io::Result<()> {
-    // Room for the largest file and one byte more, so that a longer input is refused for its length.
-    let mut file = [0u8; LARGEST + 1];
+    let mut file = lines::room::<ROOM>();
     let length = lines::read_full(&mut rt.reader(), &mut file)?;
     let solved = Printed(lines::by_file(&file[..length]));
     let mut output = io::writer(&rt);

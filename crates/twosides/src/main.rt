@@ -5,18 +5,20 @@
 
 use cases::LARGEST;
 use lines::Printed;
-use routes::numbers_of;
+use routes::Numbers;
 use std::io;
 use std::io::Write;
 
+// Room for the largest case and one byte more, so that a longer input is refused for its length.
+const ROOM: usize = LARGEST + 1;
+
 fn main(rt: HostRuntime) -> io::Result<()> {
-    // Room for the largest case and one byte more, so that a longer input is refused for its length.
-    let mut space = [0u8; LARGEST + 1];
+    let mut space = lines::room::<ROOM>();
     let length = lines::read_full(&mut rt.reader(), &mut space)?;
     let case = &space[..length];
-    let equation = Printed(numbers_of(lines::by_equation(case).answer));
+    let equation = Printed(Numbers::from(lines::by_equation(case).answer));
     let run = lines::by_direct(case);
-    let direct = Printed(numbers_of(run.answer));
+    let direct = Printed(Numbers::from(run.answer));
     let tally = Printed(run.tally);
     let mut output = io::writer(&rt);
     writeln!(output, "E{equation}")?;

@@ -1,14 +1,38 @@
-use mathlib.Core.Path.{refl, sym, ◌∙◌}
-use Rattle.models.proofs.ModelLaws.{refuses, laid_out, not_laid_out, drop_layout}
+-- What was found decides.
+use mathlib.Core.Path.{ap, ◌∙◌}
+use Prim.Native.Nat.{ℕ}
+use native.Mathlib.Omega.{arith}
+use Rattle.std.proofs.lemmas.Result.{err_from_is_err_and}
+use Rattle.cases.specs.File.{transition_table, case_within}
+use Rattle.cases.proofs.LayoutRules.{laid}
+use Rattle.records.specs.Replaced.{with_transitions, written_to}
+use Rattle.records.specs.Places.{without_at}
+use Rattle.models.specs.Model.{dropping, dropped_model}
+use Rattle.models.proofs.ModelLaws.{refuses, makes, looked, look_drops, count_is, drop_held, drop_absent}
 use Rattle.models.proofs.drop.Goals as goal
 
-pub drop_laid-requires : goal.drop_laid-requires
-drop_laid-requires c =
-    let m = c.args.model.now in
-    let e = c.case_end-end.ensures in
-    laid_out m c.case_end-end.result e.1 c.in-Accepted.ensures refl
+pub returns-in_err-found : goal.returns-in_err-found
+returns-in_err-found c =
+    let p = err_from_is_err_and c.from_residual.result c.from_residual.ensures.1 in
+    rw (p.1, p.2) (look_drops c.args.model.now c.args.t c.in_err-found.ensures)
 
-pub returns-in-Refused : goal.returns-in-Refused
-returns-in-Refused c =
-    let r = not_laid_out c.args.model.now c.case_end-end.result c.case_end-end.ensures.1 c.in-Refused.ensures refl in
-    refuses (r.0 ∙ drop_layout c.args.model.now c.args.t r.1) (λ z. r.1 (sym r.0 ∙ z))
+pub returns-in_default : goal.returns-in_default
+returns-in_default c =
+    let m = c.args.model.now in let found = c.in_ok-found.ensures in
+    let g = looked m c.args.t found.none in
+    refuses (drop_absent m c.args.t g.0 g.1 (rw c.in_default.is at found.place)) (λ z. omega arith)
+
+pub remove-requires : goal.remove-requires
+remove-requires c =
+    let m = c.args.model.now in let found = c.in_ok-found.ensures in
+    let at : _ = rw c.in-Some.is at found.place in
+    (laid (case_within m) found.read (looked m c.args.t found.none).0, omega (arith, at.2, count_is m found.read))
+
+pub returns : goal.returns
+unfolding dropped_model dropping
+returns c =
+    let m = c.args.model.now in let found = c.in_ok-found.ensures in
+    let g = looked m c.args.t found.none in
+    let at : _ = rw c.in-Some.is at found.place in
+    makes (drop_held m c.args.t g.0 g.1 at.0)
+    (c.remove.ensures ∙ ap (λ (i : ℕ). written_to m (with_transitions (case_within m) (without_at (transition_table (case_within m)) i))) at.1)

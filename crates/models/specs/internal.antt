@@ -1,0 +1,2 @@
+-- What serves the contracts of inner functions.
+pub mod Looking

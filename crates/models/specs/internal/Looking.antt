@@ -1,0 +1,36 @@
+-- What adding and dropping find before they differ: whether a transition is held, in a case whose layout is right and which it fits.
+use Rattle.std.specs.Prelude.{◌≡◌, true, false, List, [], ◌∷◌, ◌++◌, ℕ, ◌<◌, length, Option, MatchOption}
+use Rattle.sets.specs.Refusals.{Conditions, first_of}
+use Rattle.cases.specs.declared.Transition.{Transition}
+use Rattle.cases.specs.File.{header_of, transition_table, case_within}
+use Rattle.cases.specs.Conditions.{layout_conditions}
+use Rattle.records.specs.Places.{place_of}
+use Rattle.models.specs.declared.Found.{Found}
+use Rattle.models.specs.Model.{holds, out_of_range}
+
+-- k is the number of the first of these conditions that holds
+pub record RefusedBy (cs : Conditions) (k : ℕ) : Type 0 where
+  pub number : k ≡ first_of cs
+  pub some : ¬ (k ≡ 0)
+
+module _ (model : List ℕ) (t : Transition) where
+  abbrev b : List ℕ
+  b = case_within model
+
+  abbrev held : List Transition
+  held = transition_table b
+
+  -- the conditions that come first: of the case's layout, then of the transition
+  unfoldable pub look_conditions : Conditions
+  look_conditions = layout_conditions b ++ ((6, out_of_range (header_of b).states (header_of b).labels t) ∷ [])
+
+  -- the place of the transition, where it is held
+  abbrev pub Placed : Option ℕ → Type 0
+  Placed place = MatchOption place (holds held t ≡ false) (λ i. (holds held t ≡ true) × (i ≡ place_of t held) × (i < length held))
+
+  -- None of them holds, and the place is found.
+  pub record FoundIn (found : Found) : Type 0 where
+    pub none : first_of look_conditions ≡ 0
+    pub read : found.header ≡ header_of b
+    pub ends : found.end ≡ length b
+    pub place : Placed found.place

@@ -38,7 +38,8 @@ fn mask_at(masks: &[u64], at: usize) -> u64
 }
 
 // The labels that the action formula at each node accepts: bit x of mask j says whether that at node j accepts label x. The nodes are read from
-// the last one down, and the masks of the formulas that start at node i or after it, outermost only, stand from `at` on.
+// the last one down, and the masks of the formulas that start at node i or after it, outermost only, stand from `at` on. The two parts and the
+// header are no open case: callers have them of a case that a later condition may refuse.
 pub fn action_masks(labels: &[u8], h: Header, part: &[u8]) -> [u64; ACTIONS]
     requires { LabelPart labels.now h × NodesFit action_limit part.now h.actions × WholeActions h.labels (nodes_in part.now h.actions) }
     ensures { (length result ≡ action_limit)

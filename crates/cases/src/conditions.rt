@@ -1,13 +1,13 @@
 // Opening a case: its conditions, by what they look at.
-ghost use Rattle.std.specs.Prelude.{◌≡◌, cond, not, map, ◌-◌, ◌*◌, ◌≤◌, ◌<◌, eqb, length, get_or, drop};
-ghost use Rattle.sets.specs.Lists.{numbers_from, every, for_some};
+ghost use Rattle.std.specs.Prelude.{◌≡◌, not, map, ◌-◌, ◌≤◌, ◌<◌, eqb};
+ghost use Rattle.sets.specs.Lists.{every, for_some};
 ghost use Rattle.sets.specs.Refusals.{between, first_of};
 ghost use Rattle.cases.specs.Prefix.{arity_in, action_arities, formula_arities, whole_formulas, exactly, end_of};
-ghost use Rattle.cases.specs.File.{header_of, action_limit, node_limit};
-ghost use Rattle.cases.specs.Conditions.{versions, bad_count, bad_offset, bad_length, bad_model, bad_actions, bad_formula, bad_variable, too_deep, transition_ok, action_ok, node_ok, bound_ok, is_binder, binder_count};
+ghost use Rattle.cases.specs.File.{header_of};
+ghost use Rattle.cases.specs.Conditions.{versions, bad_count, bad_offset, bad_length, bad_model, bad_actions, bad_formula, bad_variable, too_deep, transition_ok, action_ok, node_ok, bound_ok, binder_count};
 ghost use Rattle.cases.specs.Conditions.{layout_conditions, model_conditions, formula_conditions, case_refusal};
 ghost use Rattle.cases.specs.Opening.{case_number, opened_number, Opens};
-ghost use Rattle.cases.specs.internal.Checks.{nodes_in, CountsFit, NodesFit, WholeSubtree, binds};
+ghost use Rattle.cases.specs.internal.Checks.{nodes_in, CountsFit, WholeSubtree, binds};
 
 use crate::file::{
     HEADER, actions_start, file_end, formula_start, header, header_size, transitions_start, version,
@@ -90,7 +90,7 @@ pub fn check_layout(case: &[u8]) -> Result<Header, Cause>
     if !is_taken(v) {
         return Err(Cause::Version);
     }
-    let h = header(case, v);
+    let h = header(case);
     if bad_count(h) {
         return Err(Cause::Count);
     }

@@ -45,10 +45,11 @@ pub fn header_size(version: usize) -> usize
 }
 
 // The offset of the label records; the header's end in a version that has none.
-fn labels_offset(case: &[u8], version: usize) -> usize
-    requires { (version ≡ file_version case.now) × (header_size version ≤ length case.now) }
+fn labels_offset(case: &[u8]) -> usize
+    requires { (common_header ≤ length case.now) × (header_size (file_version case.now) ≤ length case.now) }
     ensures { result ≡ (header_of case.now).labels_at }
 {
+    let version = version(case);
     if has_label_table(version) {
         return number_at(case, HEADER);
     }
@@ -56,19 +57,19 @@ fn labels_offset(case: &[u8], version: usize) -> usize
 }
 
 // The numbers of the header.
-pub fn header(case: &[u8], version: usize) -> Header
-    requires { (version ≡ file_version case.now) × (common_header ≤ length case.now) × (header_size version ≤ length case.now) }
+pub fn header(case: &[u8]) -> Header
+    requires { (common_header ≤ length case.now) × (header_size (file_version case.now) ≤ length case.now) }
     ensures { result ≡ header_of case.now }
 {
     Header {
-        version: version,
+        version: version(case),
         states: number_at(case, 2),
         transitions: number_at(case, 4),
         labels: number_at(case, 6),
         initial: number_at(case, 8),
         actions: number_at(case, 10),
         nodes: number_at(case, 12),
-        labels_at: labels_offset(case, version),
+        labels_at: labels_offset(case),
         transitions_at: number_at(case, 14),
         actions_at: number_at(case, 16),
         formula_at: number_at(case, 18),
@@ -86,10 +87,11 @@ pub fn label_records(h: Header) -> usize
 }
 
 // How many bytes a case has by its header, whatever its counts.
-fn told_length(case: &[u8], version: usize) -> usize
-    requires { (version ≡ file_version case.now) × (common_header ≤ length case.now) }
+fn told_length(case: &[u8]) -> usize
+    requires { common_header ≤ length case.now }
     ensures { result ≡ file_end (header_of case.now) }
 {
+    let version = version(case);
     let tables = 6 * number_at(case, 4) + 4 * number_at(case, 10) + 4 * number_at(case, 12);
     if has_label_table(version) {
         return header_size(version) + 8 * number_at(case, 6) + tables;
@@ -105,14 +107,15 @@ pub fn case_end(bytes: &[u8]) -> usize
     if all < HEADER {
         return all;
     }
-    let end = told_length(bytes, version(bytes));
+    let end = told_length(bytes);
     if all < end {
         return all;
     }
     end
 }
 
-// Where the transitions have to stand, by the version and the counts.
+// Where the transitions have to stand, by the version and the counts. This and the next three ask that the counts are in range, so that the
+// sums fit; a type for a header of which that is known would be no plainer than the one word of the contract.
 pub fn transitions_start(h: Header) -> usize
     requires { CountsFit h }
     ensures { (result ≡ transitions_start h) × (result ≤ longest_header + 8 * label_limit) }

@@ -1,4 +1,5 @@
-// The kinds of action and formula nodes.
+// The kinds of action and formula nodes. Each enum lists its own kinds, so that no function of one stands for the other: a trait over both
+// would be no plainer.
 ghost use Rattle.std.specs.Prelude.{◌≡◌, ◌≤◌, ◌||◌, eqb, get_or};
 ghost use Rattle.cases.specs.Prefix.{action_arities, formula_arities, arity_in};
 ghost use Rattle.cases.specs.Kinds.{action_number, formula_number, Reads};

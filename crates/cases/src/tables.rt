@@ -131,7 +131,7 @@ pub struct OpenCase<'a> {
 }
 
 impl<'a> OpenCase<'a> {
-    // The same case; its layout is right.
+    // The same case; its layout is right. The four tables below are those of this: to name it at each call would be no plainer.
     pub fn laid(&self) -> LaidCase<'a>
         ensures bytes { result.bytes.now ≡ self.now.bytes.now }
         ensures header { result.header ≡ self.now.header }

@@ -60,7 +60,7 @@ pub struct Tables<'a> {
 }
 
 impl<'a> Tables<'a> {
-    // The sign of block k: 0 is mu, 1 is nu.
+    // The sign of block k, the file's number: 0 is mu, 1 is nu. It stays a number, since condition 12 asks whether it is one of the two.
     pub fn sign(&self, k: usize) -> usize
         requires { k < self.now.sizes.blocks }
         ensures { result ≡ u32 self.now.bytes.now (blocks_at + 8 * k) }
@@ -76,7 +76,7 @@ impl<'a> Tables<'a> {
         number_at(self.bytes, HEADER + 8 * k + 4)
     }
 
-    // The kind of cell i.
+    // The kind of cell i, the file's number. It stays a number for condition 12, which asks whether it is at most 2; then `cell` tells which.
     pub fn kind(&self, i: usize) -> usize
         requires { i < self.now.sizes.cells }
         ensures { result ≡ (entry_at self.now.bytes.now i).kind }

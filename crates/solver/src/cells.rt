@@ -1,4 +1,4 @@
-// The values of cells.
+// The values of cells. The file is taken by value: through a reference its fields would be loaded anew for each cell.
 ghost use Rattle.std.specs.Prelude.{◌≡◌, ◌<◌, ◌≤◌, eqb, get_or};
 ghost use Rattle.sets.specs.Lists.{for_some};
 ghost use Rattle.solver.specs.File.{operands, list_of};

@@ -5,9 +5,8 @@
 #![tactic(auto)]
 
 use cases::{LARGEST, Transition};
-use lines::{Printed, next_bytes, next_case};
+use lines::{Printed, next_bytes, next_case, print_line};
 use models::{Change, change_number};
-use routes::Numbers;
 use sets::WORDS;
 use std::io;
 use std::io::{Read, Write};
@@ -63,9 +62,7 @@ fn want_next<R: Read, W: Write>(input: &mut R, output: &mut W, model: &[u8]) -> 
     };
     let mut marks = [0u64; WORDS];
     let run = models::want(model, &mut marks, u64::from_le_bytes(limit));
-    let numbers = Printed(Numbers::from(run.answer));
-    let tally = Printed(run.tally);
-    writeln!(output, "want{numbers}{tally}")?;
+    print_line(output, "want", &Printed(run))?;
     Ok(true)
 }
 

@@ -1,8 +1,8 @@
 // Both routes and solve, as the programs run them: their limit, their memory, how input is read, and how the numbers are printed.
 #![tactic(auto)]
 
-ghost use Rattle.std.specs.Prelude.{◌≡◌, ◌↔◌, ◌<◌, ◌≤◌, length, take, Some, IfOk, IfSome, IsNone, IsTrue};
-ghost use Rattle.std.specs.Io.KnownBytes.{Consumes, IsAtEnd};
+ghost use Rattle.std.specs.Prelude.{◌≡◌, ◌↔◌, ◌<◌, ◌≤◌, ◌++◌, codes, length, take, Some, IfOk, OnOk, IfSome, IsNone, IsTrue};
+ghost use Rattle.std.specs.Io.KnownBytes.{Appends, Consumes, IsAtEnd};
 ghost use Rattle.sets.specs.Words.{word_count};
 ghost use Rattle.solver.specs.File.{cell_limit};
 ghost use Rattle.solver.specs.Outcome.{solve_outcome};
@@ -15,7 +15,7 @@ use cases::Tally;
 use routes::{Numbers, Tallied, solving_answer};
 use sets::WORDS;
 use solver::CELLS;
-use std::io::Read;
+use std::io::{Read, Write};
 use std::{fmt, io};
 
 const LIMIT: u64 = 1_000_000;
@@ -125,7 +125,8 @@ pub fn next_case<'a, R: Read>(
     Ok(Some(Announced { length, bytes }))
 }
 
-// The numbers of an answer, or of a tally, as the programs print them behind a name: a space, and the number in decimal digits, for each.
+// The numbers of an answer, of a tally, or of a route's answer and its tally, as the programs print them behind a name: a space, and the
+// number in decimal digits, for each.
 #[derive(Clone, Copy)]
 pub struct Printed<T>(pub T);
 
@@ -151,4 +152,26 @@ impl fmt::Display for Printed<Tally> {
         let Tally { records, distinct } = self.0;
         write!(f, " {records} {distinct}")
     }
+}
+
+impl fmt::Display for Printed<Tallied> {
+    ghost output = { λ p. Some (outcome_text (route_answer p.0.answer) ++ records_text p.0.tally) };
+
+    fn fmt<W: fmt::Write>(&self, f: &mut fmt::Formatter<W>) -> fmt::Result {
+        let numbers = Printed(Numbers::from(self.0.answer));
+        let tally = Printed(self.0.tally);
+        write!(f, "{numbers}{tally}")
+    }
+}
+
+// Prints a line: a name, and what is printed behind it.
+pub fn print_line<W: Write, T: fmt::Display>(
+    writer: &mut W,
+    name: &str,
+    printed: &T,
+) -> io::Result<()>
+    ensures { (text : _) → T.output printed.now ≡ Some text
+        → OnOk result (Appends (W.contents writer.old) (W.contents writer.new) (name.now ++ text ++ codes "\n")) }
+{
+    writeln!(writer, "{name}{printed}")
 }

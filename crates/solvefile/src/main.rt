@@ -2,10 +2,9 @@
 // the count of marked states and the rounds; the last three are 0 on a refusal.
 #![tactic(auto)]
 
-use lines::Printed;
+use lines::{Printed, print_line};
 use solver::LARGEST;
 use std::io;
-use std::io::Write;
 
 // Room for the largest file and one byte more, so that a longer input is refused for its length.
 const ROOM: usize = LARGEST + 1;
@@ -15,5 +14,5 @@ fn main(rt: HostRuntime) -> io::Result<()> {
     let length = lines::read_full(&mut rt.reader(), &mut file)?;
     let solved = Printed(lines::by_file(&file[..length]));
     let mut output = io::writer(&rt);
-    writeln!(output, "S{solved}")
+    print_line(&mut output, "S", &solved)
 }

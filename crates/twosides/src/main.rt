@@ -4,10 +4,9 @@
 #![tactic(auto)]
 
 use cases::LARGEST;
-use lines::Printed;
+use lines::{Printed, print_line};
 use routes::Numbers;
 use std::io;
-use std::io::Write;
 
 // Room for the largest case and one byte more, so that a longer input is refused for its length.
 const ROOM: usize = LARGEST + 1;
@@ -21,7 +20,7 @@ fn main(rt: HostRuntime) -> io::Result<()> {
     let direct = Printed(Numbers::from(run.answer));
     let tally = Printed(run.tally);
     let mut output = io::writer(&rt);
-    writeln!(output, "E{equation}")?;
-    writeln!(output, "D{direct}")?;
-    writeln!(output, "T{tally}")
+    print_line(&mut output, "E", &equation)?;
+    print_line(&mut output, "D", &direct)?;
+    print_line(&mut output, "T", &tally)
 }

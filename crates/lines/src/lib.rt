@@ -43,6 +43,29 @@ pub fn by_direct(case: &[u8]) -> Tallied
     routes::direct(case, &mut marks, LIMIT)
 }
 
+// What both routes answer for a case, and its tally, as they are printed.
+#[derive(Clone, Copy)]
+pub struct Runs {
+    pub equation: Printed<Numbers>,
+    pub direct: Printed<Numbers>,
+    pub tally: Printed<Tally>,
+}
+
+// Both routes on a case, with fresh memory.
+pub fn run_both(case: &[u8]) -> Runs
+    ensures equation { shown result.equation.0 ≡ outcome_of equation case.now program_memory program_limit }
+    ensures direct { shown result.direct.0 ≡ outcome_of direct case.now program_memory program_limit }
+    ensures tally { result.tally.0 ≡ tally_of case.now }
+{
+    let equation = by_equation(case);
+    let direct = by_direct(case);
+    Runs {
+        equation: Printed(Numbers::from(equation.answer)),
+        direct: Printed(Numbers::from(direct.answer)),
+        tally: Printed(direct.tally),
+    }
+}
+
 // The numbers of solving an equation file, with fresh memory.
 pub fn by_file(file: &[u8]) -> Numbers
     ensures { shown result ≡ solve_outcome file.now cell_limit word_count program_limit }

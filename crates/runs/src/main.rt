@@ -2,17 +2,29 @@
 // for each: its number in the stream, and then what `twosides` prints. A stream that ends inside a case ends there.
 #![tactic(auto)]
 
-use lines::Printed;
-use routes::Numbers;
+ghost use Rattle.std.specs.Prelude.{◌≡◌, ◌++◌, codes, decimal, OnOk};
+ghost use Rattle.std.specs.Io.KnownBytes.{Appends};
+ghost use Rattle.cases.specs.Tally.{tally_of};
+ghost use Rattle.routes.specs.Route.{direct, equation, outcome_of, program_limit, program_memory};
+ghost use Rattle.lines.specs.Printed.{outcome_text, records_text};
+
+use lines::Runs;
 use std::io;
 use std::io::Write;
 
 // The line of a case.
-fn run<W: Write>(output: &mut W, number: u64, case: &[u8]) -> io::Result<()> {
-    let equation = Printed(Numbers::from(lines::by_equation(case).answer));
-    let run = lines::by_direct(case);
-    let direct = Printed(Numbers::from(run.answer));
-    let tally = Printed(run.tally);
+fn run<W: Write>(output: &mut W, number: u64, case: &[u8]) -> io::Result<()>
+    ensures { OnOk result (Appends (W.contents output.old) (W.contents output.new) (
+        decimal number
+        ++ codes " E" ++ outcome_text (outcome_of equation case.now program_memory program_limit)
+        ++ codes " D" ++ outcome_text (outcome_of direct case.now program_memory program_limit)
+        ++ codes " T" ++ records_text (tally_of case.now) ++ codes "\n")) }
+{
+    let Runs {
+        equation,
+        direct,
+        tally,
+    } = lines::run_both(case);
     writeln!(output, "{number} E{equation} D{direct} T{tally}")
 }
 

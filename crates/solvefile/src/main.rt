@@ -2,17 +2,33 @@
 // the count of marked states and the rounds; the last three are 0 on a refusal.
 #![tactic(auto)]
 
-use lines::{Printed, print_line};
+ghost use Rattle.std.specs.Prelude.{◌≡◌, ◌++◌, codes, OnOk};
+ghost use Rattle.std.specs.Io.KnownBytes.{Appends};
+ghost use Rattle.sets.specs.Words.{word_count};
+ghost use Rattle.solver.specs.File.{cell_limit};
+ghost use Rattle.solver.specs.Outcome.{solve_outcome};
+ghost use Rattle.routes.specs.Route.{program_limit};
+ghost use Rattle.lines.specs.Printed.{outcome_text};
+
+use lines::Printed;
 use solver::LARGEST;
 use std::io;
+use std::io::Write;
 
 // Room for the largest file and one byte more, so that a longer input is refused for its length.
 const ROOM: usize = LARGEST + 1;
 
+// The line of a file.
+fn run<W: Write>(output: &mut W, file: &[u8]) -> io::Result<()>
+    ensures { OnOk result (Appends (W.contents output.old) (W.contents output.new) (
+        codes "S" ++ outcome_text (solve_outcome file.now cell_limit word_count program_limit) ++ codes "\n")) }
+{
+    let solved = Printed(lines::by_file(file));
+    writeln!(output, "S{solved}")
+}
+
 fn main(rt: HostRuntime) -> io::Result<()> {
     let mut file = lines::room::<ROOM>();
     let length = lines::read_full(&mut rt.reader(), &mut file)?;
-    let solved = Printed(lines::by_file(&file[..length]));
-    let mut output = io::writer(&rt);
-    print_line(&mut output, "S", &solved)
+    run(&mut io::writer(&rt), &file[..length])
 }

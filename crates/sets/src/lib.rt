@@ -1,7 +1,7 @@
 // Sets of states in words: state s is bit s mod 64 of word s / 64.
 #![tactic(auto)]
 
-ghost use Rattle.std.specs.Prelude.{◌≡◌, true, false, not, ◌&&◌, ◌||◌, map, ◌++◌, ℕ, ◌<◌, ◌≤◌, length, get_or, set, take, drop};
+ghost use Rattle.std.specs.Prelude.{◌≡◌, true, false, not, [], ◌∷◌, ◌&&◌, ◌||◌, map, ◌++◌, ℕ, ◌<◌, ◌≤◌, length, get_or, set, take, drop};
 ghost use Rattle.std.specs.Int.Count.{ones};
 ghost use Rattle.sets.specs.Lists.{numbers_from};
 ghost use Rattle.sets.specs.States.{States, has, start};
@@ -50,13 +50,22 @@ pub fn initial(n: usize, nu: bool) -> Set
     if nu { full(n) } else { empty() }
 }
 
+// Whether bit x of a word is 1.
+#[tactic(auto, unfolding(crate::specs::Words::marked))]
+pub fn has_bit(word: u64, x: usize) -> bool
+    requires { x < 64 }
+    ensures { result ≡ marked (word ∷ []) x }
+{
+    (word >> x) % 2 == 1
+}
+
 // Whether state s is in the set.
 #[tactic(auto, unfolding(crate::specs::Words::marked))]
 pub fn test(set: &Set, s: usize) -> bool
     requires { s < state_limit }
     ensures { result ≡ marked set.now s }
 {
-    (set[s / 64] >> (s % 64)) % 2 == 1
+    has_bit(set[s / 64], s % 64)
 }
 
 // Puts state s into the set, or takes it out.
@@ -67,14 +76,6 @@ pub fn put(held: &mut Set, s: usize, there: bool)
     let word = held[s / 64];
     let mask = 1 << (s % 64);
     held[s / 64] = if there { word | mask } else { word & !mask };
-}
-
-// Puts state s into the set.
-pub fn add(held: &mut Set, s: usize)
-    requires { s < state_limit }
-    ensures { (v : States) → s < length v → held.old ≡ words word_count v → held.new ≡ words word_count (set v s true) }
-{
-    put(held, s, true);
 }
 
 // How many bits of a word are 1.

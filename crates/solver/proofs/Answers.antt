@@ -9,7 +9,7 @@ use Rattle.std.specs.Prelude.{Ok, Err, None}
 use lib.Dec.{ltb}
 use lib.ListN.{length, drop, length-replicate}
 use Rattle.sets.specs.States.{States, has, size, all_empty}
-use Rattle.sets.specs.Words.{words, bit, marked, word_count}
+use Rattle.sets.specs.Words.{words, bit, marked, word_count, state_limit}
 use Rattle.sets.specs.internal.Size.{SizeIs}
 use Rattle.sets.proofs.Words.{marked_words}
 use Rattle.solver.specs.computed.Solved.{evaluate, run}
@@ -17,9 +17,9 @@ use Rattle.solver.specs.File.{sizes_of, blocks, cells}
 use Rattle.solver.specs.Conditions.{layout_ok, tables_ok, WellFormed}
 use Rattle.solver.specs.internal.Forms.{opened}
 use Rattle.solver.specs.Outcome.{solve_number, solve_answer, bad_layout, bad_table, solve_too_short, solve_conditions, solve_refusal, SolveEnough, report, solve_outcome, Scratch, Answered}
-use Rattle.sets.specs.Refusals.{Conditions, refused}
+use Rattle.sets.specs.Refusals.{Conditions, refused, report_of}
 use Rattle.sets.proofs.Refusals.{holds_here, holds_later, reports, refuses}
-use Rattle.solver.specs.internal.Working.{OpenFile, IsFound, AllSolved}
+use Rattle.solver.specs.internal.Working.{OpenFile, IsFound, AllSolved, Reported}
 use Rattle.solver.specs.declared.Sizes.{Sizes}
 use Rattle.solver.specs.declared.Cause.{Cause}
 use Rattle.solver.specs.declared.Cause.TheVariants.{Layout, Table, Memory, Spent}
@@ -74,13 +74,12 @@ module _ (e work marks : List ℕ) (limit : ℕ) where
   }
 
   -- success
-  pub answered_solved : {r : Report} {work_after marks_after : List ℕ} → solve_refusal e (length work) (length marks) limit ≡ 0 →
-      r.verdict ≡ has ((run e).0 0) (sizes_of e).initial → r.count ≡ size ((run e).0 0) → r.rounds ≡ (run e).1 →
+  pub answered_solved : (r : Report) {work_after marks_after : List ℕ} → solve_refusal e (length work) (length marks) limit ≡ 0 → solve_answer (Ok r) ≡ report e →
       marks_after ≡ words word_count ((run e).0 0) ++ drop word_count marks → work_after ≡ map bit (evaluate (cells e) (run e).0) ++ drop (sizes_of e).cells work →
       Answered e work marks limit (solve_answer (Ok r)) work_after marks_after
-  unfolding solve_answer report solve_outcome solve_refusal
-  answered_solved h v c k m w = record {
-    answers = rw (v, c, k) refl ∙ sym (reports conditions (report e) h);
+  unfolding solve_answer solve_outcome solve_refusal
+  answered_solved r h is m w = record {
+    answers = is ∙ sym (reports conditions (report e) h);
     marks_are = m ∙ sym (marks_written e (length work) marks limit h);
     work_is = λ _. w ∙ sym (work_written e work (length marks) limit h);
     work_14 = λ z. absurd (omega arith);
@@ -117,23 +116,28 @@ module _ {e : List ℕ} {sizes : Sizes} (o : OpenFile e sizes) (work marks : Lis
         ((is_14 e (length work) (length marks) limit).1 (lent, r.answers))
         (record { bytes = after; sized = r.ready.room; bits = r.ready.bits; are = ap (λ (l : List ℕ). after ++ l) rest })
 
-    pub ended_solved : {after : List ℕ} {found : Found} → IsFound e limit after found → {verdict : Bool} → verdict ≡ marked found.row sizes.initial → {count : ℕ} → SizeIs found.row count →
+    pub ended_solved : {after : List ℕ} {found : Found} → IsFound e limit after found → {said : Report} → Reported found.row sizes.initial found.rounds said →
         {marks_after : List ℕ} → marks_after ≡ found.row ++ drop word_count marks →
-        Answered e work marks limit (solve_answer (Ok (record { verdict = verdict; count = count; rounds = found.rounds }))) (whole after) marks_after
-    unfolding run
-    ended_solved r v k m =
-        let s = (layout_facts e o.formed.layout).counts in
+        Answered e work marks limit (solve_answer (Ok said)) (whole after) marks_after
+    unfolding run report
+    ended_solved r {said} s m =
         let first : States = (run e).0 0 in
         let is = r.first in
         let long : length first ≡ (sizes_of e).states =
         solved_sized (sizes_of e).states (cells e) (ordered e o.formed) (blocks e) (rw (length_cells e) (inside e o.formed)) 0 (all_empty (sizes_of e).states) (λ j. length-replicate (sizes_of e).states false) 0 in
-        answered_solved e work marks limit
+        answered_solved e work marks limit said
         ((is_0 e (length work) (length marks) limit).1 (lent, r.within))
-        (v ∙ ap₂ (λ (w : List ℕ) (i : ℕ). marked w i) is (counted o.counts).initial ∙ marked_words word_count first (sizes_of e).initial (omega (arith, s.initial, s.few_states)))
-        (k first (omega (arith, long, s.few_states)) is)
-        r.counted
+        (s.are first (omega (arith, long, (layout_facts e o.formed.layout).counts.few_states)) is ∙ ap₂ (λ (i k : ℕ). report_of i first k) (counted o.counts).initial r.counted)
         (m ∙ ap (λ (l : List ℕ). l ++ drop word_count marks) is)
         (ap₂ (λ (x y : List ℕ). x ++ y) r.values rest)
+
+-- what is read from a set's words is what is reported of the set
+pub reported : {set : List ℕ} {initial rounds : ℕ} {verdict : Bool} {count : ℕ} → initial < state_limit → verdict ≡ marked set initial → SizeIs set count
+    → Reported set initial rounds (record { verdict = verdict; count = count; rounds = rounds })
+unfolding solve_answer
+reported {initial = initial} low p q = record {
+  are = λ v few e. rw (p ∙ ap (λ (w : List ℕ). marked w initial) e ∙ marked_words word_count v initial low, q v few e);
+}
 
 -- ---- opening a file: the condition that holds
 pub unfit : {e : List ℕ} {cause : Cause} → Err cause ≡ opened e → (work marks : List ℕ) (limit : ℕ) → Answered e work marks limit (solve_answer (Err cause)) work marks

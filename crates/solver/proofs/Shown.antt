@@ -15,7 +15,7 @@ use Rattle.sets.specs.Words.{marked, bit, word_count, state_limit}
 use Rattle.sets.proofs.Lists.{kept_equal}
 use Rattle.sets.proofs.Words.{marked_words}
 use Rattle.solver.specs.Cells.{Cell, And, Or, value, Values}
-use Rattle.solver.specs.declared.Cell.TheVariants.{And as IsAnd, Or as IsOr, Variable as IsVariable}
+use Rattle.solver.specs.declared.FileCell.TheVariants.{And as IsAnd, Or as IsOr, Variable as IsVariable}
 use Rattle.solver.specs.declared.Operands.{Operands}
 use Rattle.solver.specs.internal.Reading.{cell_read}
 use Rattle.solver.specs.internal.Forms.{Ordered}

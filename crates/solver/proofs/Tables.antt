@@ -8,8 +8,8 @@ use lib.ListN.{length, get_or, drop, length-map, length-take, length-drop}
 use lib.Seq.{get_or-take, get_or-drop}
 use Rattle.sets.proofs.Lists.{get_or_map, length_table, table_at, drop_next, sum_next, sum_grows}
 use Rattle.solver.specs.Cells.{And as AndOf}
-use Rattle.solver.specs.declared.Cell.{Cell}
-use Rattle.solver.specs.declared.Cell.TheVariants.{And, Or, Variable}
+use Rattle.solver.specs.declared.FileCell.{FileCell}
+use Rattle.solver.specs.declared.FileCell.TheVariants.{And, Or, Variable}
 use Rattle.solver.specs.declared.Operands.{Operands}
 use Rattle.solver.specs.internal.Reading.{cell_of, cell_read}
 use Rattle.solver.specs.File.{u32, sizes_of, cells_at, operands_at, Block, block_at, blocks, operands, Entry, entry_at, entries, list_of, entry_cell, cells}
@@ -68,7 +68,7 @@ or_numbers zero x y h = let n : ◌≡◌ {A = ℕ} 0 1 = cc in absurd (omega ar
 or_numbers (suc zero) x y h = (refl, cc, cc)
 or_numbers (suc (suc k)) x y h = let n : ◌≡◌ {A = ℕ} 0 1 = cc in absurd (omega arith)
 
-pub list_numbers : (k x y : ℕ) {cell : Cell} {l : Operands} → cell ≡ cell_of k x y → (cell ≡ And l) ⊎ (cell ≡ Or l) → (k ≤ 1) × (l.first ≡ x) × (l.count ≡ y)
+pub list_numbers : (k x y : ℕ) {cell : FileCell} {l : Operands} → cell ≡ cell_of k x y → (cell ≡ And l) ⊎ (cell ≡ Or l) → (k ≤ 1) × (l.first ≡ x) × (l.count ≡ y)
 list_numbers k x y h (inl q) = let n = and_numbers k x y (sym q ∙ h) in (omega (arith, n.0), n.1, n.2)
 list_numbers k x y h (inr q) = let n = or_numbers k x y (sym q ∙ h) in (omega (arith, n.0), n.1, n.2)
 

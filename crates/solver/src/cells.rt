@@ -5,7 +5,7 @@ ghost use Rattle.solver.specs.File.{operands, list_of};
 ghost use Rattle.solver.specs.internal.Working.{Ready, ListAt, Valued, CellsValued, Applied};
 
 use crate::file::EquationFile;
-use crate::{BLOCKS, Cell, Operands};
+use crate::{BLOCKS, FileCell, Operands};
 use sets::Set;
 
 // The sets of all blocks, by block.
@@ -32,9 +32,9 @@ fn value_of(file: EquationFile<'_>, sets: &BlockSets, i: usize, work: &[u8]) -> 
     ensures { Valued file.entry.tables.bytes.now sets.now i work.now result }
 {
     match file.tables.cell(i) {
-        Cell::And(list) => !finds(file, list, 0, work),
-        Cell::Or(list) => finds(file, list, 1, work),
-        Cell::Variable { block, state } => sets::test(&sets[block], state),
+        FileCell::And(list) => !finds(file, list, 0, work),
+        FileCell::Or(list) => finds(file, list, 1, work),
+        FileCell::Variable { block, state } => sets::test(&sets[block], state),
     }
 }
 

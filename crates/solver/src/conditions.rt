@@ -8,7 +8,7 @@ ghost use Rattle.solver.specs.internal.Forms.{opened};
 ghost use Rattle.solver.specs.internal.Checks.{SizesFit, Places, rest_ok, Spans};
 
 use crate::file::{EquationFile, HEADER, Tables, number_at, sizes_of};
-use crate::{Cause, Cell, Operands, Sizes};
+use crate::{Cause, FileCell, Operands, Sizes};
 
 // Whether each count is in its range, and the initial state is a state.
 fn counts_hold(sizes: Sizes) -> bool
@@ -126,8 +126,8 @@ fn operand_count(tables: &Tables<'_>, i: usize, used: usize) -> Option<usize>
         return None;
     }
     match tables.cell(i) {
-        Cell::And(list) | Cell::Or(list) => list_holds(tables, i, used, list).then_some(list.count),
-        Cell::Variable { block, state } => variable_holds(tables.sizes, block, state).then_some(0),
+        FileCell::And(list) | FileCell::Or(list) => list_holds(tables, i, used, list).then_some(list.count),
+        FileCell::Variable { block, state } => variable_holds(tables.sizes, block, state).then_some(0),
     }
 }
 

@@ -5,7 +5,7 @@ ghost use Rattle.solver.specs.internal.Reading.{cell_read};
 ghost use Rattle.solver.specs.internal.Checks.{Read, SizesFit};
 ghost use Rattle.solver.specs.internal.Working.{OpenFile};
 
-use crate::{Cell, Operands, Sizes};
+use crate::{FileCell, Operands, Sizes};
 
 // How many bytes stand before the first table.
 pub const HEADER: usize = 36;
@@ -85,7 +85,7 @@ impl<'a> Tables<'a> {
     }
 
     // Cell i, whose kind is that of an and, an or or a variable.
-    pub fn cell(&self, i: usize) -> Cell
+    pub fn cell(&self, i: usize) -> FileCell
         requires inside { i < self.now.sizes.cells }
         requires known { (entry_at self.now.bytes.now i).kind ≤ 2 }
         ensures { result ≡ cell_read (entry_at self.now.bytes.now i) }
@@ -98,13 +98,13 @@ impl<'a> Tables<'a> {
             count: two,
         };
         match number_at(self.bytes, at) {
-            2 => Cell::Variable {
+            2 => FileCell::Variable {
                 block: one,
                 state: two,
             },
-            0 => Cell::And(operands),
+            0 => FileCell::And(operands),
             // Only the kind of an or is left.
-            _ => Cell::Or(operands),
+            _ => FileCell::Or(operands),
         }
     }
 

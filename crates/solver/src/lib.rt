@@ -6,9 +6,11 @@ mod conditions;
 mod file;
 mod rounds;
 
-ghost use Rattle.std.specs.Prelude.{◌≡◌, length};
+ghost use Rattle.std.specs.Prelude.{◌≡◌, ◌<◌, length};
+ghost use Rattle.sets.specs.Words.{state_limit};
 ghost use Rattle.solver.specs.Outcome.{solve_number, solve_answer, Answered};
-ghost use Rattle.solver.specs.internal.Working.{AllSolved};
+ghost use Rattle.solver.specs.internal.Reading.{cell_numbers};
+ghost use Rattle.solver.specs.internal.Working.{AllSolved, Reported};
 
 use conditions::open_file;
 use file::EquationFile;
@@ -43,10 +45,24 @@ pub struct Operands {
 
 // A cell as it stands in a file: an and or an or of operands, or the variable of a block in a state.
 #[derive(Clone, Copy, PartialEq, Eq)]
-pub enum Cell {
+pub enum FileCell {
     And(Operands),
     Or(Operands),
     Variable { block: usize, state: usize },
+}
+
+impl FileCell {
+    // The three numbers that stand for it in a file.
+    #[tactic(auto, unfolding(crate::specs::internal::Reading::cell_numbers))]
+    pub fn numbers(self) -> [usize; 3]
+        ensures { result ≡ cell_numbers self }
+    {
+        match self {
+            FileCell::And(list) => [0, list.first, list.count],
+            FileCell::Or(list) => [1, list.first, list.count],
+            FileCell::Variable { block, state } => [2, block, state],
+        }
+    }
 }
 
 // Why a file is not solved.
@@ -79,6 +95,20 @@ pub struct Report {
     pub verdict: bool,
     pub count: usize,
     pub rounds: u64,
+}
+
+impl Report {
+    // The report of a set of states: whether the initial state is in it, and how many there are.
+    pub fn of_set(set: &Set, initial: usize, rounds: u64) -> Report
+        requires { initial < state_limit }
+        ensures { Reported set.now initial rounds result }
+    {
+        Report {
+            verdict: sets::test(set, initial),
+            count: sets::count(set),
+            rounds,
+        }
+    }
 }
 
 pub type Answer = Result<Report, Cause>;
@@ -123,13 +153,7 @@ fn solve_opened(file: &EquationFile<'_>, work: &mut [u8], marks: &mut [u64], lim
     };
     let Found { row, rounds } = found;
     sets::store(marks, row);
-    let verdict = sets::test(&row, sizes.initial);
-    let count = sets::count(&row);
-    Ok(Report {
-        verdict,
-        count,
-        rounds,
-    })
+    Ok(Report::of_set(&row, sizes.initial, rounds))
 }
 
 // Solves an equation file. Is lent c working bytes, and the words of a set for the marks.

@@ -12,9 +12,9 @@ returns-then-marks-lt-WORDS c = few_words c.args.file.now.opens _ _ _ c.if-marks
 pub returns-in_default : goal.returns-in_default
 returns-in_default c = ended_spent c.args.file.now.opens _ _ _ (omega arith) (omega arith) (rw c.in_default.is at c.run.ensures)
 
-pub test-verdict-requires : goal.test-verdict-requires
-test-verdict-requires c = let n = (opens_read c.args.file.now.opens).counts in omega arith
+pub of_set-requires : goal.of_set-requires
+of_set-requires c = let n = (opens_read c.args.file.now.opens).counts in omega arith
 
 pub returns : goal.returns
 returns c =
-    ended_solved c.args.file.now.opens _ _ _ c.if-work-c.false c.if-marks-lt-WORDS.false c.in-Some.ensures.answers c.test-verdict.ensures c.count-count.ensures c.store.ensures
+    ended_solved c.args.file.now.opens _ _ _ c.if-work-c.false c.if-marks-lt-WORDS.false c.in-Some.ensures.answers c.of_set.ensures c.store.ensures

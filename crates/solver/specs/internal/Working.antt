@@ -1,14 +1,17 @@
 -- What the code's parts hold while blocks are solved, and what each part of the code answers.
-use Rattle.std.specs.Prelude.{◌≡◌, Bool, false, ◌&&◌, List, [], map, ℕ, ◌+◌, ◌<◌, ◌≤◌, eqb, ltb, length, get_or, drop, Option, MatchOption}
+use Rattle.std.specs.Prelude.{◌≡◌, Bool, false, ◌&&◌, List, [], map, ℕ, ◌+◌, ◌<◌, ◌≤◌, eqb, ltb, length, get_or, drop, Ok, Option, MatchOption}
 use Rattle.sets.specs.States.{States, start, Valuation, update}
-use Rattle.sets.specs.Words.{words, bit, word_count}
+use Rattle.sets.specs.Words.{words, bit, word_count, state_limit}
+use Rattle.sets.specs.Refusals.{report_of}
 use Rattle.solver.specs.Cells.{Values}
 use Rattle.solver.specs.computed.Solved.{evaluate, run}
 use Rattle.solver.specs.File.{sizes_of, blocks, block_at, cells, operands, block_limit}
 use Rattle.solver.specs.Conditions.{WellFormed}
 use Rattle.solver.specs.Solution.{RightSides, Solves}
 use Rattle.solver.specs.declared.Sizes.{Sizes}
+use Rattle.solver.specs.Outcome.{solve_answer}
 use Rattle.solver.specs.declared.Found.{Found}
+use Rattle.solver.specs.declared.Report.{Report}
 use Rattle.solver.specs.declared.rounds.Ending.{Ending}
 use Rattle.solver.specs.declared.rounds.Ending.TheVariants.{Stable, Replaced}
 
@@ -126,3 +129,7 @@ pub record IsFound (e : List ℕ) (limit : ℕ) (work : List ℕ) (found : Found
 pub record AllSolved (e : List ℕ) (limit : ℕ) (work : List ℕ) (answer : Option Found) : Type 0 where
   pub ready : Ready e work
   pub answers : MatchOption answer (limit < (run e).1) (IsFound e limit work)
+
+-- the report of a set that is held in words, with an initial state and rounds
+pub record Reported (set : List ℕ) (initial rounds : ℕ) (report : Report) : Type 0 where
+  pub are : (v : States) → length v ≤ state_limit → set ≡ words word_count v → solve_answer (Ok report) ≡ report_of initial v rounds

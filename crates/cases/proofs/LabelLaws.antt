@@ -1,4 +1,5 @@
 -- Laws of labels: their names, and the masks of alike labels.
+use mir.Val.{bool_byte}
 use mathlib.Core.Path.{◌≡◌, refl, sym, ap, ap₂, ◌∙◌}
 use mathlib.Core.Bool.{Bool, true, false, cond, not, ◌&&◌, ◌||◌}
 use mathlib.Core.Logic.{by_cases}
@@ -142,6 +143,11 @@ names_read part l j h = ap names_of (table_at (label_in part) l j (record { name
 pub same_read : (part : List ℕ) (l j x : ℕ) {u v : Label} → j < l → x < l → u ≡ label_in part j → v ≡ label_in part x
     → same_names (names_of u) (names_of v) ≡ same_as part l j x
 same_read part l j x hj hx e f = rw (e, f, names_read part l j hj, names_read part l x hx) refl
+
+-- what a truth value is as a number
+pub byte_of : (b : Bool) → bool_byte b ≡ bit b
+byte_of true = refl
+byte_of false = refl
 
 bit_few : (b : Bool) → bit b ≤ 1
 bit_few true = omega arith

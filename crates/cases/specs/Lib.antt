@@ -1,7 +1,6 @@
 -- What the contracts of this crate say: the case file, its conditions, action formulas, formulas and their meaning.
 pub mod Action
 pub mod Formula
-pub mod Kinds
 pub mod Prefix
 pub mod File
 pub mod Labels

@@ -1,4 +1,5 @@
 -- What serves the contracts of inner functions, and laws beneath the promises.
+pub mod Kinds
 pub mod Masks
 pub mod Checks
 pub mod Names

@@ -2,7 +2,7 @@
 ghost use Rattle.std.specs.Prelude.{◌≡◌, ◌<◌, length, get_or};
 ghost use Rattle.cases.specs.Action.{Action};
 ghost use Rattle.cases.specs.Case.{case_action};
-ghost use Rattle.cases.specs.Kinds.{action_number};
+ghost use Rattle.cases.specs.internal.Kinds.{action_number};
 ghost use Rattle.cases.specs.File.{label_records, action_limit};
 ghost use Rattle.cases.specs.Labels.{alike_labels};
 ghost use Rattle.cases.specs.internal.Checks.{labels_in, nodes_in, NodesFit, LabelPart};
@@ -68,8 +68,9 @@ impl OpenCase<'_> {
     // The labels that each of its action formulas accepts, as masks.
     pub fn action_masks(&self) -> [u64; ACTIONS]
         ensures long { length result ≡ action_limit }
-        ensures masks { ActionMasks (case_action self.now.bytes.now) self.now.header.actions result }
+        ensures masks { ActionMasks (case_action self.now.laid.bytes.now) self.now.laid.header.actions result }
     {
-        action_masks(self.labels().part, self.header, self.actions().part)
+        let laid = self.laid;
+        action_masks(laid.labels().part, laid.header, laid.actions().part)
     }
 }

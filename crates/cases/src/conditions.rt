@@ -305,7 +305,7 @@ fn check_formula(nodes: &Nodes<'_>, actions: usize) -> Result<(), Cause>
 
 // Opens a case, or answers the first condition that holds.
 pub fn open(case: &[u8]) -> Result<OpenCase<'_>, Cause>
-    ensures { Opens (case_refusal case.now) (λ o. (o.bytes.now ≡ case.now) × (o.header ≡ header_of case.now)) result }
+    ensures { Opens (case_refusal case.now) (λ o. (o.laid.bytes.now ≡ case.now) × (o.laid.header ≡ header_of case.now)) result }
 {
     let header = check_layout(case)?;
     let laid = LaidCase {
@@ -314,10 +314,7 @@ pub fn open(case: &[u8]) -> Result<OpenCase<'_>, Cause>
     };
     check_model(&laid)?;
     check_formula(&laid.formula(), header.actions)?;
-    Ok(OpenCase {
-        bytes: case,
-        header,
-    })
+    Ok(OpenCase { laid })
 }
 
 // The number of a cause.

@@ -2,7 +2,7 @@
 // would be no plainer.
 ghost use Rattle.std.specs.Prelude.{◌≡◌, ◌≤◌, ◌||◌, eqb, get_or};
 ghost use Rattle.cases.specs.Prefix.{action_arities, formula_arities, arity_in};
-ghost use Rattle.cases.specs.Kinds.{action_number, formula_number, Reads};
+ghost use Rattle.cases.specs.internal.Kinds.{action_number, formula_number, Reads};
 ghost use Rattle.cases.specs.Conditions.{is_binder};
 
 use crate::Node;

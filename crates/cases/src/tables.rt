@@ -1,6 +1,6 @@
 // The tables of a case: each is the part of the file that starts at its offset, with the number of its records.
 ghost use Rattle.std.specs.Prelude.{◌≡◌, ◌*◌, ◌<◌, ◌≤◌, length};
-ghost use Rattle.cases.specs.File.{header_of, label_records as records_of, label_in, transition_in, node_in};
+ghost use Rattle.cases.specs.File.{label_records as records_of, label_in, transition_in, node_in};
 ghost use Rattle.cases.specs.Conditions.{Accepted};
 ghost use Rattle.cases.specs.internal.Checks.{label_part, transition_part, action_part, formula_part, Laid};
 
@@ -121,56 +121,9 @@ impl<'a> LaidCase<'a> {
     }
 }
 
-// An accepted case and its header.
+// A case that is accepted.
 #[derive(Clone, Copy)]
 pub struct OpenCase<'a> {
-    pub bytes: &'a [u8],
-    pub header: Header,
-    pub ghost accepted: { Accepted bytes.now },
-    pub ghost read: { header ≡ header_of bytes.now },
-}
-
-impl<'a> OpenCase<'a> {
-    // The same case; its layout is right. The four tables below are those of this: to name it at each call would be no plainer.
-    pub fn laid(&self) -> LaidCase<'a>
-        ensures bytes { result.bytes.now ≡ self.now.bytes.now }
-        ensures header { result.header ≡ self.now.header }
-    {
-        LaidCase {
-            bytes: self.bytes,
-            header: self.header,
-        }
-    }
-
-    // The label records, where there are any.
-    pub fn labels(&self) -> LabelRecords<'a>
-        ensures part { result.part.now ≡ label_part self.now.bytes.now }
-        ensures count { result.count ≡ records_of self.now.header }
-    {
-        self.laid().labels()
-    }
-
-    // The transitions.
-    pub fn transitions(&self) -> Transitions<'a>
-        ensures part { result.part.now ≡ transition_part self.now.bytes.now }
-        ensures count { result.count ≡ self.now.header.transitions }
-    {
-        self.laid().transitions()
-    }
-
-    // The action nodes.
-    pub fn actions(&self) -> Nodes<'a>
-        ensures part { result.part.now ≡ action_part self.now.bytes.now }
-        ensures count { result.count ≡ self.now.header.actions }
-    {
-        self.laid().actions()
-    }
-
-    // The formula nodes.
-    pub fn formula(&self) -> Nodes<'a>
-        ensures part { result.part.now ≡ formula_part self.now.bytes.now }
-        ensures count { result.count ≡ self.now.header.nodes }
-    {
-        self.laid().formula()
-    }
+    pub laid: LaidCase<'a>,
+    pub ghost accepted: { Accepted laid.bytes.now },
 }

@@ -1,6 +1,5 @@
 // The transition part: its records by source, and which of them are the first of their kind.
 ghost use Rattle.std.specs.Prelude.{◌≡◌, ◌<◌, ◌≤◌, eqb, length};
-ghost use Rattle.sets.specs.Words.{bit};
 ghost use Rattle.cases.specs.File.{transition_limit};
 ghost use Rattle.cases.specs.Case.{copies_before, distinct};
 ghost use Rattle.cases.specs.Tally.{tally_of};
@@ -51,40 +50,37 @@ fn copies_before(table: &Transitions<'_>, links: &Links, i: usize) -> usize
 }
 
 // Flags those records of a table that are the first of their kind, and answers how many they are.
-fn flag_appearances(table: &Transitions<'_>, first: &mut [u8]) -> usize
+fn flag_appearances(table: &Transitions<'_>, first: &mut [bool]) -> usize
     requires { Sourced table.now.part.now table.now.count × (table.now.count ≤ length first.old) }
     ensures { FirstFlags table.now.part.now table.now.count first.new × (result ≡ length (distinct (transitions_in table.now.part.now table.now.count))) }
 {
     let links = links_of(table);
-    let mut distinct: usize = 0;
-    for i in 0..table.count {
-        let flag = u8::from(copies_before(table, &links, i) == 0);
-        first[i] = flag;
-        distinct += usize::from(flag);
+    let flags = &mut first[..table.count];
+    for (i, flag) in flags.iter_mut().enumerate() {
+        *flag = copies_before(table, &links, i) == 0;
     }
-    distinct
+    flags.iter().filter(|flag| **flag).count()
 }
 
 // Flags the records of an accepted case that are the first of their kind, and tells how many records there are and how many of them are
 // distinct.
-pub fn first_appearances(case: &OpenCase<'_>, first: &mut [u8]) -> Tally
+pub fn first_appearances(case: &OpenCase<'_>, first: &mut [bool]) -> Tally
     requires { transition_limit ≤ length first.old }
-    ensures flags { FirstFlags (transition_part case.now.bytes.now) case.now.header.transitions first.new }
-    ensures tally { result ≡ tally_of case.now.bytes.now }
+    ensures flags { FirstFlags (transition_part case.now.laid.bytes.now) case.now.laid.header.transitions first.new }
+    ensures tally { result ≡ tally_of case.now.laid.bytes.now }
 {
-    let table = case.transitions();
-    let distinct = flag_appearances(&table, first);
+    let table = case.laid.transitions();
     Tally {
         records: table.count,
-        distinct: distinct,
+        distinct: flag_appearances(&table, first),
     }
 }
 
-// The transitions of a table with a flag for each: 1 where it is the first of its kind, and 0 where it is a copy.
+// The transitions of a table, and of each whether it is the first of its kind.
 #[derive(Clone, Copy)]
 pub struct Flagged<'a> {
     pub table: Transitions<'a>,
-    pub first: &'a [u8],
+    pub first: &'a [bool],
     pub ghost flags: { FirstFlags table.part.now table.count first.now },
 }
 
@@ -94,6 +90,6 @@ impl<'a> Flagged<'a> {
         requires { i < self.now.table.count }
         ensures { result ≡ eqb (copies_before (transitions_in self.now.table.part.now self.now.table.count) i) 0 }
     {
-        self.first[i] == 1
+        self.first[i]
     }
 }

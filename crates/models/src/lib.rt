@@ -67,12 +67,12 @@ pub fn open(case: &[u8], model: &mut [u8]) -> Change
     ensures { Edited (open_conditions case.now model.old) (opened_model case.now model.old) model.old (change_number result) model.new }
 {
     let opened = cases::open(case)?;
-    if model.len() < opened.bytes.len() + 6 * (TRANSITIONS - opened.header.transitions) {
+    if model.len() < opened.laid.bytes.len() + 6 * (TRANSITIONS - opened.laid.header.transitions) {
         return Err(Cause::Memory);
     }
-    let mut first = [0u8; TRANSITIONS];
+    let mut first = [false; TRANSITIONS];
     first_appearances(&opened, &mut first);
-    write_distinct(&opened.laid(), &first, model);
+    write_distinct(&opened.laid, &first, model);
     Ok(())
 }
 

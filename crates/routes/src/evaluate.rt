@@ -2,7 +2,7 @@
 ghost use Rattle.std.specs.Prelude.{◌≡◌, ◌≤◌, eqb};
 ghost use Rattle.sets.specs.States.{start as sign_start};
 ghost use Rattle.sets.specs.Words.{words, word_count, state_limit};
-ghost use Rattle.cases.specs.Kinds.{formula_number};
+ghost use Rattle.cases.specs.internal.Kinds.{formula_number};
 ghost use Rattle.routes.specs.Route.{direct, run_of};
 ghost use Rattle.routes.specs.internal.Answering.{Rooted};
 ghost use Rattle.routes.specs.internal.Given.{case_given};

@@ -90,16 +90,16 @@ pub fn direct_parts(case: &DirectCase<'_>, marks: &mut [u64], limit: u64) -> Ans
 
 // Direct on an accepted case.
 fn direct_opened(case: &OpenCase<'_>, marks: &mut [u64], limit: u64) -> Tallied
-    ensures { Ran direct_route case.now.bytes.now (marks_only marks.old) limit (route_answer result.answer) result.tally marks.new }
+    ensures { Ran direct_route case.now.laid.bytes.now (marks_only marks.old) limit (route_answer result.answer) result.tally marks.new }
 {
-    let mut first = [0u8; TRANSITIONS];
+    let mut first = [false; TRANSITIONS];
     let tally = first_appearances(case, &mut first);
     let given = DirectCase {
-        header: case.header,
-        labels: case.labels().part,
-        transitions: case.transitions(),
-        actions: case.actions().part,
-        formula: case.formula(),
+        header: case.laid.header,
+        labels: case.laid.labels().part,
+        transitions: case.laid.transitions(),
+        actions: case.laid.actions().part,
+        formula: case.laid.formula(),
     };
     let answer = direct_parts(&given, marks, limit);
     Tallied { answer, tally }
@@ -137,10 +137,10 @@ fn equation_opened(
     marks: &mut [u64],
     limit: u64,
 ) -> Tallied
-    ensures { EquationRan case.entry.bytes.now (lent file.old work.old marks.old) limit (route_answer result.answer) result.tally
+    ensures { EquationRan case.entry.laid.bytes.now (lent file.old work.old marks.old) limit (route_answer result.answer) result.tally
         file.new work.new marks.new }
 {
-    let mut first = [0u8; TRANSITIONS];
+    let mut first = [false; TRANSITIONS];
     let tally = first_appearances(&case, &mut first);
     let written = write_case(&case, &first, file);
     let Ok(length) = written else {

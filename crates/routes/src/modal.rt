@@ -7,7 +7,7 @@ ghost use Rattle.sets.specs.Words.{words, word_count, state_limit};
 ghost use Rattle.cases.specs.File.{label_limit};
 ghost use Rattle.cases.specs.Action.{Action, accepts};
 ghost use Rattle.cases.specs.internal.Masks.{mask_of};
-ghost use Rattle.cases.specs.Kinds.{formula_number};
+ghost use Rattle.cases.specs.internal.Kinds.{formula_number};
 ghost use Rattle.cases.specs.Meaning.{from};
 ghost use Rattle.routes.specs.internal.Evaluating.{modal_in, states_of, transitions_of, Finds};
 

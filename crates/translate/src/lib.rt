@@ -108,26 +108,26 @@ impl Equations<'_, '_> {
 }
 
 // The equation file of an accepted case, with the flags of first appearances. The labels that an action formula accepts are found once.
-pub fn write_case<'a>(case: &OpenCase<'a>, first: &'a [u8], out: &mut [u8]) -> Written
-    requires { FirstFlags (transition_part case.now.bytes.now) case.now.header.transitions first.now }
-    ensures { Translated case.now.bytes.now out.old (written_number result) (written_length result) out.new }
+pub fn write_case<'a>(case: &OpenCase<'a>, first: &'a [bool], out: &mut [u8]) -> Written
+    requires { FirstFlags (transition_part case.now.laid.bytes.now) case.now.laid.header.transitions first.now }
+    ensures { Translated case.now.laid.bytes.now out.old (written_number result) (written_length result) out.new }
 {
     let masks = case.action_masks();
-    let a = case.header.actions;
-    let nodes = case.formula();
+    let a = case.laid.header.actions;
+    let nodes = case.laid.formula();
     let formula = FormulaTable {
         nodes,
         masks: &masks[..a],
     };
     let shapes = formula.shapes();
     let k = formula.added_before() + formula.nodes.count;
-    let table = case.transitions();
+    let table = case.laid.transitions();
     let records = Flagged { table, first };
     let equations = Equations {
         records,
         shapes: &shapes[..k],
-        states: case.header.states,
-        initial: case.header.initial,
+        states: case.laid.header.states,
+        initial: case.laid.header.initial,
     };
     equations.emit(out)
 }
@@ -137,7 +137,7 @@ pub fn translate(case: &[u8], out: &mut [u8]) -> Written
     ensures { Translated case.now out.old (written_number result) (written_length result) out.new }
 {
     let opened = cases::open(case)?;
-    let mut first = [0u8; TRANSITIONS];
+    let mut first = [false; TRANSITIONS];
     first_appearances(&opened, &mut first);
     write_case(&opened, &first, out)
 }

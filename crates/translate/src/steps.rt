@@ -32,7 +32,7 @@ impl Steps<'_> {
         requires { j < self.now.records.table.count }
         ensures { result ≡ follows self.now j }
     {
-        if self.records.first[j] != 1 {
+        if !self.records.is_first(j) {
             return false;
         }
         let t = self.records.table.at(j);

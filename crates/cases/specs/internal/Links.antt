@@ -1,6 +1,6 @@
 -- The records of a transition part linked by their source, and flagged where they are the first of their kind.
-use Rattle.std.specs.Prelude.{◌≡◌, cond, List, ℕ, zero, suc, ◌+◌, ◌-◌, ◌*◌, ◌<◌, ◌≤◌, eqb, length, get_or}
-use Rattle.sets.specs.Words.{bit, state_limit}
+use Rattle.std.specs.Prelude.{◌≡◌, Bool, false, cond, List, ℕ, zero, suc, ◌+◌, ◌-◌, ◌*◌, ◌<◌, ◌≤◌, eqb, length, get_or}
+use Rattle.sets.specs.Words.{state_limit}
 use Rattle.cases.specs.File.{transition_in, transition_limit}
 use Rattle.cases.specs.Case.{copies_before}
 use Rattle.cases.specs.internal.Checks.{transitions_in}
@@ -36,7 +36,7 @@ pub record Linked (part : List ℕ) (m : ℕ) (first after : List ℕ) : Type 0 
   pub sourced : Sourced part m
   pub filled : LinkedFrom part m 0 first after
 
--- flag j is 1 where transition j is the first of its kind, and 0 where it is a copy
-pub record FirstFlags (part : List ℕ) (m : ℕ) (flags : List ℕ) : Type 0 where
+-- flag j says whether transition j is the first of its kind
+pub record FirstFlags (part : List ℕ) (m : ℕ) (flags : List Bool) : Type 0 where
   pub long : m ≤ length flags
-  pub at : (j : ℕ) → j < m → get_or flags j 0 ≡ bit (eqb (copies_before (transitions_in part m) j) 0)
+  pub at : (j : ℕ) → j < m → get_or flags j false ≡ eqb (copies_before (transitions_in part m) j) 0

@@ -43,7 +43,7 @@ invariant_of-result c =
     let a = accepted c.check_layout.ensures c.in_ok-header.was in
     let read = formula_read (laid _ a.1 a.0) c.formula.ensures.part c.formula.ensures.count in
     let decides = formula_decides _ a.0 (passes c.check_model.ensures c.in_ok-check_model.was) a.1 read in
-    record { accepted = sym decides ∙ passes c.check_formula.ensures c.in_ok-check_formula.was; read = a.1 }
+    record { accepted = sym decides ∙ passes c.check_formula.ensures c.in_ok-check_formula.was }
 
 pub returns : goal.returns
 returns c =

@@ -2,8 +2,7 @@ use mathlib.Core.Path.{◌≡◌, ap, ◌∙◌}
 use Prim.Native.Nat.{suc, ◌-◌}
 use native.Mathlib.Omega.{arith}
 use Rattle.sets.specs.Words.{bit}
-use Rattle.cases.proofs.FirstAppearances.{byte_of}
-use Rattle.cases.proofs.LabelLaws.{masking_none, masking_more, same_read}
+use Rattle.cases.proofs.LabelLaws.{byte_of, masking_none, masking_more, same_read}
 use Rattle.cases.proofs.labels.same_labels.Goals as goal
 
 pub loop-x-init : goal.loop-x-init

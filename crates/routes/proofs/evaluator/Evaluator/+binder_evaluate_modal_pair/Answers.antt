@@ -5,7 +5,7 @@ use borrow.Author.Rules.{rules}
 use Prim.Native.Nat.{◌<◌}
 use lib.ListN.{length}
 use Rattle.std.specs.Cmp.Lexicographic.{same_text, other_text}
-use Rattle.cases.specs.Kinds.{formula_number}
+use Rattle.cases.specs.internal.Kinds.{formula_number}
 use Rattle.cases.specs.declared.kinds.FormulaKind.TheVariants.{False, True, And, Or, Box, Diamond, Mu, Nu}
 use Rattle.routes.proofs.NodeLaws.{kind_is, kind_either, kind_known, binder_of, block_read, block_fits}
 use Rattle.routes.proofs.EvaluateLaws.{constant_done, variable_done, pair_first, pair_second, pair_after, pair_spent, pair_spent_2, pair_done, modal_first, modal_inside, modal_spent, modal_done}

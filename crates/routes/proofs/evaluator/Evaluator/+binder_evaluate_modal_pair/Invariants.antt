@@ -1,6 +1,6 @@
 -- What is left of the formula falls; a binder's loop is on its way, and the rounds left fall.
 use Prim.Native.Nat.{◌+◌, ◌-◌, ◌*◌}
-use Rattle.cases.specs.Kinds.{formula_number}
+use Rattle.cases.specs.internal.Kinds.{formula_number}
 use Rattle.routes.proofs.BinderLaws.{Going}
 use Rattle.routes.proofs.evaluator.Evaluator.+binder_evaluate_modal_pair.Given as goal
 

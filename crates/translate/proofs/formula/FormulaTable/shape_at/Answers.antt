@@ -1,5 +1,5 @@
 use mathlib.Core.Path.{refl, sym, ap, ◌∙◌}
-use Rattle.cases.specs.Kinds.{formula_number}
+use Rattle.cases.specs.internal.Kinds.{formula_number}
 use Rattle.translate.specs.declared.Shape.{Shape}
 use Rattle.translate.proofs.ShapeFields.{readable_here, shape_read}
 use Rattle.translate.proofs.formula.FormulaTable.shape_at.Goals as goal

@@ -16,7 +16,8 @@ use routes::{Answer, Tallied, solving_answer};
 use translate::Written;
 
 // The refusal number (0 if none), the verdict as 1 or 0, the count of marked states, the rounds, and the length of the file that was
-// written. What a call does not answer is 0, and so are all but the first after a refusal.
+// written. What a call does not answer is 0, and so are all but the first after a refusal. Plain numbers in place of a Result, and here and
+// below one struct for each call's numbers, since the C interface needs it.
 #[repr(C)]
 #[derive(Clone, Copy)]
 pub struct Numbers {
@@ -103,7 +104,7 @@ impl From<Tallied> for RouteNumbers {
     }
 }
 
-// A transition of three 64-bit numbers.
+// A transition of three 64-bit numbers, which C gives one by one.
 fn transition_of(source: u64, label: u64, target: u64) -> Transition
     ensures { result ≡ record { source = source; label = label; target = target } }
 {

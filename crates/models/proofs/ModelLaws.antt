@@ -81,9 +81,14 @@ module _ (model : List ℕ) (t : Transition) where
   look_layout d = sym (one_of_first (layout_conditions b) _ d)
 
   module _ (none : first_of (layout_conditions b) ≡ 0) where
+    -- what is first behind the layout, if the layout is right
+    laid_first : (rest : Conditions) → first_of (layout_conditions b ++ rest) ≡ first_of rest
+    unfolding layout_conditions every
+    laid_first rest = none_of_first (layout_conditions b) rest tt none
+
     look_own : first_of (look_conditions model t) ≡ first_of range
-    unfolding look_conditions layout_conditions every
-    look_own = none_of_first (layout_conditions b) _ tt none
+    unfolding look_conditions
+    look_own = laid_first range
 
     pub look_range : right ≡ false → 6 ≡ first_of (look_conditions model t)
     look_range e = holds_here _ _ _ (ap not e) ∙ sym look_own
@@ -96,26 +101,21 @@ module _ (model : List ℕ) (t : Transition) where
   unfolding look_conditions layout_conditions every
   looked none = let r = (none_reached (layout_conditions b) 6 _ (λ e. omega arith) tt).0 none in (r.0, not-false _ r.1)
 
-  -- one of them holds
-  pub look_adds : {k : ℕ} {made : List ℕ} → RefusedBy (look_conditions model t) k → Edited (add_conditions model t) made model k model
-  unfolding look_conditions add_conditions add_checks
-  look_adds r =
-      refuses (r.number ∙ sym (one_of_first (look_conditions model t) _ (λ z. r.some (r.number ∙ z))) ∙ ap first_of (append_assoc (layout_conditions b) range _)) r.some
-
-  pub look_drops : {k : ℕ} {made : List ℕ} → RefusedBy (look_conditions model t) k → Edited (drop_conditions model t) made model k model
-  unfolding look_conditions drop_conditions drop_checks
-  look_drops r =
-      refuses (r.number ∙ sym (one_of_first (look_conditions model t) _ (λ z. r.some (r.number ∙ z))) ∙ ap first_of (append_assoc (layout_conditions b) range _)) r.some
+  -- One of them holds: then any edit that has them first is refused.
+  pub look_refuses : (rest : Conditions) {k : ℕ} {made : List ℕ} → RefusedBy (look_conditions model t) k → Edited (layout_conditions b ++ (range ++ rest)) made model k model
+  unfolding look_conditions
+  look_refuses rest r =
+      refuses (r.number ∙ sym (one_of_first (look_conditions model t) rest (λ z. r.some (r.number ∙ z))) ∙ ap first_of (append_assoc (layout_conditions b) range rest)) r.some
 
   module _ (none : first_of (layout_conditions b) ≡ 0) where
     add_own : first_of (add_conditions model t)
         ≡ first_of (add_checks (header_of b).states (header_of b).labels held t ++ ((13, not (holds held t) && ltb (length model) (length b + 6)) ∷ []))
-    unfolding add_conditions layout_conditions every
-    add_own = none_of_first (layout_conditions b) _ tt none
+    unfolding add_conditions
+    add_own = laid_first none _
 
     drop_own : first_of (drop_conditions model t) ≡ first_of (drop_checks (header_of b).states (header_of b).labels held t)
-    unfolding drop_conditions layout_conditions every
-    drop_own = none_of_first (layout_conditions b) _ tt none
+    unfolding drop_conditions
+    drop_own = laid_first none _
 
     module _ (ok : right ≡ true) where
       -- a transition that is held

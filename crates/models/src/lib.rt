@@ -51,7 +51,7 @@ impl From<Cause> for u64 {
 // What opening or changing a model answers.
 pub type Change = Result<(), Cause>;
 
-// The number of an answer, 0 if it is no refusal.
+// The number of an answer, 0 if it is no refusal. It is no `From`, since neither u64 nor Result is a type of this crate.
 pub fn change_number(change: Change) -> u64
     ensures { result ≡ change_number change }
 {
@@ -84,7 +84,8 @@ struct Found {
     place: Option<usize>,
 }
 
-// Looks a transition up in a model.
+// Looks a transition up in a model. It is compiled into its callers, since the header that it answers is long to copy.
+#[inline(always)]
 fn look_up(model: &[u8], t: Transition) -> Result<Found, Cause>
     ensures { MatchResult result (FoundIn model.now t) (λ cause. RefusedBy (look_conditions model.now t) (cause_number cause)) }
 {

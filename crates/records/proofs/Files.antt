@@ -8,6 +8,7 @@ use native.Mathlib.Decide.{ℕ_discrete}
 use native.Mathlib.Omega.{arith}
 use borrow.Author.Rules.{part_to_end}
 use borrow.Rule.Slice.PartMut.{put_mid}
+use Rattle.std.specs.List.{copy_within}
 use lib.ListN.{length, take, drop, set, length-append, length-drop, length-set, take-append-drop}
 use lib.Seq.{paste, length-take-le, take_at, drop_at, drop-drop, take-suc, take_all, get_or-take, get_or-drop, get_or-set_same, get_or-set_other, set-append_left, drop-append-add}
 use Rattle.sets.specs.Lists.{numbers_from}
@@ -17,7 +18,6 @@ use Rattle.cases.specs.declared.Transition.{Transition}
 use Rattle.cases.specs.File.{u16, header_of, transitions_start, actions_start, file_end, transition_in, transition_table, case_within}
 use Rattle.cases.specs.Case.{transition_at, distinct}
 use Rattle.cases.specs.internal.Checks.{common_header, transition_part, transitions_in, Laid}
-use Rattle.cases.proofs.Distinct.{length_distinct}
 use Rattle.cases.proofs.LayoutRules.{header_least}
 use Rattle.cases.proofs.Tallies.{length_transitions, part_at}
 use Rattle.records.specs.Replaced.{record_bytes, table_bytes, with_number, head_for, with_transitions, written_to}
@@ -118,6 +118,12 @@ last_stays ts i h = by_cases (ℕ_discrete (length ts - 1) i)
 pub last_behind : (ts : List Transition) (k : ℕ) → length ts ≡ suc k → ts ≡ take k ts ++ (transition_at ts k ∷ [])
 last_behind ts k e = sym (take_all (suc k) ts (omega arith)) ∙ take-suc ts k _ (omega arith)
 
+-- how the parts of a case that bytes start with lie in them
+pub within_lies : (s : List ℕ) {h : Header} → Laid (case_within s) h
+    → (h.transitions_at + 6 * h.transitions ≡ h.actions_at) × (h.actions_at + (4 * h.actions + 4 * h.nodes) ≤ length s) × (common_header ≤ h.transitions_at)
+within_lies s {h} l =
+    (omega (arith, l.transitions, l.actions), omega (arith, l.ends, l.actions, within_few s), omega (arith, l.transitions, header_least h.version))
+
 -- ---- a case as its parts
 
 module _ {b : List ℕ} {h : Header} (l : Laid b h) where
@@ -142,11 +148,6 @@ module _ {b : List ℕ} {h : Header} (l : Laid b h) where
   pub length_behind : length (part_at b h.actions_at) ≡ tail
   length_behind = ap length (part_to_end b h.actions_at) ∙ rest_long
 
-  -- what holds of a case that bytes start with: how its parts lie in them
-  pub lies_in : (s : List ℕ) → length b ≤ length s
-      → (h.transitions_at + 6 * h.transitions ≡ h.actions_at) × (h.actions_at + tail ≤ length s) × (common_header ≤ h.transitions_at)
-  lies_in s few = (omega (arith, l.transitions, l.actions), omega (arith, l.ends, l.actions), head_least)
-
   -- Behind k of its m records there is room for what follows the table.
   pub rest_fits : (x y : List ℕ) (k : ℕ) → h.actions_at + tail ≤ length x → k ≤ h.transitions → length y ≡ length (part_at x h.transitions_at)
       → h.transitions_at + 6 * k + length (part_at b h.actions_at) ≤ length (put_mid h.transitions_at (length x - h.transitions_at) x y)
@@ -169,15 +170,12 @@ module _ {b : List ℕ} {h : Header} (l : Laid b h) where
   unfolding transition_table transitions_in
   table_is = ap (λ (x : Header). map (transition_in (drop x.transitions_at b)) (numbers_from 0 x.transitions)) (sym l.read)
 
-  -- The distinct records of its table were written; they are no more than all.
+  -- The distinct records of its table were written.
   module _ {part s u : List ℕ} {m k : ℕ} (is : part ≡ transition_part b) (all : m ≡ h.transitions) (w : RecordsWritten (distinct (transitions_in part m)) s u k) where
     pub wrote_table : RecordsWritten (distinct (transition_table b)) s u k
     wrote_table =
         let table : transitions_in part m ≡ transition_table b = rw (is, all) (ap (λ (x : Header). transitions_in (drop x.transitions_at b) h.transitions) (sym l.read) ∙ sym table_is) in
         rw table at w
-
-    pub wrote_few : k ≤ h.transitions
-    wrote_few = omega (arith, wrote_table.count, length_distinct (transition_table b), length_transitions b, ap (λ (x : Header). x.transitions) l.read)
 
   pub split : AllBytes b → b ≡ head ++ (table_bytes (transition_table b) ++ rest)
   split a =
@@ -269,12 +267,14 @@ module _ {b : List ℕ} {h : Header} (l : Laid b h) where
       without_long : length without ≡ k
       without_long = omega (arith, length-append without (last ∷ []), ap length set_is, length-set (transition_table b) i last, table_long)
 
-      pub removed : {x w : List ℕ} → x ≡ over s (h.transitions_at + 6 * i) (record_bytes (transition_in (part_at s h.transitions_at) k))
-          → w ≡ paste x (h.actions_at - 6) (drop h.actions_at x) (h.actions_at + 4 * h.actions + 4 * h.nodes - h.actions_at)
-          → head_for h k w ≡ written_to s (with_transitions b without)
+      abbrev at : ℕ
+      at = h.actions_at - 6
+
+      pub removed : {x ys : List ℕ} {n : ℕ} → x ≡ over s (h.transitions_at + 6 * i) (record_bytes (transition_in (part_at s h.transitions_at) k))
+          → n ≡ 6 + tail → ys ≡ copy_within (take n (drop at x)) 6 (length (take n (drop at x))) 0
+          → head_for h k (put_mid at n x ys) ≡ written_to s (with_transitions b without)
       unfolding table_bytes
-      removed {x} {w} p q =
-          let at : ℕ = h.actions_at - 6 in
+      removed {x} {ys} {n} p wide q =
           let ts : List Transition = transition_table b in
           let rec : List ℕ = record_bytes last in
           let front : length (head ++ table_bytes without) ≡ at = omega (arith, front_long without, without_long, l.transitions, l.actions) in
@@ -293,8 +293,8 @@ module _ {b : List ℕ} {h : Header} (l : Laid b h) where
           parts ∙ ap (λ (us : List Transition). head ++ (table_bytes us ++ (rest ++ z))) (last_behind ts k (table_long ∙ count))
           ∙ ap (λ (v : List ℕ). head ++ (v ++ (rest ++ z))) (table_append (take k ts) (last ∷ []))
           ∙ ap (λ (v : List ℕ). head ++ v) (append_assoc (table_bytes (take k ts)) rec (rest ++ z)) ∙ sym (append_assoc head (table_bytes (take k ts)) _) in
-          let closed : w ≡ head ++ (table_bytes without ++ (rest ++ drop tail (rec ++ (rest ++ z)))) =
-          q ∙ gap_closed (head ++ table_bytes without) rec rest z at 6 tail front refl rest_long x x_is (omega (arith, l.actions, count)) (omega arith) ∙ append_assoc head (table_bytes without) _ in
+          let closed : put_mid at n x ys ≡ head ++ (table_bytes without ++ (rest ++ drop tail (rec ++ (rest ++ z)))) =
+          gap_closed (head ++ table_bytes without) rec rest z at 6 tail front refl rest_long x x_is wide q ∙ append_assoc head (table_bytes without) _ in
           let all : at + tail ≡ h.transitions_at + 6 * length without + tail = omega (arith, without_long, l.transitions, l.actions, count) in
           let behind : drop tail (rec ++ (rest ++ z)) ≡ drop (h.transitions_at + 6 * length without + tail) s =
           sym (ap (drop tail) (ap (drop at) s_is ∙ drop_at (head ++ table_bytes (take k ts)) (rec ++ (rest ++ z)) at old_front)) ∙ drop-drop tail at s ∙ ap (λ (j : ℕ). drop j s) all in

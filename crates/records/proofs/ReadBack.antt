@@ -2,10 +2,9 @@
 -- action nodes and formula, the transitions that were put in; and it is accepted.
 use mathlib.Core.Path.{◌≡◌, refl, sym, ap, ◌∙◌}
 use mathlib.Core.Bool.{Bool, true, false, cond, not, ◌&&◌}
-use mathlib.Core.List.{List, [], ◌∷◌, ◌++◌, map}
+use mathlib.Core.List.{List, ◌++◌, map}
 use Prim.Native.Nat.{ℕ, zero, suc, ◌+◌, ◌*◌, ◌/◌, ◌%◌, ◌≤◌, ◌<◌}
 use native.Mathlib.Omega.{arith}
-use borrow.Author.Rules.{part_to_end}
 use borrow.Author.Tests.{le-ltb, lt-ltb, le-leb, eq-eqb}
 use lib.Dec.{T, eqb, ltb}
 use lib.ListN.{length, get_or, take, drop, set, length-set, get_or-append}
@@ -27,12 +26,12 @@ use Rattle.cases.specs.internal.Checks.{common_header, longest_header, CountsFit
 use Rattle.cases.proofs.Accepting.{Passed, passed}
 use Rattle.cases.proofs.LayoutRules.{header_least}
 use Rattle.cases.proofs.TableTrees.{holds}
-use Rattle.cases.proofs.Tallies.{model_holds, part_at}
+use Rattle.cases.proofs.Tallies.{model_holds}
 use Rattle.records.specs.Replaced.{table_bytes, with_number, head_for, with_transitions, case_with}
 use Rattle.records.specs.internal.Writing.{recounted}
 use Rattle.records.proofs.Heads.{start_few}
 use Rattle.records.proofs.Tables.{length_table_bytes, table_back, back}
-use Rattle.records.proofs.Files.{length_head, length_number, number_take, number_drop, record_take, head_long, head_least, table_is, with_is, with_long}
+use Rattle.records.proofs.Files.{length_head, length_number, number_take, number_drop, head_long, head_least, with_is, with_long}
 
 -- ---- numbers of a head
 
@@ -141,20 +140,6 @@ table_same f g (suc m) e =
     let long = length_table f (suc m) in
     ext_get_or d _ _ (long ∙ sym (length_table g (suc m)))
     (λ j h. let inside : j < suc m = rw long at h in table_at f (suc m) j d inside ∙ e j inside ∙ sym (table_at g (suc m) j d inside))
-
-take_few : (k : ℕ) (s : List ℕ) → length (take k s) ≤ k
-take_few zero s = omega arith
-take_few (suc k) [] = omega arith
-take_few (suc k) (x ∷ s) = omega (arith, take_few k s)
-
--- The records of the case that bytes start with are those that stand in the bytes.
-pub table_within : (s : List ℕ) {x : Header} → Laid (case_within s) x → transitions_in (part_at s x.transitions_at) x.transitions ≡ transition_table (case_within s)
-unfolding transitions_in case_within
-table_within s {x} l =
-    let r : ℕ = x.transitions_at in
-    let k : ℕ = file_end (header_of s) in
-    ap (λ (part : List ℕ). transitions_in part x.transitions) (part_to_end s r)
-    ∙ sym (table_is l ∙ table_same (transition_in (drop r (take k s))) (transition_in (drop r s)) x.transitions (λ j g. record_take k r s j (omega (arith, take_few k s, l.ends, l.transitions))))
 
 -- a header from its numbers
 abbrev header : ℕ → ℕ → ℕ → ℕ → ℕ → ℕ → ℕ → ℕ → ℕ → ℕ → ℕ → Header

@@ -7,7 +7,8 @@ ghost use Rattle.records.specs.internal.Writing.{over};
 
 use cases::{Header, Transition};
 
-// One number, low byte first.
+// One number, low byte first. Translating writes numbers of 32 bits; one writer for both sizes would take the bytes of a number by its size,
+// which is no plainer.
 fn put_number(bytes: &mut [u8], at: usize, x: usize)
     requires { at + 2 ≤ length bytes.old }
     ensures { bytes.new ≡ with_number bytes.old at x }
@@ -27,7 +28,8 @@ pub fn put_record(bytes: &mut [u8], at: usize, t: Transition)
     put_number(bytes, at + 4, t.target);
 }
 
-// The numbers of a head that depend on how many transitions there are.
+// The numbers of a head that depend on how many transitions there are. The bytes are no case while they are written, so what is asked is of
+// the header alone.
 pub fn put_head(bytes: &mut [u8], h: Header, k: usize)
     requires { (common_header ≤ length bytes.old) × CountsFit h × (h.transitions_at ≡ transitions_start h) × (k ≤ transition_limit) }
     ensures { bytes.new ≡ head_for h k bytes.old }

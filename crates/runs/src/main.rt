@@ -28,6 +28,7 @@ fn run<W: Write>(output: &mut W, number: u64, case: &[u8]) -> io::Result<()>
     writeln!(output, "{number} E{equation} D{direct} T{tally}")
 }
 
+// The cases are numbered, so they are counted; each loop is proved to end too, and the count ends it where the stream does not.
 fn main(rt: HostRuntime) -> io::Result<()> {
     let mut input = rt.reader();
     let mut output = io::writer(&rt);

@@ -6,13 +6,15 @@ use Rattle.std.proofs.lemmas.Result.{err_from_is_err_and}
 use Rattle.cases.specs.File.{case_within}
 use Rattle.cases.proofs.LayoutRules.{laid}
 use Rattle.records.proofs.Files.{within_few}
-use Rattle.models.proofs.ModelLaws.{refuses, makes, looked, look_adds, count_is, is_held, is_new, held_left, new_left, add_held, add_full, add_memory, add_new}
+use Rattle.models.specs.Model.{add_conditions, add_checks}
+use Rattle.models.proofs.ModelLaws.{refuses, makes, looked, look_refuses, count_is, is_held, is_new, held_left, new_left, add_held, add_full, add_memory, add_new}
 use Rattle.models.proofs.add.Goals as goal
 
 pub returns-in_err-found : goal.returns-in_err-found
+unfolding add_conditions add_checks
 returns-in_err-found c =
     let p = err_from_is_err_and c.from_residual.result c.from_residual.ensures.1 in
-    rw (p.1, p.2) (look_adds c.args.model.now c.args.t c.in_err-found.ensures)
+    rw (p.1, p.2) (look_refuses c.args.model.now c.args.t _ c.in_err-found.ensures)
 
 pub returns-then-is_some : goal.returns-then-is_some
 returns-then-is_some c =

@@ -7,14 +7,15 @@ use Rattle.cases.specs.File.{transition_table, case_within}
 use Rattle.cases.proofs.LayoutRules.{laid}
 use Rattle.records.specs.Replaced.{with_transitions, written_to}
 use Rattle.records.specs.Places.{without_at}
-use Rattle.models.specs.Model.{dropping, dropped_model}
-use Rattle.models.proofs.ModelLaws.{refuses, makes, looked, look_drops, count_is, drop_held, drop_absent}
+use Rattle.models.specs.Model.{dropping, dropped_model, drop_conditions, drop_checks}
+use Rattle.models.proofs.ModelLaws.{refuses, makes, looked, look_refuses, count_is, drop_held, drop_absent}
 use Rattle.models.proofs.drop.Goals as goal
 
 pub returns-in_err-found : goal.returns-in_err-found
+unfolding drop_conditions drop_checks
 returns-in_err-found c =
     let p = err_from_is_err_and c.from_residual.result c.from_residual.ensures.1 in
-    rw (p.1, p.2) (look_drops c.args.model.now c.args.t c.in_err-found.ensures)
+    rw (p.1, p.2) (look_refuses c.args.model.now c.args.t _ c.in_err-found.ensures)
 
 pub returns-in_default : goal.returns-in_default
 returns-in_default c =

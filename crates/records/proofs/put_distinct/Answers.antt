@@ -29,4 +29,8 @@ pub returns : goal.returns
 returns c =
     let t = c.args.flagged.now.table in
     let all : c.loop-i.i ≡ t.count = omega arith in
-    firsts_all t.part.now t.count (rw all at c.loop-i.invariant.1)
+    let wrote : _ = c.loop-i.invariant.1 in
+    record {
+      written = firsts_all t.part.now t.count (rw all at wrote);
+      few = omega (arith, firsts_few t.part.now t.count c.loop-i.i wrote);
+    }

@@ -2,46 +2,31 @@ use mathlib.Core.Path.{refl, ap, ◌∙◌}
 use mathlib.Core.List.{List, ◌++◌}
 use native.Mathlib.Omega.{arith}
 use lib.ListN.{drop}
-use Rattle.records.proofs.Files.{least_stays, lies_in, length_behind, rest_fits, wrote_table, wrote_few, opened}
+use Rattle.records.proofs.Files.{least_stays, length_behind, rest_fits, wrote_table, opened}
 use Rattle.records.proofs.Heads.{start_few}
 use Rattle.records.proofs.write_distinct.Goals as goal
 
-pub overflow_mul-at : goal.overflow_mul-at
-overflow_mul-at c =
-    let l = c.args.case.now.laid in
-    let few = wrote_few l c.transitions.ensures.part c.transitions.ensures.count c.put_distinct-k.ensures in
-    omega (arith, l.counts.few_transitions)
-
 pub overflow_add-at : goal.overflow_add-at
-overflow_add-at c =
-    let l = c.args.case.now.laid in
-    let few = wrote_few l c.transitions.ensures.part c.transitions.ensures.count c.put_distinct-k.ensures in
-    omega (arith, l.counts.few_transitions, start_few c.args.case.now.header l.counts, l.transitions)
+overflow_add-at c = let l = c.args.case.now.laid in omega (arith, l.counts.few_transitions, start_few c.args.case.now.header l.counts, l.transitions)
 
 pub overflow_add-at-2 : goal.overflow_add-at-2
 overflow_add-at-2 c =
     let l = c.args.case.now.laid in
-    let few = wrote_few l c.transitions.ensures.part c.transitions.ensures.count c.put_distinct-k.ensures in
-    let rest = length_behind l in
-    omega (arith, l.counts.few_transitions, l.counts.few_actions, l.counts.few_nodes, start_few c.args.case.now.header l.counts, l.transitions)
+    omega (arith, length_behind l, l.counts.few_transitions, l.counts.few_actions, l.counts.few_nodes, start_few c.args.case.now.header l.counts, l.transitions)
 
 pub slice_bounds-copy_from_slice-end-4 : goal.slice_bounds-copy_from_slice-end-4
 slice_bounds-copy_from_slice-end-4 c =
     let l = c.args.case.now.laid in
-    let few = wrote_few l c.transitions.ensures.part c.transitions.ensures.count c.put_distinct-k.ensures in
-    let p = lies_in l c.args.out.now c.requires.1 in
-    rest_fits l _ c.put_distinct-k.new.out _ (omega arith) few (omega arith)
+    rest_fits l _ c.put_distinct-k.new.out _ (omega (arith, l.ends, l.actions)) (omega arith) (omega arith)
 
 pub put_head-requires : goal.put_head-requires
 put_head-requires c =
     let l = c.args.case.now.laid in
-    let few = wrote_few l c.transitions.ensures.part c.transitions.ensures.count c.put_distinct-k.ensures in
-    let p = lies_in l c.args.out.now c.requires.1 in
-    (least_stays l _ _ _ _ _ (omega arith) few (omega arith), l.counts, l.transitions, omega (arith, l.counts.few_transitions))
+    (least_stays l _ _ _ _ _ (omega (arith, l.ends, l.actions)) (omega arith) (omega arith), l.counts, l.transitions, omega (arith, l.counts.few_transitions))
 
 pub returns : goal.returns
 returns c =
     let l = c.args.case.now.laid in
-    let wrote = wrote_table l c.transitions.ensures.part c.transitions.ensures.count c.put_distinct-k.ensures in
+    let wrote = wrote_table l c.transitions.ensures.part c.transitions.ensures.count c.put_distinct-k.ensures.written in
     c.put_head.ensures
     ∙ opened l c.args.out.now _ refl (ap (λ (v : List _). v ++ drop c.args.case.now.header.transitions_at c.args.out.now) c.copy_from_slice.ensures.after) wrote c.copy_from_slice-2.ensures.after

@@ -2,7 +2,6 @@
 use mathlib.Core.Path.{sym, ◌∙◌}
 use native.Mathlib.Omega.{arith}
 use Rattle.std.proofs.lemmas.Result.{err_from_is_err_and}
-use Rattle.cases.proofs.Accepting.{passed}
 use Rattle.cases.proofs.Openings.{accepted, refused}
 use Rattle.models.specs.Model.{opened_model}
 use Rattle.models.proofs.ModelLaws.{refuses, makes, case_refuses, open_refuses, open_makes, room_is}
@@ -14,18 +13,15 @@ returns-in_err-opened c =
     let r = refused c.«open».ensures c.in_err-opened.was in
     rw (p.1, p.2) (refuses (r.0 ∙ case_refuses c.args.case.now c.args.model.now r.1) (λ z. r.1 (sym r.0 ∙ z)))
 
-pub overflow_sub-opened : goal.overflow_sub-opened
-overflow_sub-opened c = let o = c.in_ok-opened.opened in rw o.read (passed _ o.accepted).lies.counts.few_transitions
-
 pub returns-then-model-opened : goal.returns-then-model-opened
 returns-then-model-opened c =
     let o = c.in_ok-opened.opened in
     let same = (accepted c.«open».ensures c.in_ok-opened.was).1.0 in
-    rw (sym same) (refuses (open_refuses _ c.args.model.now o.accepted (omega (arith, room_is _ o.read))) (λ z. omega arith))
+    rw (sym same) (refuses (open_refuses _ c.args.model.now o.accepted (omega (arith, room_is _ o.laid.laid.read))) (λ z. omega arith))
 
 pub returns : goal.returns
 unfolding opened_model
 returns c =
     let o = c.in_ok-opened.opened in
     let same = (accepted c.«open».ensures c.in_ok-opened.was).1.0 in
-    rw (sym same) (makes (open_makes _ c.args.model.now o.accepted (omega (arith, room_is _ o.read))) (rw c.laid.ensures.bytes at c.write_distinct.ensures))
+    rw (sym same) (makes (open_makes _ c.args.model.now o.accepted (omega (arith, room_is _ o.laid.laid.read))) c.write_distinct.ensures)

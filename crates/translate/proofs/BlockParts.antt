@@ -7,12 +7,12 @@ use native.Mathlib.Numerals.{add-one}
 use native.Mathlib.Omega.{arith}
 use lib.ListN.{length, take, drop, length-append}
 use lib.Seq.{take_all, take-suc, take-add, length-take-le}
-use Rattle.std.specs.Prelude.{Option, Some, None, is_some, count_by}
+use Rattle.std.specs.Prelude.{count_by}
 use Rattle.std.proofs.lemmas.List.Sums.{sum_by-cons}
 use Rattle.solver.specs.File.{Block}
 use Rattle.translate.specs.declared.Shape.{Shape}
 use Rattle.translate.specs.Bytes.{block_numbers}
-use Rattle.translate.specs.internal.Shapes.{shape_at, shape_sign, shape_block, shape_blocks}
+use Rattle.translate.specs.internal.Shapes.{shape_at, shape_binds, shape_block, shape_blocks}
 use Rattle.translate.proofs.NumberBytes.{length_block_numbers}
 
 -- the blocks of two lists of shapes follow one another
@@ -35,7 +35,7 @@ unfolding shape_blocks
 one_block n i x = append-nil (shape_block n i x)
 
 -- a node has one block if it is a binder, and else none
-length_block : (n i : ℕ) (x : Shape) → length (shape_block n i x) ≡ cond (is_some (shape_sign x)) 1 0
+length_block : (n i : ℕ) (x : Shape) → length (shape_block n i x) ≡ cond (shape_binds x) 1 0
 unfolding shape_block
 length_block n i Shape.False = refl
 length_block n i Shape.True = refl
@@ -47,41 +47,37 @@ length_block n i (Shape.Variable block) = refl
 length_block n i (Shape.Mu block) = refl
 length_block n i (Shape.Nu block) = refl
 
--- there are as many blocks as shapes with a sign
-pub blocks_counted : (n i : ℕ) (xs : List Shape) → length (shape_blocks n i xs) ≡ count_by (λ x. is_some (shape_sign x)) xs
+-- there are as many blocks as binders
+pub blocks_counted : (n i : ℕ) (xs : List Shape) → length (shape_blocks n i xs) ≡ count_by shape_binds xs
 unfolding shape_blocks
 blocks_counted n i [] = refl
 blocks_counted n i (x ∷ xs) =
     length-append (shape_block n i x) (shape_blocks n (i + 1) xs) ∙ ap₂ ◌+◌ (length_block n i x) (blocks_counted n (i + 1) xs)
-    ∙ sym (sum_by-cons (λ x. cond (is_some (shape_sign x)) 1 0) x xs)
+    ∙ sym (sum_by-cons (λ x. cond (shape_binds x) 1 0) x xs)
 
--- its numbers, where it has a sign, or none
-numbers_by : ℕ → ℕ → Option ℕ → List ℕ
-numbers_by n i (Some sign) = sign ∷ (i + 1) * n ∷ []
-numbers_by n i None = []
+-- the numbers of a node's block: of a mu, of a nu, and none of another node
+pub numbers_mu : (n i : ℕ) (x : Shape) {block : ℕ} → x ≡ Shape.Mu block → block_numbers (shape_blocks n i (x ∷ [])) ≡ 0 ∷ (i + 1) * n ∷ []
+unfolding shape_block block_numbers
+numbers_mu n i x e = ap block_numbers (one_block n i x) ∙ rw e
 
-numbers_of_one : (n i : ℕ) (x : Shape) → block_numbers (shape_blocks n i (x ∷ [])) ≡ numbers_by n i (shape_sign x)
-unfolding shape_block block_numbers numbers_by
-numbers_of_one n i x = ap block_numbers (one_block n i x) ∙ go x
+pub numbers_nu : (n i : ℕ) (x : Shape) {block : ℕ} → x ≡ Shape.Nu block → block_numbers (shape_blocks n i (x ∷ [])) ≡ 1 ∷ (i + 1) * n ∷ []
+unfolding shape_block block_numbers
+numbers_nu n i x e = ap block_numbers (one_block n i x) ∙ rw e
+
+pub numbers_other : (n i : ℕ) (x : Shape) → ((k : ℕ) → ¬ (x ≡ Shape.Mu k)) → ((k : ℕ) → ¬ (x ≡ Shape.Nu k)) → block_numbers (shape_blocks n i (x ∷ [])) ≡ []
+unfolding shape_block block_numbers
+numbers_other n i x no_mu no_nu = ap block_numbers (one_block n i x) ∙ go x refl
   where
-    go : (x : Shape) → block_numbers (shape_block n i x) ≡ numbers_by n i (shape_sign x)
-    go Shape.False = refl
-    go Shape.True = refl
-    go (Shape.And second) = refl
-    go (Shape.Or second) = refl
-    go (Shape.Box labels) = refl
-    go (Shape.Diamond labels) = refl
-    go (Shape.Variable block) = refl
-    go (Shape.Mu block) = refl
-    go (Shape.Nu block) = refl
-
-pub numbers_of_binder : (n i : ℕ) (x : Shape) {sign : ℕ} → Some sign ≡ shape_sign x → block_numbers (shape_blocks n i (x ∷ [])) ≡ sign ∷ (i + 1) * n ∷ []
-unfolding numbers_by
-numbers_of_binder n i x e = numbers_of_one n i x ∙ sym (ap (numbers_by n i) e)
-
-pub numbers_of_other : (n i : ℕ) (x : Shape) → None ≡ shape_sign x → block_numbers (shape_blocks n i (x ∷ [])) ≡ []
-unfolding numbers_by
-numbers_of_other n i x e = numbers_of_one n i x ∙ sym (ap (numbers_by n i) e)
+    go : (y : Shape) → x ≡ y → block_numbers (shape_block n i y) ≡ []
+    go Shape.False is = refl
+    go Shape.True is = refl
+    go (Shape.And second) is = refl
+    go (Shape.Or second) is = refl
+    go (Shape.Box labels) is = refl
+    go (Shape.Diamond labels) is = refl
+    go (Shape.Variable block) is = refl
+    go (Shape.Mu block) is = absurd (no_mu block is)
+    go (Shape.Nu block) is = absurd (no_nu block is)
 
 -- the blocks of the first k shapes
 abbrev pub blocks_to : ℕ → List Shape → ℕ → List Block

@@ -31,11 +31,11 @@ use Rattle.cases.specs.File.{transition_in, label_limit}
 use Rattle.translate.specs.Bytes.{all_operands, cell_numbers}
 use Rattle.translate.specs.Cells.{targets, cell_of}
 use Rattle.translate.specs.declared.Shape.{Shape}
+use Rattle.translate.specs.declared.bytes.Writer.{Writer}
 use Rattle.translate.specs.internal.Writing.{shape_of, leaves, shape_operands, shape_kind, shape_cell}
-use Rattle.translate.proofs.NumberBytes.{length_cell_numbers}
 use Rattle.translate.proofs.Counts.{operands_append}
-use Rattle.translate.proofs.Putting.{wrote_none, wrote_no_more, wrote_more}
-use Rattle.translate.specs.internal.Parts.{WroteAt, WroteMore, WroteCells, WroteCellsAt, flagged, distinct_in, leaves_at, leaving, target_cells, target_cell}
+use Rattle.translate.proofs.Putting.{wrote_none, wrote_then}
+use Rattle.translate.specs.internal.Parts.{Wrote, WroteCells, flagged, distinct_in, leaves_at, leaving, target_cells, target_cell}
 
 -- bit x of an action formula's mask says whether label x is accepted
 pub mask_bit : (α : Action) (x : ℕ) → x < label_limit → marked (mask_of α ∷ []) x ≡ accepts α x
@@ -182,15 +182,15 @@ module _ (part first : List ℕ) (s labels : ℕ) where
       go false = refl
 
   -- one record's operand is written, if it leaves s
-  pub wrote_target : (base done j x : ℕ) {b : Bool} {before after : List ℕ} → b ≡ leaves_at part first s labels j → b ≡ true → x ≡ (transition_in part j).target
-      → WroteAt (4 * done) ((base + x) ∷ []) before after → WroteMore done (target_cell part first base s labels j) before after (done + 1)
+  pub wrote_target : (base j x : ℕ) {b : Bool} {before after : Writer} → b ≡ leaves_at part first s labels j → b ≡ true → x ≡ (transition_in part j).target
+      → Wrote ((base + x) ∷ []) before after → Wrote (target_cell part first base s labels j) before after
   unfolding target_cell
-  wrote_target base done j x is h e w = rw (← is, h, ← e) (record { wrote = w; count = refl })
+  wrote_target base j x is h e w = rw (← is, h, ← e) w
 
-  pub wrote_no_target : (base done j : ℕ) {b : Bool} (before : List ℕ) → b ≡ leaves_at part first s labels j → b ≡ false
-      → WroteMore done (target_cell part first base s labels j) before before done
+  pub wrote_no_target : (base j : ℕ) {b : Bool} (before : Writer) → b ≡ leaves_at part first s labels j → b ≡ false
+      → Wrote (target_cell part first base s labels j) before before
   unfolding target_cell
-  wrote_no_target base done j before is h = rw (← is, h) (wrote_no_more done before)
+  wrote_no_target base j before is h = rw (← is, h) (wrote_none before)
 
   pub target_room : (base j : ℕ) {b : Bool} → b ≡ leaves_at part first s labels j → b ≡ true → length (target_cell part first base s labels j) ≡ 1
   unfolding target_cell
@@ -259,14 +259,16 @@ numbers_append used (c ∷ cs) ds =
     ∙ ap (λ (u : ℕ). cell_numbers used (c ∷ cs) ++ cell_numbers u ds) k
 
 -- Cells that are written behind cells follow them.
-pub wrote_cells_on : {used next r at : ℕ} {cs ds : List Cell} {s t u : List ℕ} → at ≡ 12 * length cs → WroteCells used cs s t next
-    → WroteCellsAt at next ds t u r → WroteCells used (cs ++ ds) s u r
-wrote_cells_on {used} {next} {r} {at} {cs} {ds} {s} {t} {u} e p q =
-    let k : at ≡ 4 * length (cell_numbers used cs) = omega (arith, length_cell_numbers used cs) in
-    record {
-      wrote = rw (numbers_append used cs ds, ← p.count) (wrote_more k p.wrote q.wrote);
-      count = rw (operands_append cs ds, length-append (all_operands cs) (all_operands ds)) (omega (arith, p.count, q.count));
-    }
+pub wrote_cells_then : {used next r : ℕ} {cs ds : List Cell} {a b c : Writer} → WroteCells used cs a b next → WroteCells next ds b c r → WroteCells used (cs ++ ds) a c r
+wrote_cells_then {used} {next} {r} {cs} {ds} p q = record {
+  wrote = rw (numbers_append used cs ds, ← p.count) (wrote_then p.wrote q.wrote);
+  count = rw (operands_append cs ds, length-append (all_operands cs) (all_operands ds)) (omega (arith, p.count, q.count));
+}
+
+-- no cell is written
+pub wrote_no_cell : (used : ℕ) (w : Writer) → WroteCells used [] w w used
+unfolding cell_numbers all_operands
+wrote_no_cell used w = record { wrote = wrote_none w; count = sym (add-zero used) }
 
 -- The cell of a shape at node i in state s.
 module _ (n : ℕ) (ts : List Transition) (x : Shape) (i s : ℕ) where
@@ -277,26 +279,26 @@ module _ (n : ℕ) (ts : List Transition) (x : Shape) (i s : ℕ) where
   variable_cell (inr (inl e)) = rw e
   variable_cell (inr (inr e)) = rw e
 
-  pub wrote_variable : {used at block : ℕ} {before after : List ℕ} → (x ≡ Shape.Variable block) ⊎ ((x ≡ Shape.Mu block) ⊎ (x ≡ Shape.Nu block))
-      → WroteAt at (2 ∷ block ∷ s ∷ []) before after → WroteCellsAt at used (shape_cell n ts x i s ∷ []) before after used
+  pub wrote_variable : {used block : ℕ} {before after : Writer} → (x ≡ Shape.Variable block) ⊎ ((x ≡ Shape.Mu block) ⊎ (x ≡ Shape.Nu block))
+      → Wrote (2 ∷ block ∷ s ∷ []) before after → WroteCells used (shape_cell n ts x i s ∷ []) before after used
   unfolding cell_numbers all_operands operands_of
   wrote_variable is w = rw (variable_cell is) (record { wrote = w; count = sym (add-zero _) })
 
   -- a list's cell is written
-  pub wrote_list : {used at count : ℕ} {before after : List ℕ} → ((k : ℕ) → ¬ (x ≡ Shape.Variable k)) → ((k : ℕ) → ¬ (x ≡ Shape.Mu k)) → ((k : ℕ) → ¬ (x ≡ Shape.Nu k))
+  pub wrote_list : {used count : ℕ} {before after : Writer} → ((k : ℕ) → ¬ (x ≡ Shape.Variable k)) → ((k : ℕ) → ¬ (x ≡ Shape.Mu k)) → ((k : ℕ) → ¬ (x ≡ Shape.Nu k))
       → count ≡ length (shape_operands n ts x i s)
-      → WroteAt at (shape_kind x ∷ used ∷ count ∷ []) before after → WroteCellsAt at used (shape_cell n ts x i s ∷ []) before after (used + count)
+      → Wrote (shape_kind x ∷ used ∷ count ∷ []) before after → WroteCells used (shape_cell n ts x i s ∷ []) before after (used + count)
   unfolding shape_cell cell_numbers all_operands operands_of
-  wrote_list {used} {at} {count} {before} {after} no_variable no_mu no_nu = go x refl
+  wrote_list {used} {count} {before} {after} no_variable no_mu no_nu = go x refl
     where
-      by_and : (os : List ℕ) → count ≡ length os → WroteAt at (0 ∷ used ∷ count ∷ []) before after → WroteCellsAt at used (Cell.And os ∷ []) before after (used + count)
+      by_and : (os : List ℕ) → count ≡ length os → Wrote (0 ∷ used ∷ count ∷ []) before after → WroteCells used (Cell.And os ∷ []) before after (used + count)
       by_and os e w = record { wrote = rw e at w; count = ap (λ (c : ℕ). used + c) (e ∙ ap length (sym (append-nil os))) }
 
-      by_or : (os : List ℕ) → count ≡ length os → WroteAt at (1 ∷ used ∷ count ∷ []) before after → WroteCellsAt at used (Cell.Or os ∷ []) before after (used + count)
+      by_or : (os : List ℕ) → count ≡ length os → Wrote (1 ∷ used ∷ count ∷ []) before after → WroteCells used (Cell.Or os ∷ []) before after (used + count)
       by_or os e w = record { wrote = rw e at w; count = ap (λ (c : ℕ). used + c) (e ∙ ap length (sym (append-nil os))) }
 
       go : (y : Shape) → x ≡ y → count ≡ length (shape_operands n ts y i s)
-          → WroteAt at (shape_kind y ∷ used ∷ count ∷ []) before after → WroteCellsAt at used (shape_cell n ts y i s ∷ []) before after (used + count)
+          → Wrote (shape_kind y ∷ used ∷ count ∷ []) before after → WroteCells used (shape_cell n ts y i s ∷ []) before after (used + count)
       go Shape.False is e w = by_or _ e w
       go Shape.True is e w = by_and _ e w
       go (Shape.And second) is e w = by_and _ e w
@@ -355,16 +357,14 @@ module _ (n : ℕ) (ts : List Transition) (x : Shape) (i : ℕ) where
       ∙ ap (λ (l : List ℕ). all_operands (row s) ++ l) (operands_one (shape_cell n ts x i s))
 
   -- no cell is written
-  pub wrote_no_cells : (used : ℕ) (before : List ℕ) → WroteCells used (row 0) before before used
-  unfolding numbers_from cell_numbers all_operands
-  wrote_no_cells used before = record { wrote = wrote_none before; count = sym (add-zero used) }
+  pub wrote_no_cells : (used : ℕ) (w : Writer) → WroteCells used (row 0) w w used
+  unfolding numbers_from
+  wrote_no_cells used w = wrote_no_cell used w
 
   -- one state's cell more is written
-  pub wrote_cell : (s : ℕ) {at used next r : ℕ} {before mid after : List ℕ} → at ≡ 12 * s → WroteCells used (row s) before mid next
-      → WroteCellsAt at next (shape_cell n ts x i s ∷ []) mid after r → WroteCells used (row (s + 1)) before after r
-  wrote_cell s e p q =
-      rw (map_range_more (shape_cell n ts x i) s)
-      (wrote_cells_on (e ∙ ap (λ (k : ℕ). 12 * k) (sym (length_table (shape_cell n ts x i) s))) p q)
+  pub wrote_cell : (s : ℕ) {used next r : ℕ} {before mid after : Writer} → WroteCells used (row s) before mid next
+      → WroteCells next (shape_cell n ts x i s ∷ []) mid after r → WroteCells used (row (s + 1)) before after r
+  wrote_cell s p q = rw (map_range_more (shape_cell n ts x i) s) (wrote_cells_then p q)
 
   pub row_none : all_operands (row 0) ≡ []
   unfolding numbers_from all_operands

@@ -15,14 +15,14 @@ ghost use Rattle.std.specs.Prelude.{◌≡◌, ◌*◌, length};
 ghost use Rattle.cases.specs.internal.Checks.{transition_part};
 ghost use Rattle.cases.specs.internal.Links.{FirstFlags};
 ghost use Rattle.translate.specs.Bytes.{numbers};
-ghost use Rattle.translate.specs.internal.Parts.{Wrote};
+ghost use Rattle.translate.specs.internal.Parts.{Starts};
 ghost use Rattle.translate.specs.internal.Flags.{distinct_of};
 ghost use Rattle.translate.specs.internal.Sources.{RoomFor, shape_system, Emitted};
 ghost use Rattle.translate.specs.declared.Cause.TheVariants.{Open};
 ghost use Rattle.translate.specs.Translating.{translate_number, written_number, written_length, Translated};
 
 use blocks::{block_count, write_blocks};
-use bytes::put_header;
+use bytes::Writer;
 use cases::{Flagged, OpenCase, TRANSITIONS, first_appearances};
 use formula::FormulaTable;
 use solver::HEADER;
@@ -80,16 +80,26 @@ impl Equations<'_, '_> {
     fn fill(&self, out: &mut [u8], d: usize, p: usize)
         requires { RoomFor (shape_system self.now.states self.now.initial (distinct_of self.now.records) self.now.shapes.now)
             (length self.now.shapes.now * self.now.states) d p (length out.old) }
-        ensures { Wrote (numbers (shape_system self.now.states self.now.initial (distinct_of self.now.records) self.now.shapes.now)) out.old out.new }
+        ensures { Starts (numbers (shape_system self.now.states self.now.initial (distinct_of self.now.records) self.now.shapes.now)) out.old out.new }
     {
         let c = self.shapes.len() * self.states;
-        put_header(out, self.states, d, c, p, self.initial);
-        let blocks = HEADER;
-        write_blocks(&mut out[blocks..], self.states, self.shapes);
-        let cells = blocks + 8 * d;
-        self.write_all_cells(&mut out[cells..]);
+        let cells = HEADER + 8 * d;
         let operands = cells + 12 * c;
-        self.write_all_operands(&mut out[operands..]);
+        let mut w = Writer { out, done: 0 };
+        w.put([
+            1,
+            self.states,
+            d,
+            c,
+            p,
+            self.initial,
+            HEADER,
+            cells,
+            operands,
+        ]);
+        write_blocks(&mut w, self.states, self.shapes);
+        self.write_all_cells(&mut w);
+        self.write_all_operands(&mut w);
     }
 
     // The equations, if there is room.

@@ -5,11 +5,11 @@ ghost use Rattle.sets.specs.Words.{state_limit};
 ghost use Rattle.cases.specs.File.{transition_limit, node_limit};
 ghost use Rattle.translate.specs.Bytes.{all_operands};
 ghost use Rattle.translate.specs.internal.Writing.{shape_kind, shape_operands, shape_cell, second_of};
-ghost use Rattle.translate.specs.internal.Parts.{WroteMore, WroteCellsAt, WroteCells};
+ghost use Rattle.translate.specs.internal.Parts.{HasRoom, Wrote, WroteCells};
 ghost use Rattle.translate.specs.internal.Flags.{distinct_of};
 
 use crate::Shape;
-use crate::bytes::{put_three_at, put_two_behind};
+use crate::bytes::Writer;
 use crate::sources::Equations;
 use crate::steps::Steps;
 
@@ -43,34 +43,33 @@ impl Equations<'_, '_> {
         }
     }
 
-    // The cell of a node of a shape in state s, from the byte `at` on, where `used` operands come before its own. Answers how many come before
-    // those of the next cell.
-    fn write_cell(&self, out: &mut [u8], at: usize, x: Shape, s: usize, used: usize) -> usize
-        requires { (at + 12 ≤ length out.old) × (used < 2 ^ 33) }
-        ensures { ((n i : ℕ) → WroteCellsAt at used (shape_cell n (distinct_of self.now.records) x i s ∷ []) out.old out.new result)
+    // The cell of a node of a shape in state s, where `used` operands come before its own. Answers how many come before those of the next cell.
+    fn write_cell(&self, w: &mut Writer<'_>, x: Shape, s: usize, used: usize) -> usize
+        requires { HasRoom w.old 3 × (used < 2 ^ 33) }
+        ensures { ((n i : ℕ) → WroteCells used (shape_cell n (distinct_of self.now.records) x i s ∷ []) w.old w.new result)
             × (result ≤ used + transition_limit + 2) }
     {
         match x {
             Shape::Variable { block } | Shape::Mu { block } | Shape::Nu { block } => {
-                put_three_at(out, at, 2, block, s);
+                w.put([2, block, s]);
                 used
             }
             _ => {
                 let count = self.operand_count(x, s);
-                put_three_at(out, at, cell_kind(x), used, count);
+                w.put([cell_kind(x), used, count]);
                 used + count
             }
         }
     }
 
     // The cells of a node of a shape, one for each state. Answers how many operands come before those of the next node.
-    pub fn write_cells(&self, out: &mut [u8], x: Shape, used: usize) -> usize
-        requires { (12 * self.now.states ≤ length out.old) × (used < 2 ^ 32) }
-        ensures { (i : ℕ) → WroteCells used (map (shape_cell self.now.states (distinct_of self.now.records) x i) (numbers_from 0 self.now.states)) out.old out.new result }
+    pub fn write_cells(&self, w: &mut Writer<'_>, x: Shape, used: usize) -> usize
+        requires { HasRoom w.old (3 * self.now.states) × (used < 2 ^ 32) }
+        ensures { (i : ℕ) → WroteCells used (map (shape_cell self.now.states (distinct_of self.now.records) x i) (numbers_from 0 self.now.states)) w.old w.new result }
     {
         let mut next = used;
         for s in 0..self.states {
-            next = self.write_cell(out, 12 * s, x, s, next);
+            next = self.write_cell(w, x, s, next);
         }
         next
     }
@@ -83,16 +82,16 @@ impl Equations<'_, '_> {
         node * self.states
     }
 
-    // The operands of node i, of a shape, in state s, behind `done` numbers.
-    fn write_state(&self, out: &mut [u8], done: usize, x: Shape, i: usize, s: usize) -> usize
+    // The operands of node i, of a shape, in state s.
+    fn write_state(&self, w: &mut Writer<'_>, x: Shape, i: usize, s: usize)
         requires { (i ≤ node_limit + 1) × (second_of x ≤ node_limit) × (s < self.now.states)
-            × (4 * (done + length (shape_operands self.now.states (distinct_of self.now.records) x i s)) ≤ length out.old) }
-        ensures { WroteMore done (shape_operands self.now.states (distinct_of self.now.records) x i s) out.old out.new result }
+            × HasRoom w.old (length (shape_operands self.now.states (distinct_of self.now.records) x i s)) }
+        ensures { Wrote (shape_operands self.now.states (distinct_of self.now.records) x i s) w.old w.new }
     {
         let low = self.row(i + 1);
         match x {
             Shape::And { second } | Shape::Or { second } => {
-                put_two_behind(out, done, low + s, self.row(second) + s)
+                w.put([low + s, self.row(second) + s]);
             }
             Shape::Box { labels } | Shape::Diamond { labels } => {
                 let steps = Steps {
@@ -100,22 +99,20 @@ impl Equations<'_, '_> {
                     state: s,
                     labels,
                 };
-                steps.write_targets(out, done, low)
+                steps.write_targets(w, low);
             }
-            _ => done,
+            _ => {}
         }
     }
 
-    // The operands of node i, of a shape, in each state, behind `done` numbers. Answers how many numbers are then written.
-    pub fn write_operands(&self, out: &mut [u8], done: usize, x: Shape, i: usize) -> usize
+    // The operands of node i, of a shape, in each state.
+    pub fn write_operands(&self, w: &mut Writer<'_>, x: Shape, i: usize)
         requires { (i ≤ node_limit + 1) × (second_of x ≤ node_limit)
-            × (4 * (done + length (all_operands (map (shape_cell self.now.states (distinct_of self.now.records) x i) (numbers_from 0 self.now.states)))) ≤ length out.old) }
-        ensures { WroteMore done (all_operands (map (shape_cell self.now.states (distinct_of self.now.records) x i) (numbers_from 0 self.now.states))) out.old out.new result }
+            × HasRoom w.old (length (all_operands (map (shape_cell self.now.states (distinct_of self.now.records) x i) (numbers_from 0 self.now.states)))) }
+        ensures { Wrote (all_operands (map (shape_cell self.now.states (distinct_of self.now.records) x i) (numbers_from 0 self.now.states))) w.old w.new }
     {
-        let mut next = done;
         for s in 0..self.states {
-            next = self.write_state(out, next, x, i, s);
+            self.write_state(w, x, i, s);
         }
-        next
     }
 }

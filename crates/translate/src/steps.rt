@@ -2,10 +2,10 @@
 ghost use Rattle.std.specs.Prelude.{◌≡◌, [], ◌∷◌, ℕ, ◌+◌, ◌*◌, ◌^◌, ◌<◌, ◌≤◌, length};
 ghost use Rattle.sets.specs.Words.{marked};
 ghost use Rattle.cases.specs.File.{transition_in};
-ghost use Rattle.translate.specs.internal.Parts.{WroteMore, target_cells};
+ghost use Rattle.translate.specs.internal.Parts.{HasRoom, Wrote, target_cells};
 ghost use Rattle.translate.specs.internal.Flags.{follows, followed, target_of};
 
-use crate::bytes::put_at;
+use crate::bytes::Writer;
 use cases::{Flagged, number_at};
 
 // The records that leave a state with their labels in a mask.
@@ -59,27 +59,23 @@ impl Steps<'_> {
         number_at(self.records.table.part, 6 * j + 4)
     }
 
-    // The operand of record j, if it is one of them, behind `done` numbers: the cell of its target, in the row of cells that starts at `base`.
-    fn write_target(&self, out: &mut [u8], done: usize, j: usize, base: usize) -> usize
-        requires { (j < self.now.records.table.count) × (base < 2 ^ 32) × (4 * (done + length (target_of self.now base j)) ≤ length out.old) }
-        ensures { WroteMore done (target_of self.now base j) out.old out.new result }
+    // The operand of record j, if it is one of them: the cell of its target, in the row of cells that starts at `base`.
+    fn write_target(&self, w: &mut Writer<'_>, j: usize, base: usize)
+        requires { (j < self.now.records.table.count) × (base < 2 ^ 32) × HasRoom w.old (length (target_of self.now base j)) }
+        ensures { Wrote (target_of self.now base j) w.old w.new }
     {
         if self.has(j) {
-            put_at(out, 4 * done, base + self.target(j));
-            return done + 1;
+            w.put([base + self.target(j)]);
         }
-        done
     }
 
-    // Their operands, behind `done` numbers. Answers how many numbers are then written.
-    pub fn write_targets(&self, out: &mut [u8], done: usize, base: usize) -> usize
-        requires { (base < 2 ^ 32) × (4 * (done + length (followed self.now)) ≤ length out.old) }
-        ensures { WroteMore done (target_cells base (followed self.now)) out.old out.new result }
+    // Their operands.
+    pub fn write_targets(&self, w: &mut Writer<'_>, base: usize)
+        requires { (base < 2 ^ 32) × HasRoom w.old (length (followed self.now)) }
+        ensures { Wrote (target_cells base (followed self.now)) w.old w.new }
     {
-        let mut next = done;
         for j in 0..self.records.table.count {
-            next = self.write_target(out, next, j, base);
+            self.write_target(w, j, base);
         }
-        next
     }
 }

@@ -4,36 +4,30 @@ use Rattle.sets.specs.Lists.{numbers_from, keep}
 use Rattle.solver.specs.Cells.{Cell}
 use Rattle.cases.specs.File.{transition_in}
 use Rattle.cases.specs.declared.Transition.{Transition}
+use Rattle.translate.specs.declared.bytes.Writer.{Writer}
 use Rattle.translate.specs.Bytes.{bytes, all_operands, cell_numbers}
 use Rattle.translate.specs.internal.Writing.{leaves}
 
--- the numbers xs were written from the byte `at` on, and no other byte changed
-pub record WroteAt (at : ℕ) (xs before after : List ℕ) : Type 0 where
-  pub exact : after ≡ take at before ++ (bytes xs ++ drop (4 * length xs) (drop at before))
+-- a writer has room for k numbers more
+abbrev pub HasRoom : Writer → ℕ → Type 0
+HasRoom w k = 4 * (w.done + k) ≤ length w.out.now
 
--- the same from the first byte on
-pub record Wrote (xs before after : List ℕ) : Type 0 where
-  pub exact : after ≡ bytes xs ++ drop (4 * length xs) before
+-- the numbers xs were written behind those that stood there, and no other byte changed
+pub record Wrote (xs : List ℕ) (before after : Writer) : Type 0 where
+  pub same_buffer : after.out.ghost_name ≡ before.out.ghost_name
+  pub long : length after.out.now ≡ length before.out.now
+  pub done : after.done ≡ before.done + length xs
+  pub written : take (4 * after.done) after.out.now ≡ take (4 * before.done) before.out.now ++ bytes xs
+  pub behind : drop (4 * after.done) after.out.now ≡ drop (4 * after.done) before.out.now
 
--- the numbers xs were written behind `done` numbers, and now there are r
-pub record WroteMore (done : ℕ) (xs before after : List ℕ) (r : ℕ) : Type 0 where
-  pub wrote : WroteAt (4 * done) xs before after
-  pub count : r ≡ done + length xs
-
--- the numbers xs were written, and there are r
-pub record WroteAll (xs before after : List ℕ) (r : ℕ) : Type 0 where
-  pub wrote : Wrote xs before after
-  pub count : r ≡ length xs
-
--- the cells cs were written from the byte `at` on, where their operands follow `used` others, and r are used then
-pub record WroteCellsAt (at used : ℕ) (cs : List Cell) (before after : List ℕ) (r : ℕ) : Type 0 where
-  pub wrote : WroteAt at (cell_numbers used cs) before after
-  pub count : r ≡ used + length (all_operands cs)
-
--- the same from the first byte on
-pub record WroteCells (used : ℕ) (cs : List Cell) (before after : List ℕ) (r : ℕ) : Type 0 where
+-- the cells cs were written, where their operands follow `used` others, and r are used then
+pub record WroteCells (used : ℕ) (cs : List Cell) (before after : Writer) (r : ℕ) : Type 0 where
   pub wrote : Wrote (cell_numbers used cs) before after
   pub count : r ≡ used + length (all_operands cs)
+
+-- a buffer starts with the numbers xs, and no byte behind them changed
+abbrev pub Starts : List ℕ → List ℕ → List ℕ → Type 0
+Starts xs before after = after ≡ bytes xs ++ drop (4 * length xs) before
 
 -- whether record j is flagged as the first of its kind
 abbrev pub flagged : List ℕ → ℕ → Bool

@@ -1,5 +1,5 @@
 -- The shapes of all nodes: of a formula, as a formula table gives them, and what is written of them.
-use Rattle.std.specs.Prelude.{true, false, cond, List, [], ◌∷◌, ◌++◌, map, ℕ, ◌+◌, ◌*◌, length, get_or, take, Option, Some, None}
+use Rattle.std.specs.Prelude.{Bool, true, false, cond, List, [], ◌∷◌, ◌++◌, map, ℕ, ◌+◌, ◌*◌, length, get_or, take}
 use Rattle.sets.specs.Lists.{numbers_from}
 use Rattle.solver.specs.Cells.{Cell}
 use Rattle.solver.specs.File.{Block}
@@ -33,11 +33,11 @@ unfoldable pub shape_cells : ℕ → List Transition → ℕ → List Shape → 
 shape_cells n ts i [] = []
 shape_cells n ts i (x ∷ xs) = map (shape_cell n ts x i) (numbers_from 0 n) ++ shape_cells n ts (i + 1) xs
 
--- the sign of a binder, as a file has it: 1 for nu, 0 for mu
-abbrev pub shape_sign : Shape → Option ℕ
-shape_sign (Shape.Mu block) = Some 0
-shape_sign (Shape.Nu block) = Some 1
-shape_sign _ = None
+-- whether a node of this shape is a binder
+abbrev pub shape_binds : Shape → Bool
+shape_binds (Shape.Mu block) = true
+shape_binds (Shape.Nu block) = true
+shape_binds _ = false
 
 -- the block of a node of this shape, at node i, if it is a binder
 unfoldable pub shape_block : ℕ → ℕ → Shape → List Block

@@ -1,21 +1,34 @@
+use mathlib.Core.Path.{◌≡◌, refl, ap, ◌∙◌}
+use mathlib.Core.List.{[]}
 use native.Mathlib.Omega.{arith}
-use mathlib.Core.Path.{ap}
 use lib.ListN.{length}
-use Rattle.translate.proofs.Putting.{wrote_no_more}
-use Rattle.translate.proofs.BlockParts.{numbers_of_binder, numbers_of_other}
+use Rattle.translate.specs.Bytes.{block_numbers}
+use Rattle.translate.specs.internal.Shapes.{shape_block}
+use Rattle.translate.proofs.Putting.{wrote_none}
+use Rattle.translate.proofs.BlockParts.{numbers_mu, numbers_nu, numbers_other}
 use Rattle.translate.proofs.blocks.write_block.Goals as goal
 
-pub put_two_behind-requires : goal.put_two_behind-requires
-put_two_behind-requires c =
+pub put-requires : goal.put-requires
+put-requires c =
     let p = c.args in
-    omega (arith, ap length (numbers_of_binder p.n p.i p.x c.in-Some.ensures))
+    omega (arith, ap length (numbers_mu p.n p.i p.x c.in-Mu.is))
 
-pub returns-in-Some : goal.returns-in-Some
-returns-in-Some c =
+pub put-requires-in-Nu : goal.put-requires-in-Nu
+put-requires-in-Nu c =
     let p = c.args in
-    rw (numbers_of_binder p.n p.i p.x c.in-Some.ensures) c.put_two_behind.ensures
+    omega (arith, ap length (numbers_nu p.n p.i p.x c.in-Nu.is))
 
-pub returns-in-None : goal.returns-in-None
-returns-in-None c =
+pub returns-in-Mu : goal.returns-in-Mu
+returns-in-Mu c =
     let p = c.args in
-    rw (numbers_of_other p.n p.i p.x c.in-None.ensures) (wrote_no_more p.done p.out.now)
+    rw (numbers_mu p.n p.i p.x c.in-Mu.is) c.put.ensures
+
+pub returns-in-Nu : goal.returns-in-Nu
+returns-in-Nu c =
+    let p = c.args in
+    rw (numbers_nu p.n p.i p.x c.in-Nu.is) c.put-in-Nu.ensures
+
+pub returns-in_default : goal.returns-in_default
+returns-in_default c =
+    let p = c.args in
+    rw (numbers_other p.n p.i p.x c.in_default.not-Mu c.in_default.not-Nu) (wrote_none p.w.now)

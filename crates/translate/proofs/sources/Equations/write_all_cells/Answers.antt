@@ -1,31 +1,31 @@
-use mathlib.Core.Path.{refl}
 use native.Mathlib.Omega.{arith}
 use lib.ListN.{length}
 use Rattle.translate.specs.internal.Flags.{distinct_of}
 use Rattle.translate.proofs.NodeParts.{operands_fit, cells_all}
-use Rattle.translate.proofs.RowLaws.{rows_fit, wrote_no_rows, wrote_row}
+use Rattle.translate.proofs.RowLaws.{wrote_no_rows, wrote_row, rows_fit, numbers_to}
 use Rattle.translate.proofs.sources.Equations.write_all_cells.Goals as goal
 
-pub loop-i-init : goal.loop-i-init
-loop-i-init c =
+pub loop-x-init : goal.loop-x-init
+loop-x-init c =
     let e = c.args.self.now in
-    (wrote_no_rows e.states (distinct_of e.records) e.shapes.now c.args.out.now, refl)
+    wrote_no_rows e.states (distinct_of e.records) e.shapes.now c.args.w.now
 
-pub write_cells_behind-used-requires : goal.write_cells_behind-used-requires
-write_cells_behind-used-requires c =
+pub write_cells-used-requires : goal.write_cells-used-requires
+write_cells-used-requires c =
     let e = c.args.self.now in
-    let l = c.loop-i in (
-      omega (arith, rows_fit l.i (length e.shapes.now) e.states (omega arith)),
-      omega (arith, l.invariant.0.count, operands_fit e.states (distinct_of e.records) e.shapes.now l.i (omega arith), e.few_operands),
+    let l = c.loop-x in
+    let i = l.x-index in (
+      omega (arith, l.invariant.wrote.done, l.invariant.wrote.long, numbers_to e.states (distinct_of e.records) e.shapes.now i (omega arith), rows_fit i (length e.shapes.now) e.states (omega arith)),
+      omega (arith, l.invariant.count, operands_fit e.states (distinct_of e.records) e.shapes.now i (omega arith), e.few_operands),
     )
 
-pub loop-i-preserved : goal.loop-i-preserved
-loop-i-preserved c =
+pub loop-x-preserved : goal.loop-x-preserved
+loop-x-preserved c =
     let e = c.args.self.now in
-    let l = c.loop-i in
-    (wrote_row e.states (distinct_of e.records) e.shapes.now l.i (omega arith) l.invariant.0 c.write_cells_behind-used.ensures, omega arith)
+    let l = c.loop-x in
+    wrote_row e.states (distinct_of e.records) e.shapes.now l.x-index (omega arith) l.invariant (c.write_cells-used.ensures l.x-index)
 
 pub returns : goal.returns
 returns c =
     let e = c.args.self.now in
-    rw (cells_all e.states (distinct_of e.records) e.shapes.now c.loop-i.i (omega arith)) at c.loop-i.invariant.0
+    rw (cells_all e.states (distinct_of e.records) e.shapes.now c.loop-x.x-index (omega arith)) at c.loop-x.invariant

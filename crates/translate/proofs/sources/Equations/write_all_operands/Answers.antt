@@ -1,7 +1,6 @@
-use mathlib.Core.Path.{refl}
 use native.Mathlib.Omega.{arith}
 use Rattle.translate.specs.internal.Flags.{distinct_of}
-use Rattle.translate.proofs.Putting.{wrote_on}
+use Rattle.translate.proofs.Putting.{wrote_then}
 use Rattle.translate.proofs.NodeParts.{operands_more, operands_fit, cells_all}
 use Rattle.translate.proofs.RowLaws.{wrote_no_operands}
 use Rattle.translate.proofs.sources.Equations.write_all_operands.Goals as goal
@@ -9,24 +8,24 @@ use Rattle.translate.proofs.sources.Equations.write_all_operands.Goals as goal
 pub loop-i-init : goal.loop-i-init
 loop-i-init c =
     let e = c.args.self.now in
-    (wrote_no_operands e.states (distinct_of e.records) e.shapes.now c.args.out.now, refl)
+    wrote_no_operands e.states (distinct_of e.records) e.shapes.now c.args.w.now
 
-pub write_operands-done-requires : goal.write_operands-done-requires
-write_operands-done-requires c =
+pub write_operands-requires : goal.write_operands-requires
+write_operands-requires c =
     let e = c.args.self.now in
     let l = c.loop-i in (
       omega (arith, e.few_nodes),
       e.second l.i (omega arith),
-      omega (arith, l.invariant.0.count, operands_fit e.states (distinct_of e.records) e.shapes.now l.i (omega arith)),
+      omega (arith, l.invariant.done, l.invariant.long, operands_fit e.states (distinct_of e.records) e.shapes.now l.i (omega arith)),
     )
 
 pub loop-i-preserved : goal.loop-i-preserved
 loop-i-preserved c =
     let e = c.args.self.now in
     let l = c.loop-i in
-    (rw (operands_more e.states (distinct_of e.records) e.shapes.now l.i (omega arith)) (wrote_on l.invariant.0 c.write_operands-done.ensures), omega arith)
+    rw (operands_more e.states (distinct_of e.records) e.shapes.now l.i (omega arith)) (wrote_then l.invariant c.write_operands.ensures)
 
 pub returns : goal.returns
 returns c =
     let e = c.args.self.now in
-    rw (cells_all e.states (distinct_of e.records) e.shapes.now c.loop-i.i (omega arith)) at c.loop-i.invariant.0
+    rw (cells_all e.states (distinct_of e.records) e.shapes.now c.loop-i.i (omega arith)) at c.loop-i.invariant

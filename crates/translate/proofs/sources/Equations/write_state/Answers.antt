@@ -3,19 +3,19 @@ use native.Mathlib.Omega.{arith}
 use lib.ListN.{length}
 use Rattle.translate.specs.internal.Parts.{leaving}
 use Rattle.translate.specs.internal.Flags.{distinct_of}
-use Rattle.translate.proofs.Putting.{wrote_no_more}
+use Rattle.translate.proofs.Putting.{wrote_none}
 use Rattle.translate.proofs.ShapeLaws.{operands_pair, operands_modal, modal_count, operands_none}
 use Rattle.translate.proofs.sources.Equations.write_state.Goals as goal
 
-pub put_two_behind-requires : goal.put_two_behind-requires
-put_two_behind-requires c =
+pub put-requires : goal.put-requires
+put-requires c =
     let p = c.args in
     omega (arith, ap length (operands_pair p.self.now.states (distinct_of p.self.now.records) p.x p.i p.s c.in-And.is))
 
 pub returns-in-And : goal.returns-in-And
 returns-in-And c =
     let p = c.args in
-    rw (operands_pair p.self.now.states (distinct_of p.self.now.records) p.x p.i p.s c.in-And.is, ← c.row-low.ensures.0, ← c.row.ensures.0) c.put_two_behind.ensures
+    rw (operands_pair p.self.now.states (distinct_of p.self.now.records) p.x p.i p.s c.in-And.is, ← c.row-low.ensures.0, ← c.row.ensures.0) c.put.ensures
 
 pub write_targets-requires : goal.write_targets-requires
 unfolding leaving
@@ -33,4 +33,4 @@ pub returns-in_default : goal.returns-in_default
 returns-in_default c =
     let p = c.args in
     let d = c.in_default in
-    rw (operands_none p.self.now.states (distinct_of p.self.now.records) p.x p.i p.s d.not-And d.not-Or d.not-Box d.not-Diamond) (wrote_no_more p.done p.out.now)
+    rw (operands_none p.self.now.states (distinct_of p.self.now.records) p.x p.i p.s d.not-And d.not-Or d.not-Box d.not-Diamond) (wrote_none p.w.now)

@@ -68,7 +68,7 @@ module _ (b : List ℕ) (accepted : Accepted b) {h : Header} (e : h ≡ header_o
   table_readable p f a = rw (p, f, ← a, e) (of_case.readable b accepted)
 
   -- and once flags and shapes are worked out
-  module _ {formula transitions first : List ℕ} {shapes : List Shape} {added f m : ℕ} (p : formula ≡ formula_part b) (k : f ≡ h.nodes)
+  module _ {formula transitions : List ℕ} {first : List Bool} {shapes : List Shape} {added f m : ℕ} (p : formula ≡ formula_part b) (k : f ≡ h.nodes)
       (t : transitions ≡ transition_part b) (l : m ≡ h.transitions)
       (flags : FirstFlags (transition_part b) h.transitions first) (nodes : HoldsShapes (case_action b) formula f shapes)
       (before : added ≡ cond (is_binder (node_at (nodes_in formula f) 0)) 0 1) where

@@ -193,7 +193,7 @@ module _ (b : List ℕ) (accepted : Accepted b) where
       )
 
   -- flags and shapes that were read from the tables
-  module _ (first : List ℕ) (shapes : List Shape) (k : ℕ) (flags : FirstFlags (transition_part b) (header_of b).transitions first)
+  module _ (first : List Bool) (shapes : List Shape) (k : ℕ) (flags : FirstFlags (transition_part b) (header_of b).transitions first)
       (holds_shapes : HoldsShapes action (formula_part b) (header_of b).nodes shapes)
       (count : k ≡ cond (is_binder (node_at (nodes_in (formula_part b) (header_of b).nodes) 0)) 0 1 + (header_of b).nodes) where
     -- the flagged transitions are the distinct ones

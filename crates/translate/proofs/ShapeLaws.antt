@@ -73,14 +73,6 @@ module _ (n : ℕ) (ts : List Transition) (low : T (every (λ t. ltb t.label lab
 
 -- ---- a mask of labels, bit by bit
 
--- a label that has a bit
-pub mark_low : (labels x : ℕ) → x < 64 → marked (labels ∷ []) x ≡ eqb (labels / 2 ^ x % 2) 1
-unfolding marked
-mark_low labels x h =
-    let q : x / 64 ≡ 0 = omega arith in
-    let r : x % 64 ≡ x = omega arith in
-    rw (q, r)
-
 -- a label past the bits
 pub mark_high : (labels x : ℕ) → 64 ≤ x → marked (labels ∷ []) x ≡ false
 unfolding marked
@@ -147,20 +139,21 @@ unfolding target_cells
 length_targets base ts = length-map ts (λ t. base + t.target)
 
 -- The first records of a transition part, with their flags, and those that leave s.
-module _ (part first : List ℕ) (s labels : ℕ) where
+module _ (part : List ℕ) (first : List Bool) (s labels : ℕ) where
   -- record j, if it leaves s
   abbrev here : ℕ → List Transition
   here j = cond (leaves_at part first s labels j) (transition_in part j ∷ []) []
 
-  -- a record that is not the first of its kind
-  pub not_first : (j : ℕ) → ¬ (get_or first j 0 ≡ 1) → false ≡ leaves_at part first s labels j
+  -- what both tests say of it
+  pub leaves_tested : (j : ℕ) {t : Transition} {p q : Bool} → t ≡ transition_in part j → p ≡ leaves s labels t → q ≡ flagged first j → (p && q) ≡ leaves_at part first s labels j
   unfolding leaves_at
-  not_first j h = rw (ne_eqb (get_or first j 0) 1 h)
-
-  -- one that is the first
-  pub is_first_lem : (j : ℕ) {t : Transition} → get_or first j 0 ≡ 1 → t ≡ transition_in part j → leaves s labels t ≡ leaves_at part first s labels j
-  unfolding leaves_at
-  is_first_lem j {t} h e = rw (eq-eqb (get_or first j 0) 1 h) (ap (leaves s labels) e)
+  leaves_tested j e l f = rw (l, e, f) (go (leaves s labels (transition_in part j)) (flagged first j))
+    where
+      go : (p q : Bool) → (p && q) ≡ (q && p)
+      go true true = refl
+      go true false = refl
+      go false true = refl
+      go false false = refl
 
   -- one record more
   leaving_more : (j : ℕ) → leaving part first s labels (j + 1) ≡ leaving part first s labels j ++ here j

@@ -1,12 +1,14 @@
 // The records that a box or diamond follows from a state, and the operands that they give.
-ghost use Rattle.std.specs.Prelude.{◌≡◌, [], ◌∷◌, ℕ, ◌+◌, ◌*◌, ◌^◌, ◌<◌, ◌≤◌, length};
+ghost use Rattle.std.specs.Prelude.{◌≡◌, [], ◌∷◌, ◌+◌, ◌*◌, ℕ, ◌^◌, ◌<◌, ◌≤◌, length};
 ghost use Rattle.sets.specs.Words.{marked};
 ghost use Rattle.cases.specs.File.{transition_in};
 ghost use Rattle.translate.specs.internal.Parts.{HasRoom, Wrote, target_cells};
+ghost use Rattle.translate.specs.internal.Writing.{leaves};
 ghost use Rattle.translate.specs.internal.Flags.{follows, followed, target_of};
 
 use crate::bytes::Writer;
-use cases::{Flagged, number_at};
+use cases::{Flagged, Transition, number_at};
+use sets::has_bit;
 
 // The records that leave a state with their labels in a mask.
 #[derive(Clone, Copy)]
@@ -20,26 +22,23 @@ pub struct Steps<'a> {
 fn marks(labels: u64, x: usize) -> bool
     ensures { result ≡ marked (labels ∷ []) x }
 {
-    if 64 <= x {
-        return false;
-    }
-    (labels >> x) % 2 == 1
+    x < 64 && has_bit(labels, x)
 }
 
 impl Steps<'_> {
-    // Whether record j is one of them: the first of its kind, from the state, with its label in the mask.
+    // Whether a transition is from the state, with its label in the mask.
+    fn leaves(&self, t: Transition) -> bool
+        ensures { result ≡ leaves self.now.state self.now.labels t }
+    {
+        t.source == self.state && marks(self.labels, t.label)
+    }
+
+    // Whether record j is one of them: of the records that leave so, the first of its kind.
     pub fn has(&self, j: usize) -> bool
         requires { j < self.now.records.table.count }
         ensures { result ≡ follows self.now j }
     {
-        if !self.records.is_first(j) {
-            return false;
-        }
-        let t = self.records.table.at(j);
-        if t.source != self.state {
-            return false;
-        }
-        marks(self.labels, t.label)
+        self.leaves(self.records.table.at(j)) && self.records.is_first(j)
     }
 
     // How many there are.
@@ -51,7 +50,8 @@ impl Steps<'_> {
             .count()
     }
 
-    // The target of record j.
+    // The target of record j. It is not read by `table.at(j)`: that was tried, and the proof that a row and a target have a sum that fits did not
+    // close, since `at` gives no bound of what it reads.
     fn target(&self, j: usize) -> usize
         requires { j < self.now.records.table.count }
         ensures { (result ≡ (transition_in self.now.records.table.part.now j).target) × (result < 2 ^ 16) }

@@ -1,5 +1,5 @@
 -- What the writers of the equation file promise of the part of the output that they are handed.
-use Rattle.std.specs.Prelude.{◌≡◌, Bool, cond, ◌&&◌, List, [], ◌∷◌, ◌++◌, map, ℕ, ◌+◌, ◌*◌, ◌≤◌, eqb, length, get_or, take, drop}
+use Rattle.std.specs.Prelude.{◌≡◌, Bool, false, cond, ◌&&◌, List, [], ◌∷◌, ◌++◌, map, ℕ, ◌+◌, ◌*◌, ◌≤◌, length, get_or, take, drop}
 use Rattle.sets.specs.Lists.{numbers_from, keep}
 use Rattle.solver.specs.Cells.{Cell}
 use Rattle.cases.specs.File.{transition_in}
@@ -30,19 +30,19 @@ abbrev pub Starts : List ℕ → List ℕ → List ℕ → Type 0
 Starts xs before after = after ≡ bytes xs ++ drop (4 * length xs) before
 
 -- whether record j is flagged as the first of its kind
-abbrev pub flagged : List ℕ → ℕ → Bool
-flagged first j = eqb (get_or first j 0) 1
+abbrev pub flagged : List Bool → ℕ → Bool
+flagged first j = get_or first j false
 
 -- the distinct transitions: the flagged ones of the first m records
-unfoldable pub distinct_in : List ℕ → List ℕ → ℕ → List Transition
+unfoldable pub distinct_in : List ℕ → List Bool → ℕ → List Transition
 distinct_in part first m = map (transition_in part) (keep (flagged first) (numbers_from 0 m))
 
 -- whether record j is a distinct transition from s with its label in the mask
-unfoldable pub leaves_at : List ℕ → List ℕ → ℕ → ℕ → ℕ → Bool
+unfoldable pub leaves_at : List ℕ → List Bool → ℕ → ℕ → ℕ → Bool
 leaves_at part first s labels j = flagged first j && leaves s labels (transition_in part j)
 
 -- the transitions from s with their labels in the mask
-unfoldable pub leaving : List ℕ → List ℕ → ℕ → ℕ → ℕ → List Transition
+unfoldable pub leaving : List ℕ → List Bool → ℕ → ℕ → ℕ → List Transition
 leaving part first s labels m = keep (leaves s labels) (distinct_in part first m)
 
 -- operands for transitions: the cells of their targets, in the row of cells that starts at `base`
@@ -50,10 +50,10 @@ unfoldable pub target_cells : ℕ → List Transition → List ℕ
 target_cells base ts = map (λ t. base + t.target) ts
 
 -- the operand that record j gives, if it leaves s
-unfoldable pub target_cell : List ℕ → List ℕ → ℕ → ℕ → ℕ → ℕ → List ℕ
+unfoldable pub target_cell : List ℕ → List Bool → ℕ → ℕ → ℕ → ℕ → List ℕ
 target_cell part first base s labels j = cond (leaves_at part first s labels j) ((base + (transition_in part j).target) ∷ []) []
 
 -- the first m records are there, each with its flag
-pub record Recorded (part first : List ℕ) (m : ℕ) : Type 0 where
+pub record Recorded (part : List ℕ) (first : List Bool) (m : ℕ) : Type 0 where
   pub records : 6 * m ≤ length part
   pub flags : m ≤ length first

@@ -1,5 +1,5 @@
 -- What the writers of a case's equations are handed, and what they leave in the buffer.
-use Rattle.std.specs.Prelude.{◌≡◌, cond, List, ◌++◌, ℕ, ◌+◌, ◌*◌, ◌≤◌, ◌<◌, ltb, length, drop, Result, Ok, Err}
+use Rattle.std.specs.Prelude.{◌≡◌, Bool, cond, List, ◌++◌, ℕ, ◌+◌, ◌*◌, ◌≤◌, ◌<◌, ltb, length, drop, Result, Ok, Err}
 use Rattle.sets.specs.Words.{state_limit}
 use Rattle.solver.specs.File.{blocks_at, operand_limit}
 use Rattle.cases.specs.File.{transition_limit, node_limit}
@@ -17,7 +17,7 @@ unfoldable pub shape_system : ℕ → ℕ → List Transition → List Shape →
 shape_system n initial ts xs = record { states = n; initial = initial; blocks = shape_blocks n 0 xs; cells = shape_cells n ts 0 xs }
 
 -- m records with their flags, the shapes of all nodes and n states, as an accepted case has them
-pub record Sources (part first : List ℕ) (m : ℕ) (shapes : List Shape) (n : ℕ) : Type 0 where
+pub record Sources (part : List ℕ) (first : List Bool) (m : ℕ) (shapes : List Shape) (n : ℕ) : Type 0 where
   pub recorded : Recorded part first m
   pub few_transitions : m ≤ transition_limit
   pub few_nodes : length shapes ≤ node_limit + 1

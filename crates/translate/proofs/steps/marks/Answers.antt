@@ -1,9 +1,8 @@
-use mathlib.Core.Path.{sym}
-use Rattle.translate.proofs.ShapeLaws.{mark_low, mark_high}
+use mathlib.Core.Path.{sym, ◌∙◌}
+use native.Mathlib.Omega.{arith}
+use borrow.Author.Tests.{le-ltb}
+use Rattle.translate.proofs.ShapeLaws.{mark_high}
 use Rattle.translate.proofs.steps.marks.Goals as goal
 
-pub returns-then-x-ge64 : goal.returns-then-x-ge64
-returns-then-x-ge64 c = sym (mark_high c.args.labels c.args.x c.if-x-ge64.true)
-
-pub returns : goal.returns
-returns c = sym (mark_low c.args.labels c.args.x c.if-x-ge64.false)
+pub returns-else-x-lt64 : goal.returns-else-x-lt64
+returns-else-x-lt64 c = le-ltb c.args.x 64 (omega arith) ∙ sym (mark_high c.args.labels c.args.x (omega arith))

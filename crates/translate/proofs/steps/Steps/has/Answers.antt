@@ -1,22 +1,13 @@
-use mathlib.Core.Path.{◌∙◌}
-use native.Mathlib.Omega.{arith}
-use borrow.Author.Tests.{eq-eqb, ne_eqb}
-use Rattle.translate.proofs.ShapeLaws.{not_first, is_first_lem}
+use mathlib.Core.Path.{refl, sym, ◌∙◌}
+use Rattle.translate.proofs.ShapeLaws.{leaves_tested}
 use Rattle.translate.proofs.steps.Steps.has.Goals as goal
 
-pub returns-then-self-j-ne1 : goal.returns-then-self-j-ne1
-returns-then-self-j-ne1 c = let p = c.args in
-    let e = p.self.now in not_first e.records.table.part.now e.records.first.now e.state e.labels p.j (omega arith)
+pub returns-then-leaves : goal.returns-then-leaves
+returns-then-leaves c =
+    let r = c.args.self.now.records in
+    rw c.if-leaves.true at (leaves_tested r.table.part.now r.first.now c.args.self.now.state c.args.self.now.labels c.args.j c.at.ensures c.leaves.ensures (c.is_first.ensures ∙ sym (r.flags.at c.args.j c.requires)))
 
-pub returns-then-t-self : goal.returns-then-t-self
-returns-then-t-self c =
-    let p = c.args in
-    let e = p.self.now in
-    rw (ne_eqb _ _ c.if-t-self.true) at (is_first_lem e.records.table.part.now e.records.first.now e.state e.labels p.j (omega arith) c.at-t.ensures)
-
-pub returns : goal.returns
-returns c =
-    let p = c.args in
-    let e = p.self.now in
-    c.marks.ensures
-    ∙ (rw (eq-eqb _ _ c.if-t-self.false) at (is_first_lem e.records.table.part.now e.records.first.now e.state e.labels p.j (omega arith) c.at-t.ensures))
+pub returns-else-leaves : goal.returns-else-leaves
+returns-else-leaves c =
+    let r = c.args.self.now.records in
+    c.if-leaves.false ∙ rw c.if-leaves.false at (leaves_tested r.table.part.now r.first.now c.args.self.now.state c.args.self.now.labels c.args.j c.at.ensures c.leaves.ensures refl)

@@ -4,14 +4,14 @@ use mathlib.Core.Bool.{Bool, true, false, not, ◌&&◌}
 use mathlib.Core.List.{List, [], ◌∷◌, ◌++◌}
 use Prim.Native.Nat.{ℕ, ◌+◌, ◌-◌, ◌*◌, ◌≤◌, ◌<◌}
 use native.Mathlib.Omega.{arith}
-use borrow.Author.Tests.{not-false, le-ltb, lt-ltb, le-leb, lt-leb}
+use borrow.Author.Tests.{le-ltb, lt-ltb, le-leb, lt-leb}
 use lib.Dec.{ltb}
 use lib.ListN.{length, take}
 use Rattle.std.proofs.Common.{append_assoc}
 use Rattle.std.proofs.lemmas.Bool.{false≢true}
 use Rattle.sets.specs.Lists.{every}
 use Rattle.sets.specs.Refusals.{Conditions, first_of}
-use Rattle.sets.proofs.Refusals.{refusing, none_of_first, one_of_first, none_reached, holds_here, holds_later, none_holds}
+use Rattle.sets.proofs.Refusals.{refusing, none_of_first, one_of_first, holds_here, holds_later, none_holds}
 use Rattle.cases.specs.declared.Header.{Header}
 use Rattle.cases.specs.declared.Transition.{Transition}
 use Rattle.cases.specs.declared.Cause.{Cause}
@@ -86,20 +86,9 @@ module _ (model : List ℕ) (t : Transition) where
     unfolding layout_conditions every
     laid_first rest = none_of_first (layout_conditions b) rest tt none
 
-    look_own : first_of (look_conditions model t) ≡ first_of range
-    unfolding look_conditions
-    look_own = laid_first range
-
     pub look_range : right ≡ false → 6 ≡ first_of (look_conditions model t)
-    look_range e = holds_here _ _ _ (ap not e) ∙ sym look_own
-
-    pub look_none : right ≡ true → first_of (look_conditions model t) ≡ 0
-    look_none e = look_own ∙ sym (holds_later _ _ _ (ap not e) none_holds)
-
-  -- none of them holds
-  pub looked : first_of (look_conditions model t) ≡ 0 → (first_of (layout_conditions b) ≡ 0) × (right ≡ true)
-  unfolding look_conditions layout_conditions every
-  looked none = let r = (none_reached (layout_conditions b) 6 _ (λ e. omega arith) tt).0 none in (r.0, not-false _ r.1)
+    unfolding look_conditions
+    look_range e = holds_here _ _ _ (ap not e) ∙ sym (laid_first range)
 
   -- One of them holds: then any edit that has them first is refused.
   pub look_refuses : (rest : Conditions) {k : ℕ} {made : List ℕ} → RefusedBy (look_conditions model t) k → Edited (layout_conditions b ++ (range ++ rest)) made model k model

@@ -2,19 +2,17 @@
 use mathlib.Core.Path.{◌≡◌, refl, sym, ap, ◌∙◌}
 use mathlib.Core.Bool.{Bool, true, false, cond}
 use mathlib.Core.List.{List, [], ◌∷◌, ◌++◌, map, append_assoc, append-nil}
-use Prim.Native.Nat.{ℕ, zero, suc, ◌+◌, ◌*◌, ◌≤◌}
+use Prim.Native.Nat.{ℕ, zero, suc, ◌+◌, ◌*◌}
 use native.Mathlib.Nat.{add-zero, zero-add}
 use native.Mathlib.Numerals.{add-one}
 use native.Mathlib.Omega.{arith}
-use lib.ListN.{length, take, drop, length-append, length-map}
+use lib.ListN.{length, take, drop, length-append}
 use lib.Seq.{take_at, drop_at, drop-drop}
 use Rattle.sets.specs.Lists.{numbers_from, keep}
-use Rattle.sets.proofs.Lists.{length_range}
 use Rattle.cases.specs.declared.Transition.{Transition}
 use Rattle.cases.specs.File.{transition_in}
 use Rattle.cases.specs.Case.{distinct}
 use Rattle.cases.specs.internal.Checks.{transitions_in}
-use Rattle.cases.proofs.Distinct.{length_keep}
 use Rattle.cases.proofs.FirstAppearances.{is_first, firsts_distinct}
 use Rattle.records.specs.Replaced.{record_bytes, table_bytes}
 use Rattle.records.specs.internal.Writing.{over, RecordsWritten}
@@ -70,12 +68,6 @@ module _ (part : List ℕ) (m i : ℕ) where
 
   pub firsts_same : is_first part m i ≡ false → firsts part m (i + 1) ≡ firsts part m i
   firsts_same e = rw e at next ∙ append-nil (firsts part m i)
-
-  -- they are no more than those records
-  pub firsts_few : {s u : List ℕ} {k : ℕ} → RecordsWritten (firsts part m i) s u k → k ≤ i
-  firsts_few w =
-      let kept : List ℕ = keep (is_first part m) (numbers_from 0 i) in
-      omega (arith, w.count, length-map kept (transition_in part), length_keep (is_first part m) (numbers_from 0 i), length_range 0 i)
 
 pub firsts_none : (part s : List ℕ) (m : ℕ) → RecordsWritten (firsts part m 0) s s 0
 unfolding table_bytes keep numbers_from

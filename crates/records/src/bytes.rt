@@ -30,6 +30,7 @@ pub fn put_record(bytes: &mut [u8], at: usize, t: Transition)
 
 // The numbers of a head that depend on how many transitions there are. The bytes are no case while they are written, so what is asked is of
 // the header alone.
+#[tactic(auto, using(crate::proofs::Heads::start_few))]
 pub fn put_head(bytes: &mut [u8], h: Header, k: usize)
     requires { (common_header ≤ length bytes.old) × CountsFit h × (h.transitions_at ≡ transitions_start h) × (k ≤ transition_limit) }
     ensures { bytes.new ≡ head_for h k bytes.old }

@@ -44,6 +44,7 @@ fn put_distinct(flagged: &Flagged<'_>, out: &mut [u8]) -> usize
 }
 
 // Writes a case with its distinct transitions in place of its table, where those that are the first of their kind are flagged.
+#[tactic(auto, using(crate::proofs::Heads::start_few, crate::proofs::Files::length_behind))]
 pub fn write_distinct(case: &LaidCase<'_>, first: &[bool], out: &mut [u8])
     requires { FirstFlags (transition_part case.now.bytes.now) case.now.header.transitions first.now × (length case.now.bytes.now ≤ length out.old) }
     ensures { out.new ≡ written_to out.old (with_transitions case.now.bytes.now (distinct (transition_table case.now.bytes.now))) }

@@ -3,11 +3,8 @@ use mathlib.Core.Path.{◌∙◌}
 use native.Mathlib.Omega.{arith}
 use borrow.Author.Rules.{rules}
 use Rattle.std.proofs.lemmas.Result.{err_from_is_err_and}
-use Rattle.cases.specs.File.{case_within}
-use Rattle.cases.proofs.LayoutRules.{laid}
-use Rattle.records.proofs.Files.{within_few}
 use Rattle.models.specs.Model.{add_conditions, add_checks}
-use Rattle.models.proofs.ModelLaws.{refuses, makes, looked, look_refuses, count_is, is_held, is_new, held_left, new_left, add_held, add_full, add_memory, add_new}
+use Rattle.models.proofs.ModelLaws.{refuses, makes, look_refuses, is_held, is_new, held_left, new_left, add_held, add_full, add_memory, add_new}
 use Rattle.models.proofs.add.Goals as goal
 
 pub returns-in_err-found : goal.returns-in_err-found
@@ -19,36 +16,28 @@ returns-in_err-found c =
 pub returns-then-is_some : goal.returns-then-is_some
 returns-then-is_some c =
     let m = c.args.model.now in let found = c.in_ok-found.ensures in
-    let g = looked m c.args.t found.none in
     let held = is_held m c.args.t c.in_ok-found.found.place found.place (search rules) in
-    makes (add_held m c.args.t g.0 g.1 held) (held_left m c.args.t held)
+    makes (add_held m c.args.t found.layout found.right held) (held_left m c.args.t held)
 
 pub returns-then-found-ge-TRANSITIONS : goal.returns-then-found-ge-TRANSITIONS
 returns-then-found-ge-TRANSITIONS c =
     let m = c.args.model.now in let found = c.in_ok-found.ensures in
-    let g = looked m c.args.t found.none in
     let new = is_new m c.args.t c.in_ok-found.found.place found.place (search rules) in
-    refuses (add_full m c.args.t g.0 g.1 new (omega (arith, count_is m found.read))) (λ z. omega arith)
-
-pub overflow_sub-model : goal.overflow_sub-model
-overflow_sub-model c = omega (arith, c.in_ok-found.ensures.ends, within_few c.args.model.now)
+    refuses (add_full m c.args.t found.layout found.right new (omega (arith, found.count))) (λ z. omega arith)
 
 pub returns-then-model-found-lt6 : goal.returns-then-model-found-lt6
 returns-then-model-found-lt6 c =
     let m = c.args.model.now in let found = c.in_ok-found.ensures in
-    let g = looked m c.args.t found.none in
     let new = is_new m c.args.t c.in_ok-found.found.place found.place (search rules) in
-    refuses (add_memory m c.args.t g.0 g.1 new (omega (arith, count_is m found.read)) (omega (arith, found.ends, within_few m))) (λ z. omega arith)
+    refuses (add_memory m c.args.t found.layout found.right new (omega (arith, found.count)) (omega (arith, found.ends, found.inside))) (λ z. omega arith)
 
 pub insert-requires : goal.insert-requires
 insert-requires c =
-    let m = c.args.model.now in let found = c.in_ok-found.ensures in
-    let l = laid (case_within m) found.read (looked m c.args.t found.none).0 in
-    (l, omega arith, omega (arith, l.ends, found.ends, within_few m))
+    let found = c.in_ok-found.ensures in
+    (found.laid, omega arith, omega (arith, found.laid.ends, found.ends, found.inside))
 
 pub returns : goal.returns
 returns c =
     let m = c.args.model.now in let found = c.in_ok-found.ensures in
-    let g = looked m c.args.t found.none in
     let new = is_new m c.args.t c.in_ok-found.found.place found.place (search rules) in
-    makes (add_new m c.args.t g.0 g.1 new (omega (arith, count_is m found.read)) (omega (arith, found.ends, within_few m))) (c.insert.ensures ∙ new_left m c.args.t new)
+    makes (add_new m c.args.t found.layout found.right new (omega (arith, found.count)) (omega (arith, found.ends, found.inside))) (c.insert.ensures ∙ new_left m c.args.t new)

@@ -4,11 +4,10 @@ use Prim.Native.Nat.{ℕ}
 use native.Mathlib.Omega.{arith}
 use Rattle.std.proofs.lemmas.Result.{err_from_is_err_and}
 use Rattle.cases.specs.File.{transition_table, case_within}
-use Rattle.cases.proofs.LayoutRules.{laid}
 use Rattle.records.specs.Replaced.{with_transitions, written_to}
 use Rattle.records.specs.Places.{without_at}
 use Rattle.models.specs.Model.{dropping, dropped_model, drop_conditions, drop_checks}
-use Rattle.models.proofs.ModelLaws.{refuses, makes, looked, look_refuses, count_is, drop_held, drop_absent}
+use Rattle.models.proofs.ModelLaws.{refuses, makes, look_refuses, drop_held, drop_absent}
 use Rattle.models.proofs.drop.Goals as goal
 
 pub returns-in_err-found : goal.returns-in_err-found
@@ -19,21 +18,19 @@ returns-in_err-found c =
 
 pub returns-in_default : goal.returns-in_default
 returns-in_default c =
-    let m = c.args.model.now in let found = c.in_ok-found.ensures in
-    let g = looked m c.args.t found.none in
-    refuses (drop_absent m c.args.t g.0 g.1 (rw c.in_default.is at found.place)) (λ z. omega arith)
+    let found = c.in_ok-found.ensures in
+    refuses (drop_absent c.args.model.now c.args.t found.layout found.right (rw c.in_default.is at found.place)) (λ z. omega arith)
 
 pub remove-requires : goal.remove-requires
 remove-requires c =
-    let m = c.args.model.now in let found = c.in_ok-found.ensures in
+    let found = c.in_ok-found.ensures in
     let at : _ = rw c.in-Some.is at found.place in
-    (laid (case_within m) found.read (looked m c.args.t found.none).0, omega (arith, at.2, count_is m found.read))
+    (found.laid, omega (arith, at.2, found.count))
 
 pub returns : goal.returns
 unfolding dropped_model dropping
 returns c =
     let m = c.args.model.now in let found = c.in_ok-found.ensures in
-    let g = looked m c.args.t found.none in
     let at : _ = rw c.in-Some.is at found.place in
-    makes (drop_held m c.args.t g.0 g.1 at.0)
+    makes (drop_held m c.args.t found.layout found.right at.0)
     (c.remove.ensures ∙ ap (λ (i : ℕ). written_to m (with_transitions (case_within m) (without_at (transition_table (case_within m)) i))) at.1)

@@ -4,10 +4,12 @@ use native.Mathlib.Omega.{arith}
 use lib.ListN.{length}
 use Rattle.std.proofs.lemmas.Result.{err_from_is_err_and}
 use Rattle.cases.specs.declared.Header.{Header}
+use Rattle.cases.specs.File.{case_within}
 use Rattle.cases.specs.internal.Checks.{transition_part}
 use Rattle.cases.proofs.LayoutRules.{laid}
 use Rattle.cases.proofs.Openings.{accepted}
-use Rattle.models.proofs.ModelLaws.{laid_out, not_laid_out, look_layout, look_range, look_none, right_is, placed}
+use Rattle.records.proofs.Files.{within_few}
+use Rattle.models.proofs.ModelLaws.{laid_out, not_laid_out, look_layout, look_range, right_is, count_is, placed}
 use Rattle.models.proofs.look_up.Goals as goal
 
 pub returns-in_err-header : goal.returns-in_err-header
@@ -33,9 +35,12 @@ returns c =
     let cut = c.case_end.ensures.1 in
     let a = laid_out m c.case_end.result cut c.check_layout.ensures c.in_ok-header.was in
     record {
-      none = look_none m c.args.t a.0 (right_is m c.args.t a.1 c.transition_holds.ensures c.if-not-transition_holds.false);
-      read = a.1;
+      layout = a.0;
+      right = right_is m c.args.t a.1 c.transition_holds.ensures c.if-not-transition_holds.false;
+      laid = laid (case_within m) a.1 a.0;
       ends = ap length cut;
+      inside = omega (arith, ap length cut, within_few m);
+      count = count_is m a.1;
       place =
           placed m c.args.t (c.transitions.ensures.part ∙ ap transition_part cut) (c.transitions.ensures.count ∙ ap (λ (h : Header). h.transitions) a.1) c.find-place.result c.find-place.ensures;
     }

@@ -1,9 +1,10 @@
 -- What adding and dropping find before they differ: whether a transition is held, in a case whose layout is right and which it fits.
-use Rattle.std.specs.Prelude.{◌≡◌, true, false, List, [], ◌∷◌, ◌++◌, ℕ, ◌<◌, length, Option, MatchOption}
+use Rattle.std.specs.Prelude.{◌≡◌, true, false, List, [], ◌∷◌, ◌++◌, ℕ, ◌<◌, ◌≤◌, length, Option, MatchOption}
 use Rattle.sets.specs.Refusals.{Conditions, first_of}
 use Rattle.cases.specs.declared.Transition.{Transition}
 use Rattle.cases.specs.File.{header_of, transition_table, case_within}
-use Rattle.cases.specs.Conditions.{layout_conditions}
+use Rattle.cases.specs.Conditions.{transition_ok, layout_conditions}
+use Rattle.cases.specs.internal.Checks.{Laid}
 use Rattle.records.specs.Places.{place_of}
 use Rattle.models.specs.declared.Found.{Found}
 use Rattle.models.specs.Model.{holds, out_of_range}
@@ -28,9 +29,12 @@ module _ (model : List ℕ) (t : Transition) where
   abbrev pub Placed : Option ℕ → Type 0
   Placed place = MatchOption place (holds held t ≡ false) (λ i. (holds held t ≡ true) × (i ≡ place_of t held) × (i < length held))
 
-  -- None of them holds, and the place is found.
+  -- None of them holds: the layout and the transition are right. The header is that of the case, the end is the case's, and the place is found.
   pub record FoundIn (found : Found) : Type 0 where
-    pub none : first_of look_conditions ≡ 0
-    pub read : found.header ≡ header_of b
+    pub layout : first_of (layout_conditions b) ≡ 0
+    pub right : transition_ok (header_of b).states (header_of b).labels t ≡ true
+    pub laid : Laid b found.header
     pub ends : found.end ≡ length b
+    pub inside : found.end ≤ length model
+    pub count : length held ≡ found.header.transitions
     pub place : Placed found.place

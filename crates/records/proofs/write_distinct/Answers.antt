@@ -2,17 +2,8 @@ use mathlib.Core.Path.{refl, ap, ◌∙◌}
 use mathlib.Core.List.{List, ◌++◌}
 use native.Mathlib.Omega.{arith}
 use lib.ListN.{drop}
-use Rattle.records.proofs.Files.{least_stays, length_behind, rest_fits, wrote_table, opened}
-use Rattle.records.proofs.Heads.{start_few}
+use Rattle.records.proofs.Files.{least_stays, rest_fits, wrote_table, opened}
 use Rattle.records.proofs.write_distinct.Goals as goal
-
-pub overflow_add-at : goal.overflow_add-at
-overflow_add-at c = let l = c.args.case.now.laid in omega (arith, l.counts.few_transitions, start_few c.args.case.now.header l.counts, l.transitions)
-
-pub overflow_add-at-2 : goal.overflow_add-at-2
-overflow_add-at-2 c =
-    let l = c.args.case.now.laid in
-    omega (arith, length_behind l, l.counts.few_transitions, l.counts.few_actions, l.counts.few_nodes, start_few c.args.case.now.header l.counts, l.transitions)
 
 pub slice_bounds-copy_from_slice-end-4 : goal.slice_bounds-copy_from_slice-end-4
 slice_bounds-copy_from_slice-end-4 c =

@@ -15,7 +15,9 @@ use Rattle.sets.proofs.Refusals.{refusing, none_of_first, one_of_first, holds_he
 use Rattle.cases.specs.declared.Header.{Header}
 use Rattle.cases.specs.declared.Transition.{Transition}
 use Rattle.cases.specs.declared.Cause.{Cause}
-use Rattle.std.specs.Prelude.{Result, Ok, Err, Option, Some, None, MatchOption}
+use Rattle.models.specs.declared.Cause.{Cause as ModelCause}
+use Rattle.std.proofs.lemmas.Result.{err_from_is_err_and}
+use Rattle.std.specs.Prelude.{IsErrAnd, Result, Ok, Err, Option, Some, None, MatchOption}
 use Rattle.std.specs.Option.{is_some}
 use Rattle.cases.specs.File.{header_of, transition_table, case_within, transition_limit}
 use Rattle.cases.specs.Conditions.{transition_ok, layout_conditions, model_conditions, formula_conditions, case_conditions, case_refusal, Accepted}
@@ -26,7 +28,7 @@ use Rattle.cases.proofs.Tallies.{length_transitions}
 use Rattle.records.specs.Places.{place_of}
 use Rattle.records.proofs.Places.{stands, stands_not}
 use Rattle.records.specs.Replaced.{with_transitions, written_to}
-use Rattle.models.specs.Model.{holds, out_of_range, add_checks, drop_checks, Edited, model_room, open_conditions, add_conditions, added_model, drop_conditions}
+use Rattle.models.specs.Model.{cause_number, change_number, holds, out_of_range, add_checks, drop_checks, Edited, model_room, open_conditions, add_conditions, added_model, drop_conditions}
 use Rattle.models.specs.internal.Looking.{look_conditions, Placed, RefusedBy}
 
 -- ---- any edit
@@ -36,6 +38,10 @@ module _ {cs : Conditions} {made before : List ℕ} where
   pub refuses : {k : ℕ} → k ≡ first_of cs → ¬ (k ≡ 0) → Edited cs made before k before
   refuses e d = record { number = e; bytes = sym (refusing (first_of cs) made before (λ z. d (e ∙ z))) }
 
+  -- by a refusal that was handed on too,
+  pub hands_on : (cause : ModelCause) (r : Result (Unit {0}) ModelCause) → IsErrAnd r (λ y. y ≡ cause) → RefusedBy cs (cause_number cause) → Edited cs made before (change_number r) before
+  hands_on cause r e w = let p = err_from_is_err_and r e in rw (p.1, p.2) (refuses w.number w.some)
+
   -- or it is made.
   pub makes : {after : List ℕ} → 0 ≡ first_of cs → after ≡ made → Edited cs made before 0 after
   makes e p = record { number = e; bytes = p ∙ rw (sym e) }
@@ -44,9 +50,9 @@ module _ {cs : Conditions} {made before : List ℕ} where
 
 module _ (b model : List ℕ) where
   -- the case's own number
-  pub case_refuses : ¬ (case_refusal b ≡ 0) → case_refusal b ≡ first_of (open_conditions b model)
+  pub case_refuses : {k : ℕ} → (k ≡ case_refusal b) × ¬ (case_refusal b ≡ 0) → RefusedBy (open_conditions b model) k
   unfolding case_refusal open_conditions
-  case_refuses d = sym (one_of_first (case_conditions b) _ d)
+  case_refuses r = record { number = r.0 ∙ sym (one_of_first (case_conditions b) _ r.1); some = λ z. r.1 (sym r.0 ∙ z) }
 
   module _ (ok : Accepted b) where
     own : first_of (open_conditions b model) ≡ first_of ((13, ltb (length model) (model_room b)) ∷ [])
@@ -76,9 +82,9 @@ module _ (model : List ℕ) (t : Transition) where
   range = (6, out_of_range (header_of b).states (header_of b).labels t) ∷ []
 
   -- a number of the layout, and 6
-  pub look_layout : ¬ (first_of (layout_conditions b) ≡ 0) → first_of (layout_conditions b) ≡ first_of (look_conditions model t)
+  pub look_layout : {k : ℕ} → (k ≡ first_of (layout_conditions b)) × ¬ (first_of (layout_conditions b) ≡ 0) → RefusedBy (look_conditions model t) k
   unfolding look_conditions
-  look_layout d = sym (one_of_first (layout_conditions b) _ d)
+  look_layout r = record { number = r.0 ∙ sym (one_of_first (layout_conditions b) _ r.1); some = λ z. r.1 (sym r.0 ∙ z) }
 
   module _ (none : first_of (layout_conditions b) ≡ 0) where
     -- what is first behind the layout, if the layout is right
@@ -91,10 +97,12 @@ module _ (model : List ℕ) (t : Transition) where
     look_range e = holds_here _ _ _ (ap not e) ∙ sym (laid_first range)
 
   -- One of them holds: then any edit that has them first is refused.
-  pub look_refuses : (rest : Conditions) {k : ℕ} {made : List ℕ} → RefusedBy (look_conditions model t) k → Edited (layout_conditions b ++ (range ++ rest)) made model k model
+  pub look_refuses : (rest : Conditions) {k : ℕ} → RefusedBy (look_conditions model t) k → RefusedBy (layout_conditions b ++ (range ++ rest)) k
   unfolding look_conditions
-  look_refuses rest r =
-      refuses (r.number ∙ sym (one_of_first (look_conditions model t) rest (λ z. r.some (r.number ∙ z))) ∙ ap first_of (append_assoc (layout_conditions b) range rest)) r.some
+  look_refuses rest r = record {
+    number = r.number ∙ sym (one_of_first (look_conditions model t) rest (λ z. r.some (r.number ∙ z))) ∙ ap first_of (append_assoc (layout_conditions b) range rest);
+    some = r.some;
+  }
 
   module _ (none : first_of (layout_conditions b) ≡ 0) where
     add_own : first_of (add_conditions model t)

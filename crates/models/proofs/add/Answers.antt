@@ -2,16 +2,13 @@
 use mathlib.Core.Path.{◌∙◌}
 use native.Mathlib.Omega.{arith}
 use borrow.Author.Rules.{rules}
-use Rattle.std.proofs.lemmas.Result.{err_from_is_err_and}
 use Rattle.models.specs.Model.{add_conditions, add_checks}
-use Rattle.models.proofs.ModelLaws.{refuses, makes, look_refuses, is_held, is_new, held_left, new_left, add_held, add_full, add_memory, add_new}
+use Rattle.models.proofs.ModelLaws.{refuses, hands_on, makes, look_refuses, is_held, is_new, held_left, new_left, add_held, add_full, add_memory, add_new}
 use Rattle.models.proofs.add.Goals as goal
 
 pub returns-in_err-found : goal.returns-in_err-found
 unfolding add_conditions add_checks
-returns-in_err-found c =
-    let p = err_from_is_err_and c.from_residual.result c.from_residual.ensures.1 in
-    rw (p.1, p.2) (look_refuses c.args.model.now c.args.t _ c.in_err-found.ensures)
+returns-in_err-found c = hands_on _ c.from_residual.result c.from_residual.ensures.1 (look_refuses c.args.model.now c.args.t _ c.in_err-found.ensures)
 
 pub returns-then-is_some : goal.returns-then-is_some
 returns-then-is_some c =

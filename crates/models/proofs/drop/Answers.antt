@@ -2,19 +2,16 @@
 use mathlib.Core.Path.{ap, ◌∙◌}
 use Prim.Native.Nat.{ℕ}
 use native.Mathlib.Omega.{arith}
-use Rattle.std.proofs.lemmas.Result.{err_from_is_err_and}
 use Rattle.cases.specs.File.{transition_table, case_within}
 use Rattle.records.specs.Replaced.{with_transitions, written_to}
 use Rattle.records.specs.Places.{without_at}
 use Rattle.models.specs.Model.{dropping, dropped_model, drop_conditions, drop_checks}
-use Rattle.models.proofs.ModelLaws.{refuses, makes, look_refuses, drop_held, drop_absent}
+use Rattle.models.proofs.ModelLaws.{refuses, hands_on, makes, look_refuses, drop_held, drop_absent}
 use Rattle.models.proofs.drop.Goals as goal
 
 pub returns-in_err-found : goal.returns-in_err-found
 unfolding drop_conditions drop_checks
-returns-in_err-found c =
-    let p = err_from_is_err_and c.from_residual.result c.from_residual.ensures.1 in
-    rw (p.1, p.2) (look_refuses c.args.model.now c.args.t _ c.in_err-found.ensures)
+returns-in_err-found c = hands_on _ c.from_residual.result c.from_residual.ensures.1 (look_refuses c.args.model.now c.args.t _ c.in_err-found.ensures)
 
 pub returns-in_default : goal.returns-in_default
 returns-in_default c =

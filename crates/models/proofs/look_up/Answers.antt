@@ -1,5 +1,5 @@
 -- The layout first, then the transition, then where it stands.
-use mathlib.Core.Path.{sym, ap, ◌∙◌}
+use mathlib.Core.Path.{ap, ◌∙◌}
 use native.Mathlib.Omega.{arith}
 use lib.ListN.{length}
 use Rattle.std.proofs.lemmas.Result.{err_from_is_err_and}
@@ -15,8 +15,7 @@ use Rattle.models.proofs.look_up.Goals as goal
 pub returns-in_err-header : goal.returns-in_err-header
 returns-in_err-header c =
     let p = err_from_is_err_and c.from_residual.result c.from_residual.ensures.1 in
-    let r = not_laid_out c.args.model.now c.case_end.result c.case_end.ensures.1 c.check_layout.ensures c.in_err-header.was in
-    rw (p.1, p.2) (record { number = r.0 ∙ look_layout c.args.model.now c.args.t r.1; some = λ z. r.1 (sym r.0 ∙ z) })
+    rw (p.1, p.2) (look_layout c.args.model.now c.args.t (not_laid_out c.args.model.now c.case_end.result c.case_end.ensures.1 c.check_layout.ensures c.in_err-header.was))
 
 pub returns-then-not-transition_holds : goal.returns-then-not-transition_holds
 returns-then-not-transition_holds c =

@@ -1,17 +1,13 @@
 -- The case's own refusal, or that there is no room, or the model that is made.
-use mathlib.Core.Path.{sym, ◌∙◌}
+use mathlib.Core.Path.{sym}
 use native.Mathlib.Omega.{arith}
-use Rattle.std.proofs.lemmas.Result.{err_from_is_err_and}
 use Rattle.cases.proofs.Openings.{accepted, refused}
 use Rattle.models.specs.Model.{opened_model}
-use Rattle.models.proofs.ModelLaws.{refuses, makes, case_refuses, open_refuses, open_makes, room_is}
+use Rattle.models.proofs.ModelLaws.{refuses, hands_on, makes, case_refuses, open_refuses, open_makes, room_is}
 use Rattle.models.proofs.open.Goals as goal
 
 pub returns-in_err-opened : goal.returns-in_err-opened
-returns-in_err-opened c =
-    let p = err_from_is_err_and c.from_residual.result c.from_residual.ensures.1 in
-    let r = refused c.«open».ensures c.in_err-opened.was in
-    rw (p.1, p.2) (refuses (r.0 ∙ case_refuses c.args.case.now c.args.model.now r.1) (λ z. r.1 (sym r.0 ∙ z)))
+returns-in_err-opened c = hands_on _ c.from_residual.result c.from_residual.ensures.1 (case_refuses c.args.case.now c.args.model.now (refused c.«open».ensures c.in_err-opened.was))
 
 pub returns-then-model-opened : goal.returns-then-model-opened
 returns-then-model-opened c =

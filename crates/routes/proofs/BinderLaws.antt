@@ -1,6 +1,6 @@
 -- What the evaluator's loop at a mu or a nu holds at its head, and what it answers where it ends.
-use mathlib.Core.Path.{◌≡◌, refl, sym, ap, subst, ◌∙◌}
-use mathlib.Core.Bool.{true, ◌||◌}
+use mathlib.Core.Path.{◌≡◌, refl, sym, ap, ◌∙◌}
+use mathlib.Core.Bool.{true, false, ◌||◌}
 use mathlib.Core.List.{List, [], map}
 use Prim.Native.Nat.{ℕ, ◌+◌, ◌-◌, ◌<◌, ◌≤◌}
 use native.Mathlib.Omega.{arith}
@@ -23,11 +23,11 @@ use Rattle.cases.specs.Conditions.{node_at, is_binder, binder_count}
 use Rattle.cases.proofs.Spans.{end_one}
 use Rattle.routes.specs.Direct.{Direct}
 use Rattle.cases.specs.internal.Masks.{ActionMasks}
-use Rattle.routes.specs.internal.Evaluating.{nodes_of, transitions_of, Shown, Asks, KindAt, Reached, Exceeded}
+use Rattle.routes.specs.internal.Evaluating.{nodes_of, transitions_of, Shown, Asks, Starts, Reached, Exceeded}
 use Rattle.routes.specs.declared.Value.{Value}
 use Rattle.routes.specs.declared.evaluator.Evaluator.{Evaluator}
 use Rattle.routes.proofs.DirectLaws.{direct_sized}
-use Rattle.routes.proofs.NodeLaws.{Binder, apart, by_kind, inside, in_arities, operand, block_of, arity, ruled_by}
+use Rattle.routes.proofs.NodeLaws.{Binder, apart, by_sign, inside, in_arities, operand, block_of, arity, ruled}
 
 -- a row that is the words of a set is one of the rows
 row_inside : (rows : List (List ℕ)) (k : ℕ) (v : States) → get_or rows k [] ≡ words word_count v → k < length rows
@@ -64,29 +64,36 @@ abbrev pub Holding : ℕ → List ℕ → States → Type 0
 Holding n held v = (length v ≡ n) × (held ≡ words word_count v)
 
 -- At the loop's head, with the words `held` after `before` rounds: what is left of the binder's run. The inner rows are the rows but for its own.
-pub record Going (ev : Evaluator) (rows : List (List ℕ)) (at kind used block : ℕ) (held : List ℕ) (before : ℕ) (inner : List (List ℕ)) : Type 0 where
+pub record Going (ev : Evaluator) (rows : List (List ℕ)) (at used block : ℕ) (held : List ℕ) (before : ℕ) (inner : List (List ℕ)) : Type 0 where
   pub others : (row : List ℕ) → set inner block row ≡ set rows block row
   pub low : used ≤ before
   pub high : before ≤ ev.limit
   pub left : (action : ℕ → Action) (ρ : Valuation) (v : States) (r : ℕ)
       → ActionMasks action ev.case.header.actions ev.masks.now → Shown ev.case.header.states (nodes_of ev) rows ρ
-      → Loop (body ev at action ρ) (start ev.case.header.states (eqb kind 8)) v r
+      → Loop (body ev at action ρ) (start ev.case.header.states (eqb (node_at (nodes_of ev) at).kind 8)) v r
       → Left (body ev at action ρ) (Holding ev.case.header.states held) v before (used + r)
 
+-- where a mu and a nu start
+pub mu_starts : {ev : Evaluator} {at : ℕ} {first : List ℕ} → (node_at (nodes_of ev) at).kind ≡ 7
+    → first ≡ words word_count (start ev.case.header.states false) → Starts ev at first
+mu_starts k e = record { from = omega (arith, k); to = omega (arith, k); set = rw k e }
+
+pub nu_starts : {ev : Evaluator} {at : ℕ} {first : List ℕ} → (node_at (nodes_of ev) at).kind ≡ 8
+    → first ≡ words word_count (start ev.case.header.states true) → Starts ev at first
+nu_starts k e = record { from = omega (arith, k); to = omega (arith, k); set = rw k e }
+
 -- it begins
-pub begins : {ev : Evaluator} {rows : List (List ℕ)} {at kind used block : ℕ} → used ≤ ev.limit
-    → {held : List ℕ} → held ≡ words word_count (start ev.case.header.states (eqb kind 8))
-    → Going ev rows at kind used block held used rows
-begins {ev} {kind = kind} l e = record {
+pub begins : {ev : Evaluator} {rows : List (List ℕ)} {at used block : ℕ} {held : List ℕ} → used ≤ ev.limit → Starts ev at held
+    → Going ev rows at used block held used rows
+begins {ev} l s = record {
   others = λ row. refl;
   low = omega arith;
   high = l;
-  left = λ action ρ v r m s run.
-      record { now = start ev.case.header.states (eqb kind 8); known = (length-replicate ev.case.header.states (eqb kind 8), e); rest = r; run = run; sum = refl };
+  left = λ action ρ v r m shown run. record { now = _; known = (length-replicate ev.case.header.states _, s.set); rest = r; run = run; sum = refl };
 }
 
 module _ {ev : Evaluator} {at used : ℕ} (q : Asks ev at used)
-    {kind : ℕ} (k : KindAt ev at kind 7 8) where
+    {first : List ℕ} (k : Starts ev at first) where
   abbrev n : ℕ
   n = ev.case.header.states
 
@@ -101,13 +108,13 @@ module _ {ev : Evaluator} {at used : ℕ} (q : Asks ev at used)
 
   -- it has one operand
   one_operand : get_or ks at 0 ≡ 1
-  one_operand = arity q k ∙ by_kind (λ m. get_or formula_arities m 0 ≡ 1) k refl refl refl
+  one_operand = by_sign (λ m. (node_at t at).kind ≡ m → get_or ks at 0 ≡ 1) k.from k.to (arity q) (arity q) refl
 
   -- the node is a binder
   pub own_binder : Binder t at
   own_binder = record {
     inside = inside q;
-    is = subst (λ (m : ℕ). (eqb m 7 || eqb m 8) ≡ true) k.are (by_kind (λ m. (eqb m 7 || eqb m 8) ≡ true) k refl refl refl);
+    is = by_sign (λ m. (eqb m 7 || eqb m 8) ≡ true) k.from k.to refl refl;
   }
 
   -- its body is evaluated next
@@ -116,13 +123,14 @@ module _ {ev : Evaluator} {at used : ℕ} (q : Asks ev at used)
 
   -- its set is that where the loop over its body stops
   binder_rule : (action : ℕ → Action) (ρ : Valuation) (v : States) (r : ℕ) → Direct n ts (formula_at action t at) ρ v r
-      → Loop (body ev at action ρ) (start n (eqb kind 8)) v r
+      → Loop (body ev at action ρ) (start n (eqb (node_at t at).kind 8)) v r
   unfolding Direct
   binder_rule action ρ v r =
-      ruled_by q k action ρ v r (λ m. Loop (body ev at action ρ) (start n (eqb m 8)) v r) refl (λ d. d) (λ d. d)
+      by_sign (λ m. (node_at t at).kind ≡ m → Direct n ts (formula_at action t at) ρ v r → Loop (body ev at action ρ) (start n (eqb m 8)) v r) k.from k.to
+      (λ e. ruled q e action ρ v r) (λ e. ruled q e action ρ v r) refl
 
   module _ {block : ℕ} (b : block ≡ get_or ev.blocks.now at 0) {rows : List (List ℕ)} {held : List ℕ} {before : ℕ} {inner : List (List ℕ)}
-      (g : Going ev rows at kind used block held before inner) where
+      (g : Going ev rows at used block held before inner) where
     -- the rows of the turn show the set held
     shows : (action : ℕ → Action) (ρ : Valuation) {u : States} {total : ℕ} → Shown n t rows ρ
         → (l : Left (body ev at action ρ) (Holding n held) u before total) → Shown n t (set inner block held) (update ρ at l.now)
@@ -178,7 +186,7 @@ module _ {ev : Evaluator} {at used : ℕ} (q : Asks ev at used)
 
       -- It is another: the loop goes on from there.
       pub replaced : one.rounds < ev.limit → ¬ (one.set ≡ held)
-          → Going ev rows at kind used block one.set (one.rounds + 1) (set inner block held)
+          → Going ev rows at used block one.set (one.rounds + 1) (set inner block held)
       replaced m other = record {
         others = λ row. set-set inner block held row ∙ g.others row;
         low = omega (arith, g.low, turned.low);

@@ -1,5 +1,5 @@
 -- Boxes and diamonds on sets in words: one transition, the states that have one which leads there, and what they are to the meaning.
-use mathlib.Core.Path.{◌≡◌, refl, sym, ap, fun_ext, ◌∙◌}
+use mathlib.Core.Path.{◌≡◌, refl, sym, ap, ap₂, fun_ext, ◌∙◌}
 use mathlib.Core.Bool.{Bool, true, false, not, cond, ◌&&◌, ◌||◌, beq, and_assoc}
 use mathlib.Core.List.{List, [], ◌∷◌, ◌++◌, map, map-map}
 use Prim.Native.Nat.{ℕ, zero, suc, ◌+◌, ◌/◌, ◌%◌, ◌^◌, ◌<◌}
@@ -9,10 +9,10 @@ use borrow.Author.Tests.{eq-eqb, ne_eqb}
 use lib.Dec.{T, eqb, ltb, ltb→lt}
 use lib.ListN.{length, get_or, set, length-set}
 use lib.Seq.{ext_get_or, get_or-set_same, get_or-set_other}
-use Rattle.sets.specs.Lists.{numbers_from, for_some}
+use Rattle.sets.specs.Lists.{numbers_from, every, for_some}
 use Rattle.sets.specs.States.{States, has, start}
 use Rattle.sets.specs.Words.{words, marked, word_count, state_limit}
-use Rattle.sets.proofs.Lists.{length_table, table_at, and_left, and_right, and_false, all_at}
+use Rattle.sets.proofs.Lists.{length_table, table_at, get_or_map, and_left, and_right, and_false, all_at}
 use Rattle.sets.proofs.Words.{marked_words}
 use Rattle.cases.specs.Action.{Action, accepts}
 use Rattle.cases.specs.internal.Masks.{mask_of}
@@ -25,53 +25,62 @@ use Rattle.cases.proofs.TableTrees.{held}
 use Rattle.cases.proofs.MeaningLaws.{all_not}
 use Rattle.translate.proofs.ShapeLaws.{mask_bit, mark_low, map_range_more}
 use Rattle.routes.specs.internal.Parts.{Records}
+use Rattle.routes.specs.internal.Evaluating.{transitions_of}
+use Rattle.routes.specs.declared.evaluator.Evaluator.{Evaluator}
 
 -- ---- one transition
 
--- the transition has an accepted label, and its target is in the set exactly if `inside`
-abbrev pub leads_to : Action → States → Bool → Transition → Bool
-leads_to α v inside t = accepts α t.label && beq (has v t.target) inside
+-- the transition has an accepted label, and its target is in the set
+abbrev pub leads_to : Action → States → Transition → Bool
+leads_to α v t = accepts α t.label && has v t.target
 
--- bit x of the mask, as the code reads it, says whether label x is accepted
-bit_accepts : (labels : ℕ) (α : Action) (x : ℕ) → labels ≡ mask_of α → x < label_limit → eqb (labels / 2 ^ x % 2) 1 ≡ accepts α x
-bit_accepts labels α x e h = sym (mark_low labels x h) ∙ ap (λ (k : ℕ). marked (k ∷ []) x) e ∙ mask_bit α x h
+module _ {labels : ℕ} (α : Action) (e : labels ≡ mask_of α) {x : ℕ} (low : x < label_limit) where
+  -- bit x of the mask, as the code reads it, says whether label x is accepted
+  bit_accepts : eqb (labels / 2 ^ x % 2) 1 ≡ accepts α x
+  bit_accepts = sym (mark_low labels x low) ∙ ap (λ (k : ℕ). marked (k ∷ []) x) e ∙ mask_bit α x low
 
-module _ (t : Transition) (labels : ℕ) (inside : Bool) (α : Action) (v : States) (low : t.label < label_limit) (e : labels ≡ mask_of α) where
-  -- its label is not one of the mask
-  pub leads_not : ¬ (labels / 2 ^ t.label % 2 ≡ 1) → false ≡ leads_to α v inside t
-  leads_not n = rw (← bit_accepts labels α t.label e low, ne_eqb _ _ n)
+  pub accepted : labels / 2 ^ x % 2 ≡ 1 → accepts α x ≡ true
+  accepted is = sym bit_accepts ∙ eq-eqb _ _ is
 
-  -- its label is: the target decides
-  pub leads_by : labels / 2 ^ t.label % 2 ≡ 1 → t.target < state_limit → (ws : List ℕ) → ws ≡ words word_count v
-      → beq (marked ws t.target) inside ≡ leads_to α v inside t
-  leads_by y h ws q = rw (← bit_accepts labels α t.label e low, eq-eqb _ _ y, q, marked_words word_count v t.target h)
+  pub not_accepted : ¬ (labels / 2 ^ x % 2 ≡ 1) → accepts α x ≡ false
+  not_accepted is = sym bit_accepts ∙ ne_eqb _ _ is
 
--- record i of a part whose records are in range
-pub in_range : {part : List ℕ} {m n l : ℕ} → Records part m n l → (i : ℕ) → i < m → (t : Transition) → t ≡ transition_in part i
-    → (t.source < n) × (t.label < l) × (t.target < n)
+-- a transition whose ends are states and whose label is a label
+pub record InRange (n : ℕ) (t : Transition) : Type 0 where
+  pub state : t.source < n
+  pub source : t.source < state_limit
+  pub label : t.label < label_limit
+  pub target : t.target < state_limit
+
+-- transition i of an evaluator's case is one
+pub in_range : (ev : Evaluator) {i : ℕ} {t : Transition} → i < ev.case.transitions.count → t ≡ transition_in ev.case.transitions.part.now i
+    → InRange ev.case.header.states t
 unfolding transitions_in
-in_range {part} {m} {n} {l} r i h t e =
-    let read : get_or (transitions_in part m) i t ≡ t = table_at (transition_in part) m i t h ∙ sym e in
+in_range ev {i} {t} h e =
+    let r = ev.case.parts.model in
+    let n : ℕ = ev.case.header.states in
+    let l : ℕ = ev.case.header.labels in
+    let ts : List Transition = transitions_of ev in
+    let low : i < ev.case.header.transitions = rw (← ev.case.transition_count) h in
+    let read : get_or ts i t ≡ t = table_at (transition_in ev.case.transitions.part.now) _ i t low ∙ sym e in
     let ok : T (transition_ok n l t) =
-    rw read at (all_at (transition_ok n l) (transitions_in part m) i t (omega (arith, length_table (transition_in part) m)) (held _ r.ok)) in
-    let ends : T (ltb t.source n && ltb t.label l) = and_left (ltb t.source n && ltb t.label l) (ltb t.target n) ok in (
-      ltb→lt _ _ (and_left (ltb t.source n) (ltb t.label l) ends),
-      ltb→lt _ _ (and_right (ltb t.source n) (ltb t.label l) ends),
-      ltb→lt _ _ (and_right (ltb t.source n && ltb t.label l) (ltb t.target n) ok),
-    )
+    rw read at (all_at (transition_ok n l) ts i t (omega (arith, length_table (transition_in ev.case.transitions.part.now) ev.case.header.transitions, low)) (held _ r.ok)) in
+    let ends : T (ltb t.source n && ltb t.label l) = and_left (ltb t.source n && ltb t.label l) (ltb t.target n) ok in
+    let source : t.source < n = ltb→lt _ _ (and_left (ltb t.source n) (ltb t.label l) ends) in
+    let label : t.label < l = ltb→lt _ _ (and_right (ltb t.source n) (ltb t.label l) ends) in
+    let target : t.target < n = ltb→lt _ _ (and_right (ltb t.source n && ltb t.label l) (ltb t.target n) ok) in
+    record {
+      state = source;
+      source = omega (arith, source, r.few_states);
+      label = omega (arith, label, r.few_labels);
+      target = omega (arith, target, r.few_states);
+    }
 
 -- ---- the states with a transition that leads there
 
--- the transition does, and from s
-abbrev pub leads_from : Action → States → Bool → ℕ → Transition → Bool
-leads_from α v inside s t = from s α t && beq (has v t.target) inside
-
-abbrev pub sources_before : Bool → List Transition → Action → States → ℕ → Bool
-sources_before inside ts α v s = for_some (leads_from α v inside s) ts
-
 -- those of n states
-abbrev pub sources_of : ℕ → Action → States → Bool → List Transition → States
-sources_of n α v inside ts = set_of n (λ s. for_some (leads_from α v inside s) ts)
+abbrev pub sources_of : ℕ → Action → States → List Transition → States
+sources_of n α v ts = set_of n (diamond_in n ts α v)
 
 -- any of one element more
 any_more : {A : Type 0} (p : A → Bool) (xs : List A) (x : A) → for_some p (xs ++ (x ∷ [])) ≡ (p x || for_some p xs)
@@ -107,53 +116,53 @@ none_has i (suc k) = ap (λ (w : States). false ∷ w) (none_has (suc i) k)
 
 module _ (n : ℕ) (α : Action) (v : States) where
   -- they are of n states
-  pub sources_length : (inside : Bool) (ts : List Transition) → length (sources_of n α v inside ts) ≡ n
-  sources_length inside ts = length_table (λ s. for_some (leads_from α v inside s) ts) n
+  pub sources_length : (ts : List Transition) → length (sources_of n α v ts) ≡ n
+  sources_length ts = length_table (diamond_in n ts α v) n
 
   -- no transition
-  pub sources_none : (inside : Bool) (part : List ℕ) → start n false ≡ sources_of n α v inside (transitions_in part 0)
+  pub sources_none : (part : List ℕ) → start n false ≡ sources_of n α v (transitions_in part 0)
   unfolding for_some transitions_in numbers_from
-  sources_none inside part = none_has 0 n
+  sources_none part = none_has 0 n
 
   -- one transition more
-  pub sources_next : (inside : Bool) (part : List ℕ) (i : ℕ) (t : Transition) → t ≡ transition_in part i → t.source < n
-      → sources_of n α v inside (transitions_in part (i + 1))
-      ≡ cond (leads_to α v inside t)
-      (set (sources_of n α v inside (transitions_in part i)) t.source true)
-      (sources_of n α v inside (transitions_in part i))
+  pub sources_next : (part : List ℕ) (i : ℕ) (t : Transition) → t ≡ transition_in part i → t.source < n
+      → sources_of n α v (transitions_in part (i + 1))
+      ≡ cond (leads_to α v t) (set (sources_of n α v (transitions_in part i)) t.source true) (sources_of n α v (transitions_in part i))
   unfolding transitions_in
-  sources_next inside part i t e h =
+  sources_next part i t e h =
       rw (map_range_more (transition_in part) i, ← e)
       (ap (λ (f : ℕ → Bool). set_of n f) (fun_ext λ s.
-      any_more (leads_from α v inside s) ts t
-      ∙ ap (λ b. b || before s) (and_assoc (eqb t.source s) (accepts α t.label) (beq (has v t.target) inside)))
-      ∙ set_if n before t.source h (leads_to α v inside t))
+      any_more (λ u. from s α u && has v u.target) ts t
+      ∙ ap (λ b. b || diamond_in n ts α v s) (and_assoc (eqb t.source s) (accepts α t.label) (has v t.target)))
+      ∙ set_if n (diamond_in n ts α v) t.source h (leads_to α v t))
     where
       ts : List Transition
       ts = transitions_in part i
 
-      before : ℕ → Bool
-      before s = for_some (leads_from α v inside s) ts
+-- ---- a box by a diamond
 
-  -- a diamond: the states with one into the set
-  pub diamond_sources : (ts : List Transition) → set_of n (diamond_in n ts α v) ≡ sources_of n α v true ts
-  diamond_sources ts =
-      ap (λ (f : ℕ → Bool). set_of n f) (fun_ext λ s.
-      ap (λ (p : Transition → Bool). for_some p ts) (fun_ext λ t. ap (λ b. from s α t && b) (is (has v t.target))))
-    where
-      is : (b : Bool) → b ≡ beq b true
-      is true = refl
-      is false = refl
+-- Any of a list is of what is equal on each element with a property that all have.
+any_same : {A : Type 0} (ok p q : A → Bool) → ((x : A) → T (ok x) → p x ≡ q x) → (xs : List A) → T (every ok xs) → for_some p xs ≡ for_some q xs
+unfolding every for_some
+any_same ok p q same [] t = refl
+any_same ok p q same (x ∷ xs) t =
+    ap₂ (λ a b. a || b) (same x (and_left (ok x) (every ok xs) t)) (any_same ok p q same xs (and_right (ok x) (every ok xs) t))
 
-  -- a box: the states without one out of it
-  pub box_sources : (ts : List Transition) → set_of n (box_in n ts α v) ≡ map not (sources_of n α v false ts)
-  box_sources ts =
-      ap (λ (f : ℕ → Bool). set_of n f) (fun_ext λ s.
-      all_not (λ t. not (from s α t) || has v t.target) ts
-      ∙ ap (λ (p : Transition → Bool). not (for_some p ts)) (fun_ext λ t. out (from s α t) (has v t.target)))
-      ∙ sym (map-map not (λ s. for_some (leads_from α v false s) ts) (numbers_from 0 n))
-    where
-      out : (a b : Bool) → not (not a || b) ≡ (a && beq b false)
-      out true true = refl
-      out true false = refl
-      out false b = refl
+-- A box holds where the diamond of the complement does not.
+pub box_by_diamond : {part : List ℕ} {m n l : ℕ} → Records part m n l → (α : Action) (v : States) → length v ≡ n
+    → set_of n (box_in n (transitions_in part m) α v) ≡ map not (sources_of n α (map not v) (transitions_in part m))
+box_by_diamond {part} {m} {n} {l} r α v sized =
+    ap (λ (f : ℕ → Bool). set_of n f) (fun_ext λ s.
+    all_not (λ t. not (from s α t) || has v t.target) ts
+    ∙ ap not (any_same (transition_ok n l) _ _ (λ t ok. out t (target_low t ok) (from s α t)) ts (held _ r.ok)))
+    ∙ sym (map-map not (diamond_in n ts α (map not v)) (numbers_from 0 n))
+  where
+    ts : List Transition
+    ts = transitions_in part m
+
+    target_low : (t : Transition) → T (transition_ok n l t) → t.target < length v
+    target_low t ok = rw sized (ltb→lt _ _ (and_right (ltb t.source n && ltb t.label l) (ltb t.target n) ok))
+
+    out : (t : Transition) → t.target < length v → (a : Bool) → not (not a || has v t.target) ≡ (a && has (map not v) t.target)
+    out t low true = sym (get_or_map not v t.target false false low)
+    out t low false = refl

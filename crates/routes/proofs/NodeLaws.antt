@@ -1,13 +1,12 @@
 -- The node that is to be evaluated: its kind, its operands, its formula's rule, and the block of a binder.
 use mathlib.Core.Path.{◌≡◌, refl, sym, ap, subst, ◌∙◌}
 use mathlib.Core.Bool.{Bool, true, false}
-use mathlib.Core.Logic.{◌⊎◌, inl, inr}
 use mathlib.Core.List.{List, [], ◌∷◌, map}
 use Prim.Native.Nat.{ℕ, ◌+◌, ◌<◌, ◌≤◌}
 use native.Mathlib.Omega.{arith}
 use native.Mathlib.Decide.{ℕ_discrete}
-use borrow.Author.Tests.{ltb-true, ltb-false, ne_eqb}
-use lib.Dec.{eqb, ltb}
+use borrow.Author.Tests.{ltb-true, ltb-false}
+use lib.Dec.{ltb}
 use lib.ListN.{length, get_or, take, length-map}
 use Rattle.sets.specs.States.{States, Valuation}
 use Rattle.solver.specs.File.{block_limit}
@@ -15,8 +14,7 @@ use Rattle.cases.specs.Action.{Action}
 use Rattle.cases.specs.Formula.{Formula}
 use Rattle.cases.specs.declared.Node.{Node}
 use Rattle.cases.specs.declared.kinds.FormulaKind.{FormulaKind}
-use Rattle.cases.specs.declared.kinds.FormulaKind.TheVariants as formula
-use Rattle.cases.specs.internal.Kinds.{formula_number}
+use Rattle.cases.specs.Kinds.{formula_number}
 use Rattle.cases.specs.File.{node_in}
 use Rattle.cases.specs.Prefix.{arity_in, formula_arities, whole_formulas, end_of, formula_at}
 use Rattle.cases.specs.Conditions.{node_at, is_binder, binder_count}
@@ -29,37 +27,16 @@ use Rattle.cases.proofs.Scopes.{variable_bound}
 use Rattle.cases.proofs.FormulaRules.{length_nodes}
 use Rattle.routes.specs.Direct.{Direct}
 use Rattle.routes.specs.declared.evaluator.Evaluator.{Evaluator}
-use Rattle.routes.specs.internal.Evaluating.{nodes_of, transitions_of, Asks, KindAt}
+use Rattle.routes.specs.internal.Evaluating.{nodes_of, transitions_of, Asks}
 use Rattle.routes.proofs.TableLaws.{more_binders, binders_before}
 
--- what holds of two kinds holds of a kind that is one of them
-pub by_kind : (P : ℕ → Type 0) {ev : Evaluator} {at kind low high : ℕ} → KindAt ev at kind low high → high ≡ low + 1
-    → P low → P high → P kind
-by_kind P {kind = kind} {low = low} {high = high} k e p q = go (ℕ_discrete kind low)
+-- what holds of mu and nu holds of a kind that is one of them
+pub by_sign : (P : ℕ → Type 0) {kind : ℕ} → 7 ≤ kind → kind ≤ 8 → P 7 → P 8 → P kind
+by_sign P {kind} l u p q = go (ℕ_discrete kind 7)
   where
-    go : Dec (kind ≡ low) → P kind
+    go : Dec (kind ≡ 7) → P kind
     go (yes s) = subst P (sym s) p
-    go (no d) = let s : high ≡ kind = omega (arith, k.from, k.to) in subst P s q
-
--- the kind with a number of the file
-kind_of : ℕ → FormulaKind
-kind_of k = get_or (formula.False ∷ formula.True ∷ formula.And ∷ formula.Or ∷ formula.Box ∷ formula.Diamond ∷ formula.Variable ∷ formula.Mu ∷ formula.Nu ∷ []) k formula.False
-
-kind_back : (kind : FormulaKind) → kind_of (formula_number kind) ≡ kind
-unfolding kind_of
-kind_back formula.False = refl
-kind_back formula.True = refl
-kind_back formula.And = refl
-kind_back formula.Or = refl
-kind_back formula.Box = refl
-kind_back formula.Diamond = refl
-kind_back formula.Variable = refl
-kind_back formula.Mu = refl
-kind_back formula.Nu = refl
-
--- so different kinds have different numbers
-pub other_kind : {kind other : FormulaKind} → ¬ (kind ≡ other) → eqb (formula_number kind) (formula_number other) ≡ false
-other_kind {kind} {other} d = ne_eqb _ _ (λ e. d (sym (kind_back kind) ∙ ap kind_of e ∙ kind_back other))
+    go (no d) = let s : 8 ≡ kind = omega (arith, l, u) in subst P s q
 
 -- ---- binders
 
@@ -110,25 +87,10 @@ module _ {ev : Evaluator} {at used : ℕ} (q : Asks ev at used) where
   pub node_read : {x : Node} → x ≡ node_in ev.case.formula.part.now at → node_at t at ≡ x
   node_read e = node_in_lem ev.case.formula.part.now ev.case.header.nodes at _ q.node ∙ sym e
 
-  pub kind_at : {x : Node} {low high : ℕ} → x ≡ node_in ev.case.formula.part.now at → low ≤ x.kind → x.kind ≤ high
-      → KindAt ev at x.kind low high
-  kind_at e l u = record { are = ap (λ (y : Node). y.kind) (sym (node_read e)); from = l; to = u }
-
-  -- the kind that it has by name
+  -- by name
   pub kind_is : {x : Node} {kind : FormulaKind} → x ≡ node_in ev.case.formula.part.now at → formula_number kind ≡ x.kind
-      → (is : FormulaKind) → kind ≡ is → {low high : ℕ} → low ≤ formula_number is → formula_number is ≤ high → KindAt ev at (formula_number is) low high
-  kind_is e n is same l u = record { are = ap formula_number (sym same) ∙ n ∙ ap (λ (y : Node). y.kind) (sym (node_read e)); from = l; to = u }
-
-  -- which is one of two
-  pub kind_either : {x : Node} {kind : FormulaKind} → x ≡ node_in ev.case.formula.part.now at → formula_number kind ≡ x.kind
-      → (low high : FormulaKind) → (kind ≡ low) ⊎ (kind ≡ high) → formula_number high ≡ formula_number low + 1
-      → KindAt ev at (formula_number kind) (formula_number low) (formula_number high)
-  kind_either e n low high (inl is) next =
-      let k = kind_is e n low is {low = formula_number low} {high = formula_number high} (omega arith) (omega arith) in
-      subst (λ (j : FormulaKind). KindAt ev at (formula_number j) (formula_number low) (formula_number high)) (sym is) k
-  kind_either e n low high (inr is) next =
-      let k = kind_is e n high is {low = formula_number low} {high = formula_number high} (omega arith) (omega arith) in
-      subst (λ (j : FormulaKind). KindAt ev at (formula_number j) (formula_number low) (formula_number high)) (sym is) k
+      → {is : FormulaKind} → kind ≡ is → (node_at t at).kind ≡ formula_number is
+  kind_is e n same = ap (λ (y : Node). y.kind) (node_read e) ∙ sym n ∙ ap formula_number same
 
   -- the kind is not more than 8
   pub kind_known : {x : Node} → x ≡ node_in ev.case.formula.part.now at → x.kind ≤ 8
@@ -143,12 +105,12 @@ module _ {ev : Evaluator} {at used : ℕ} (q : Asks ev at used) where
   operand l w = asks (first_node 1 ks whole at in_arities l) w
 
   -- a variable is bound by an earlier node
-  pub binder_of : {x : Node} → x ≡ node_in ev.case.formula.part.now at → x.kind ≡ 6 → Binder t x.arg
+  pub binder_of : {x : Node} → x ≡ node_in ev.case.formula.part.now at → (node_at t at).kind ≡ 6 → Binder t x.arg
   binder_of {x} e k = subst (λ (y : Node). Binder t y.arg) (node_read e) bound
     where
       bound : Binder t (node_at t at).arg
       bound =
-          let b = variable_bound t ev.case.parts.formula_part.bound at inside (ap (λ (y : Node). y.kind) (node_read e) ∙ k) in
+          let b = variable_bound t ev.case.parts.formula_part.bound at inside k in
           record { inside = omega (arith, b.before, inside); is = b.binder }
 
   -- a binder has a block number,
@@ -164,16 +126,11 @@ module _ {ev : Evaluator} {at used : ℕ} (q : Asks ev at used) where
   block_fits {i} b e =
       omega (arith, block_of b e, binders_before t i b.inside b.is, ev.case.parts.formula_part.shallow)
 
-  module _ {kind low high : ℕ} (k : KindAt ev at kind low high) where
+  module _ {kind : ℕ} (k : (node_at t at).kind ≡ kind) where
     -- how many operands it has
     pub arity : get_or ks at 0 ≡ get_or formula_arities kind 0
-    arity = arity_at formula_arities t at inside ∙ ap (λ (m : ℕ). get_or formula_arities m 0) (sym k.are)
+    arity = arity_at formula_arities t at inside ∙ ap (λ (m : ℕ). get_or formula_arities m 0) k
 
-    -- the rule of what it makes,
+    -- the rule of what it makes
     pub ruled : (action : ℕ → Action) (ρ : Valuation) (v : States) (r : ℕ) → Works (formula_at action t at) ρ v r → Works (made_at action kind) ρ v r
-    ruled action ρ v r = subst (λ (a : Formula). Works a ρ v r) (formula_at_lem action t formed at kind inside (sym k.are))
-
-    -- which of two it is
-    pub ruled_by : (action : ℕ → Action) (ρ : Valuation) (v : States) (r : ℕ) (P : ℕ → Type 0) → high ≡ low + 1
-        → (Works (made_at action low) ρ v r → P low) → (Works (made_at action high) ρ v r → P high) → Works (formula_at action t at) ρ v r → P kind
-    ruled_by action ρ v r P e f g d = by_kind (λ m. Works (made_at action m) ρ v r → P m) k e f g (ruled action ρ v r d)
+    ruled action ρ v r = subst (λ (a : Formula). Works a ρ v r) (formula_at_lem action t formed at kind inside k)

@@ -1,12 +1,10 @@
 // Evaluating a formula on sets of states: each node after its operands, a binder by rounds.
-ghost use Rattle.std.specs.Prelude.{◌≡◌, ◌≤◌, eqb};
-ghost use Rattle.sets.specs.States.{start as sign_start};
-ghost use Rattle.sets.specs.Words.{words, word_count, state_limit};
-ghost use Rattle.cases.specs.internal.Kinds.{formula_number};
+ghost use Rattle.std.specs.Prelude.{◌≡◌, ◌+◌, ◌<◌};
+ghost use Rattle.cases.specs.File.{node_limit};
 ghost use Rattle.routes.specs.Route.{direct, run_of};
 ghost use Rattle.routes.specs.internal.Answering.{Rooted};
 ghost use Rattle.routes.specs.internal.Given.{case_given};
-ghost use Rattle.routes.specs.internal.Evaluating.{Joined, Asks, KindAt, Evaluated};
+ghost use Rattle.routes.specs.internal.Evaluating.{Asks, Starts, Evaluated};
 
 use crate::Value;
 use crate::direct_case::DirectCase;
@@ -16,75 +14,74 @@ use cases::{FormulaKind, action_masks};
 use sets::{Set, WORDS};
 use solver::BLOCKS;
 
+impl Value {
+    // The value of a node without operands.
+    fn leaf(set: Set, at: usize, used: u64) -> Value
+        requires { at < node_limit }
+        ensures { result ≡ record { set = set; next = at + 1; rounds = used } }
+    {
+        Value {
+            set,
+            next: at + 1,
+            rounds: used,
+        }
+    }
+
+    // The value of a node whose last operand has this one.
+    fn with_set(self, set: Set) -> Value
+        ensures { result ≡ record { set = set; next = self.next; rounds = self.rounds } }
+    {
+        Value { set, ..self }
+    }
+}
+
 impl<'a> Evaluator<'a> {
-    // The set of node `at`, after `used` rounds; none if they are spent.
-    #[cycle(binder_evaluate_modal_pair)]
+    // The value of node `at`, after `used` rounds; none if they are spent.
+    #[cycle(binder_evaluate)]
     fn evaluate(&self, sets: &[Set; BLOCKS], at: usize, used: u64) -> Option<Value>
         requires { Asks self.now at used }
         ensures { Evaluated self.now sets.now at used result }
     {
+        let n = self.case.header.states;
         let node = self.case.formula.at(at);
-        let kind = node.formula_kind();
-        match kind {
-            FormulaKind::False => Some(Value {
-                set: sets::empty(),
-                next: at + 1,
-                rounds: used,
-            }),
-            FormulaKind::True => Some(Value {
-                set: sets::full(self.case.header.states),
-                next: at + 1,
-                rounds: used,
-            }),
-            FormulaKind::And | FormulaKind::Or => self.pair(sets, at, kind, used),
-            FormulaKind::Box | FormulaKind::Diamond => self.modal(sets, at, kind, used),
-            FormulaKind::Variable => Some(Value {
-                set: sets[usize::from(self.blocks[node.arg])],
-                next: at + 1,
-                rounds: used,
-            }),
-            FormulaKind::Mu | FormulaKind::Nu => self.binder(sets, at, kind, used),
+        match node.formula_kind() {
+            FormulaKind::False => Some(Value::leaf(sets::empty(), at, used)),
+            FormulaKind::True => Some(Value::leaf(sets::full(n), at, used)),
+            FormulaKind::And => {
+                let left = self.evaluate(sets, at + 1, used)?;
+                let right = self.evaluate(sets, left.next, left.rounds)?;
+                Some(right.with_set(sets::intersection(left.set, right.set)))
+            }
+            FormulaKind::Or => {
+                let left = self.evaluate(sets, at + 1, used)?;
+                let right = self.evaluate(sets, left.next, left.rounds)?;
+                Some(right.with_set(sets::union(left.set, right.set)))
+            }
+            FormulaKind::Box => {
+                let one = self.evaluate(sets, at + 1, used)?;
+                Some(one.with_set(self.box_set(self.masks[node.arg], &one.set)))
+            }
+            FormulaKind::Diamond => {
+                let one = self.evaluate(sets, at + 1, used)?;
+                Some(one.with_set(self.diamond_set(self.masks[node.arg], &one.set)))
+            }
+            FormulaKind::Variable => Some(Value::leaf(sets[self.blocks[node.arg]], at, used)),
+            FormulaKind::Mu => self.binder(sets, at, sets::empty(), used),
+            FormulaKind::Nu => self.binder(sets, at, sets::full(n), used),
         }
     }
 
-    // An and or an or: both operands, left first.
-    #[cycle(binder_evaluate_modal_pair)]
-    fn pair(&self, sets: &[Set; BLOCKS], at: usize, kind: FormulaKind, used: u64) -> Option<Value>
-        requires { Asks self.now at used × KindAt self.now at (formula_number kind) 2 3 }
+    // The value of a mu or a nu, by the rounds of its loop from a first set. The sets of outer binders are held.
+    #[cycle(binder_evaluate)]
+    fn binder(&self, sets: &[Set; BLOCKS], at: usize, first: Set, used: u64) -> Option<Value>
+        requires { Asks self.now at used × Starts self.now at first }
         ensures { Evaluated self.now sets.now at used result }
     {
-        let left = self.evaluate(sets, at + 1, used)?;
-        let right = self.evaluate(sets, left.next, left.rounds)?;
-        Some(Value {
-            set: joined(kind, left.set, right.set),
-            ..right
-        })
-    }
-
-    // A box or a diamond.
-    #[cycle(binder_evaluate_modal_pair)]
-    fn modal(&self, sets: &[Set; BLOCKS], at: usize, kind: FormulaKind, used: u64) -> Option<Value>
-        requires { Asks self.now at used × KindAt self.now at (formula_number kind) 4 5 }
-        ensures { Evaluated self.now sets.now at used result }
-    {
-        let action = self.case.formula.at(at).arg;
-        let one = self.evaluate(sets, at + 1, used)?;
-        Some(Value {
-            set: self.modal_set(kind, self.masks[action], &one.set),
-            ..one
-        })
-    }
-
-    // A mu or a nu: the rounds of its loop. The sets of outer binders are held.
-    #[cycle(binder_evaluate_modal_pair)]
-    fn binder(&self, sets: &[Set; BLOCKS], at: usize, kind: FormulaKind, used: u64) -> Option<Value>
-        requires { Asks self.now at used × KindAt self.now at (formula_number kind) 7 8 }
-        ensures { Evaluated self.now sets.now at used result }
-    {
-        let k = usize::from(self.blocks[at]);
-        let mut held = start(kind, self.case.header.states);
+        let k = self.blocks[at];
+        let mut held = first;
         let mut before = used;
         let mut s = *sets;
+        // A fixed point: how many rounds there are is not known before.
         loop {
             s[k] = held;
             let one = self.evaluate(&s, at + 1, before)?;
@@ -104,28 +101,7 @@ impl<'a> Evaluator<'a> {
     }
 }
 
-// The states in both sets; for an or, those in at least one.
-fn joined(kind: FormulaKind, left: Set, right: Set) -> Set
-    ensures { Joined (formula_number kind) left right result }
-{
-    match kind {
-        FormulaKind::Or => sets::union(left, right),
-        _ => sets::intersection(left, right),
-    }
-}
-
-// Where a binder's loop starts: no state; for a nu, every state below n.
-fn start(kind: FormulaKind, n: usize) -> Set
-    requires { n ≤ state_limit }
-    ensures { result ≡ words word_count (sign_start n (eqb (formula_number kind) 8)) }
-{
-    match kind {
-        FormulaKind::Nu => sets::full(n),
-        _ => sets::empty(),
-    }
-}
-
-// The set of a formula's root.
+// The value of a formula's root.
 pub fn evaluate_root(case: &DirectCase<'_>, limit: u64) -> Option<Value>
     ensures { Rooted (run_of direct (case_given case.now)) limit result }
 {

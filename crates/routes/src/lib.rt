@@ -20,7 +20,7 @@ ghost use Rattle.routes.specs.internal.Given.{case_given};
 use cases::{Header, OpenCase, TRANSITIONS, Tally, first_appearances};
 pub use direct_case::DirectCase;
 use evaluate::evaluate_root;
-pub use outcome::{numbers_of, solving_answer};
+pub use outcome::solving_answer;
 use sets::{Set, WORDS};
 pub use solver::Report;
 use translate::write_case;

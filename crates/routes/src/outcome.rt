@@ -66,10 +66,3 @@ impl From<Answer> for Numbers {
         }
     }
 }
-
-// The same.
-pub fn numbers_of(answer: Answer) -> Numbers
-    ensures { shown result ≡ route_answer answer }
-{
-    Numbers::from(answer)
-}

@@ -7,15 +7,15 @@ ghost use Rattle.routes.specs.internal.Parts.{BinderBlocks};
 use cases::{NODES, Nodes};
 
 // How many binders stand before each node.
-pub fn blocks_of(formula: &Nodes<'_>) -> [u8; NODES]
+pub fn blocks_of(formula: &Nodes<'_>) -> [usize; NODES]
     requires { NodesFit node_limit formula.now.part.now formula.now.count }
     ensures { (length result ≡ node_limit) × BinderBlocks (nodes_in formula.now.part.now formula.now.count) result }
 {
-    let mut blocks = [0u8; NODES];
+    let mut blocks = [0; NODES];
     let mut count = 0;
     for i in 0..formula.count {
         blocks[i] = count;
-        count += u8::from(formula.at(i).is_binder());
+        count += usize::from(formula.at(i).is_binder());
     }
     blocks
 }

@@ -1,7 +1,6 @@
 -- What the evaluator is asked, and what it answers.
-use Rattle.std.specs.Prelude.{◌≡◌, Bool, true, cond, ◌&&◌, ◌||◌, eqb, List, [], map, ℕ, ◌+◌, ◌<◌, ◌≤◌, length, get_or, take, Option, MatchOption}
-use Rattle.sets.specs.States.{States, has, Valuation}
-use Rattle.sets.specs.Lists.{numbers_from}
+use Rattle.std.specs.Prelude.{◌≡◌, Bool, true, eqb, List, [], map, ℕ, ◌+◌, ◌<◌, ◌≤◌, length, get_or, take, Option, MatchOption}
+use Rattle.sets.specs.States.{States, start, Valuation}
 use Rattle.sets.specs.Words.{words, word_count}
 use Rattle.cases.specs.Action.{Action}
 use Rattle.cases.specs.declared.Node.{Node}
@@ -9,20 +8,11 @@ use Rattle.cases.specs.declared.Transition.{Transition}
 use Rattle.cases.specs.Prefix.{arity_in, formula_arities, end_of, formula_at}
 use Rattle.cases.specs.Conditions.{node_at, is_binder, binder_count}
 use Rattle.cases.specs.internal.Masks.{mask_of, ActionMasks}
-use Rattle.cases.specs.Meaning.{set_of, box_in, diamond_in}
+use Rattle.cases.specs.Meaning.{set_of}
 use Rattle.cases.specs.internal.Checks.{transitions_in, nodes_in}
 use Rattle.routes.specs.Direct.{Direct}
 use Rattle.routes.specs.declared.Value.{Value}
 use Rattle.routes.specs.declared.evaluator.Evaluator.{Evaluator}
-
--- the property of a state that a box or a diamond asks for
-abbrev pub modal_in : Bool → ℕ → List Transition → Action → States → ℕ → Bool
-modal_in diamond n ts α v = cond diamond (diamond_in n ts α v) (box_in n ts α v)
-
--- the words of the states in both sets, or for the kind of an or in at least one
-abbrev pub Joined : ℕ → List ℕ → List ℕ → List ℕ → Type 0
-Joined kind left right both = (n : ℕ) (v w : States) → length v ≡ n → length w ≡ n → left ≡ words word_count v → right ≡ words word_count w
-    → both ≡ words word_count (map (λ s. cond (eqb kind 3) (has v s || has w s) (has v s && has w s)) (numbers_from 0 n))
 
 -- row k is the words of the set of the binder with block k
 pub record Shown (n : ℕ) (table : List Node) (rows : List (List ℕ)) (ρ : Valuation) : Type 0 where
@@ -51,11 +41,11 @@ pub record Asks (ev : Evaluator) (at used : ℕ) : Type 0 where
   pub node : at < ev.case.header.nodes
   pub within : used ≤ ev.limit
 
--- the kind of node `at`, which is one of two
-pub record KindAt (ev : Evaluator) (at kind low high : ℕ) : Type 0 where
-  pub are : kind ≡ (node_at (nodes_of ev) at).kind
-  pub from : low ≤ kind
-  pub to : kind ≤ high
+-- a mu or a nu at node `at`, and the words of the set where its loop starts
+pub record Starts (ev : Evaluator) (at : ℕ) (first : List ℕ) : Type 0 where
+  pub from : 7 ≤ (node_at (nodes_of ev) at).kind
+  pub to : (node_at (nodes_of ev) at).kind ≤ 8
+  pub set : first ≡ words word_count (start (states_of ev) (eqb (node_at (nodes_of ev) at).kind 8))
 
 module _ (ev : Evaluator) (rows : List (List ℕ)) (at used : ℕ) where
   -- what the rule works out at the node

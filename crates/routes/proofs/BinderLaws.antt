@@ -24,7 +24,7 @@ use Rattle.cases.proofs.Spans.{end_one}
 use Rattle.routes.specs.Direct.{Direct}
 use Rattle.cases.specs.internal.Masks.{ActionMasks}
 use Rattle.routes.specs.internal.Evaluating.{nodes_of, transitions_of, Shown, Asks, Starts, Reached, Exceeded}
-use Rattle.routes.specs.declared.Value.{Value}
+use Rattle.routes.specs.declared.evaluate.Value.{Value}
 use Rattle.routes.specs.declared.evaluator.Evaluator.{Evaluator}
 use Rattle.routes.proofs.DirectLaws.{direct_sized}
 use Rattle.routes.proofs.NodeLaws.{Binder, apart, by_sign, inside, in_arities, operand, block_of, arity, ruled}

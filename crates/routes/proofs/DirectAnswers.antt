@@ -1,27 +1,27 @@
 -- What a run promises with each answer, by its conditions; and what direct answers from the parts of a case.
 use mathlib.Core.Path.{◌≡◌, refl, sym, ap, ◌∙◌}
-use mathlib.Core.Bool.{Bool, false}
+use mathlib.Core.Bool.{false}
 use mathlib.Core.List.{List, ◌++◌}
 use Prim.Native.Nat.{ℕ, ◌<◌, ◌≤◌}
 use native.Mathlib.Omega.{arith}
 use borrow.Author.Tests.{lt-ltb, le-ltb}
 use lib.ListN.{length, drop, length-replicate}
-use Rattle.std.specs.Prelude.{Ok, Err}
+use Rattle.std.specs.Prelude.{Result, Ok, Err, Option, None}
+use Rattle.std.specs.Option.{ok_or}
 use Rattle.sets.specs.States.{all_empty}
-use Rattle.sets.specs.Words.{words, marked, word_count, state_limit}
-use Rattle.sets.specs.internal.Size.{SizeIs}
+use Rattle.sets.specs.Words.{words, word_count}
 use Rattle.sets.specs.Refusals.{Conditions, first_of, refused, outcome_by, Outcome, report_of}
-use Rattle.sets.proofs.Words.{marked_words}
 use Rattle.sets.proofs.Refusals.{refusing, reports, refuses}
-use Rattle.cases.specs.declared.Header.{Header}
 use Rattle.cases.specs.Case.{Case}
+use Rattle.solver.specs.declared.Cause.{Cause}
 use Rattle.solver.specs.declared.Cause.TheVariants.{Memory, Spent}
-use Rattle.solver.specs.Outcome.{solve_number}
+use Rattle.solver.specs.Outcome.{solve_number, solve_answer}
+use Rattle.solver.specs.internal.Working.{Reported}
 use Rattle.routes.specs.declared.Cause.TheVariants.{Run}
 use Rattle.solver.specs.declared.Report.{Report}
-use Rattle.routes.specs.declared.Value.{Value}
+use Rattle.routes.specs.declared.evaluate.Value.{Value}
 use Rattle.routes.specs.Route.{route_number, route_answer, Route, direct, run_of, marks_only, too_short, exceeds, run_conditions, route_outcome, marks_after, RanBy}
-use Rattle.routes.specs.internal.Answering.{Reported, RootValue}
+use Rattle.routes.specs.internal.Answering.{RootValue}
 use Rattle.routes.specs.internal.Parts.{case_in}
 use Rattle.routes.specs.internal.Given.{case_given}
 use Rattle.routes.specs.declared.direct_case.DirectCase.{DirectCase}
@@ -32,9 +32,14 @@ pub memory_is : route_answer (Err (Run Memory)) ≡ refused 13
 unfolding route_answer route_number solve_number
 memory_is = refl
 
-pub spent_is : route_answer (Err (Run Spent)) ≡ refused 14
-unfolding route_answer route_number solve_number
-spent_is = refl
+-- the number of a cause in place of a value
+number_in : Result Value Cause → ℕ
+number_in (Ok x) = 0
+number_in (Err cause) = solve_number cause
+
+pub spent_is : {o : Option Value} {cause : Cause} → Err cause ≡ ok_or o Spent → o ≡ None → route_answer (Err (Run cause)) ≡ refused 14
+unfolding number_in route_answer route_number solve_number
+spent_is is none = ap (λ (r : Result Value Cause). refused (number_in r)) (is ∙ ap (λ (o : Option Value). ok_or o Spent) none)
 
 -- ---- by the conditions
 
@@ -57,20 +62,6 @@ module _ {R : Route} {c : Case} {marks : List ℕ} where
   pub ran_first : {cs ds : Conditions} {o : Outcome} {after : List ℕ} → first_of cs ≡ first_of ds → RanBy cs R c marks o after → RanBy ds R c marks o after
   unfolding route_outcome marks_after outcome_by
   ran_first e r = record { answers = rw e at r.answers; marks_are = rw e at r.marks_are }
-
--- ---- the report
-
--- what is read from a set's words is what is reported of the set
-pub reported : {h : Header} {set : List ℕ} {rounds : ℕ} {verdict : Bool} {count : ℕ} → h.states ≤ state_limit → h.initial < state_limit
-    → verdict ≡ marked set h.initial → SizeIs set count
-    → Reported h set rounds (record { verdict = verdict; count = count; rounds = rounds })
-unfolding route_answer
-reported {h} few low p q = record {
-  are = λ c i v l e.
-      let first = p ∙ ap (λ (w : List ℕ). marked w h.initial) e ∙ marked_words word_count v h.initial low in
-      let many = q v (omega (arith, l)) e in
-      rw (i, first, many);
-}
 
 -- ---- direct, from the parts of a case
 
@@ -110,9 +101,9 @@ module _ (d : DirectCase) (marks : List ℕ) (limit : ℕ) where
     spent is over = ran_refused is (number_14 c marks limit room over) (λ z. omega arith)
 
     -- success
-    pub solved : {x : Value} → RootValue (run_of direct c) limit x → {report : Report} → Reported d.header x.set x.rounds report
+    pub solved : {x : Value} → RootValue (run_of direct c) limit x → {report : Report} → Reported x.set d.header.initial x.rounds report
         → {after : List ℕ} → after ≡ x.set ++ drop word_count marks → RanBy (conditions c marks limit) direct c marks (route_answer (Ok report)) after
-    unfolding case_in
+    unfolding case_in route_answer solve_answer
     solved r f is = ran_solved (number_0 c marks limit room r.within)
-        (f.are c refl (run_of direct c).0 (run_sized c) r.set ∙ ap (report_of c.initial (run_of direct c).0) r.rounds)
+        (f.are (run_of direct c).0 (omega (arith, run_sized c, d.parts.model.few_states)) r.set ∙ ap (report_of c.initial (run_of direct c).0) r.rounds)
         (is ∙ ap (λ (w : List ℕ). w ++ drop word_count marks) r.set)

@@ -18,7 +18,7 @@ use Rattle.cases.specs.Meaning.{set_of, intersection, union, box_in, diamond_in}
 use Rattle.cases.proofs.Spans.{end_leaf, end_one, end_two, second_node, second_inside}
 use Rattle.routes.specs.Direct.{FromTwo, FromOne, Direct}
 use Rattle.routes.specs.internal.Evaluating.{Finds, nodes_of, transitions_of, Shown, Asks, Reached, Exceeded}
-use Rattle.routes.specs.declared.Value.{Value}
+use Rattle.routes.specs.declared.evaluate.Value.{Value}
 use Rattle.routes.specs.declared.evaluator.Evaluator.{Evaluator}
 use Rattle.routes.proofs.DirectLaws.{direct_sized}
 use Rattle.routes.proofs.TableLaws.{modal_arg}

@@ -23,7 +23,7 @@ use Rattle.cases.specs.Conditions.{transition_ok}
 use Rattle.cases.specs.Meaning.{set_of, from, box_in, diamond_in}
 use Rattle.cases.proofs.TableTrees.{held}
 use Rattle.cases.proofs.MeaningLaws.{all_not}
-use Rattle.translate.proofs.ShapeLaws.{mask_bit, mark_low, map_range_more}
+use Rattle.translate.proofs.ShapeLaws.{mask_bit, map_range_more}
 use Rattle.routes.specs.internal.Parts.{Records}
 use Rattle.routes.specs.internal.Evaluating.{transitions_of}
 use Rattle.routes.specs.declared.evaluator.Evaluator.{Evaluator}
@@ -34,16 +34,13 @@ use Rattle.routes.specs.declared.evaluator.Evaluator.{Evaluator}
 abbrev pub leads_to : Action → States → Transition → Bool
 leads_to α v t = accepts α t.label && has v t.target
 
-module _ {labels : ℕ} (α : Action) (e : labels ≡ mask_of α) {x : ℕ} (low : x < label_limit) where
-  -- bit x of the mask, as the code reads it, says whether label x is accepted
-  bit_accepts : eqb (labels / 2 ^ x % 2) 1 ≡ accepts α x
-  bit_accepts = sym (mark_low labels x low) ∙ ap (λ (k : ℕ). marked (k ∷ []) x) e ∙ mask_bit α x low
+-- bit x of the labels says whether label x is accepted
+pub accepts_is : {labels : ℕ} (α : Action) → labels ≡ mask_of α → {x : ℕ} → x < label_limit → accepts α x ≡ marked (labels ∷ []) x
+accepts_is α e {x} low = sym (mask_bit α x low) ∙ ap (λ (k : ℕ). marked (k ∷ []) x) (sym e)
 
-  pub accepted : labels / 2 ^ x % 2 ≡ 1 → accepts α x ≡ true
-  accepted is = sym bit_accepts ∙ eq-eqb _ _ is
-
-  pub not_accepted : ¬ (labels / 2 ^ x % 2 ≡ 1) → accepts α x ≡ false
-  not_accepted is = sym bit_accepts ∙ ne_eqb _ _ is
+-- bit x of a set's words says whether state x is in it
+pub has_is : {held : List ℕ} (v : States) → held ≡ words word_count v → {x : ℕ} → x < state_limit → has v x ≡ marked held x
+has_is v e {x} low = sym (marked_words word_count v x low) ∙ ap (λ (ws : List ℕ). marked ws x) (sym e)
 
 -- a transition whose ends are states and whose label is a label
 pub record InRange (n : ℕ) (t : Transition) : Type 0 where

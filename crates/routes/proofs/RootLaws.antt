@@ -30,7 +30,7 @@ use Rattle.cases.proofs.Masks.{whole_actions}
 use Rattle.cases.proofs.ModelRules.{labels_inside, transitions_inside, actions_inside, nodes_inside}
 use Rattle.cases.proofs.Tallies.{model_holds}
 use Rattle.cases.proofs.FormulaRules.{length_nodes}
-use Rattle.routes.specs.declared.Value.{Value}
+use Rattle.routes.specs.declared.evaluate.Value.{Value}
 use Rattle.routes.specs.computed.Worked.{worked}
 use Rattle.routes.specs.Route.{direct, run_of, marks_only, run_conditions, RanBy, Ran}
 use Rattle.routes.specs.internal.Answering.{Rooted}

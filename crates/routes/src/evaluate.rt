@@ -6,13 +6,20 @@ ghost use Rattle.routes.specs.internal.Answering.{Rooted};
 ghost use Rattle.routes.specs.internal.Given.{case_given};
 ghost use Rattle.routes.specs.internal.Evaluating.{Asks, Starts, Evaluated};
 
-use crate::Value;
 use crate::direct_case::DirectCase;
 use crate::evaluator::Evaluator;
 use crate::tables::blocks_of;
 use cases::{FormulaKind, action_masks};
 use sets::{Set, WORDS};
 use solver::BLOCKS;
+
+// The set of a node, the node after its subtree, and the rounds so far.
+#[derive(Clone, Copy)]
+pub struct Value {
+    pub set: Set,
+    pub next: usize,
+    pub rounds: u64,
+}
 
 impl Value {
     // The value of a node without operands.
@@ -44,7 +51,8 @@ impl<'a> Evaluator<'a> {
     {
         let n = self.case.header.states;
         let node = self.case.formula.at(at);
-        match node.formula_kind() {
+        let kind = node.formula_kind();
+        match kind {
             FormulaKind::False => Some(Value::leaf(sets::empty(), at, used)),
             FormulaKind::True => Some(Value::leaf(sets::full(n), at, used)),
             FormulaKind::And => {

@@ -8,20 +8,18 @@ mod modal;
 mod outcome;
 mod tables;
 
-ghost use Rattle.std.specs.Prelude.{◌≡◌, ◌<◌, ◌≤◌};
-ghost use Rattle.sets.specs.Words.{state_limit};
+ghost use Rattle.std.specs.Prelude.{◌≡◌};
 ghost use Rattle.sets.specs.Refusals.{refused as refused_outcome};
 ghost use Rattle.cases.specs.Opening.{case_number};
 ghost use Rattle.cases.specs.Tally.{no_tally};
 ghost use Rattle.routes.specs.Route.{route_answer, direct as direct_route, lent, marks_only, run_conditions, RanBy, Ran, EquationRan};
-ghost use Rattle.routes.specs.internal.Answering.{Reported};
 ghost use Rattle.routes.specs.internal.Given.{case_given};
 
-use cases::{Header, OpenCase, TRANSITIONS, Tally, first_appearances};
+use cases::{OpenCase, TRANSITIONS, Tally, first_appearances};
 pub use direct_case::DirectCase;
 use evaluate::evaluate_root;
 pub use outcome::solving_answer;
-use sets::{Set, WORDS};
+use sets::WORDS;
 pub use solver::Report;
 use translate::write_case;
 
@@ -43,33 +41,13 @@ pub struct Tallied {
 }
 
 // The numbers of an answer: the refusal number (0 if none), the verdict as 1 or 0, the count and the rounds; the last three are 0 after a
-// refusal.
+// refusal. They are numbers because C is handed them.
 #[derive(Clone, Copy)]
 pub struct Numbers {
     pub refusal: u64,
     pub verdict: u64,
     pub count: u64,
     pub rounds: u64,
-}
-
-// The set of a node, the node after its subtree, and the rounds so far.
-#[derive(Clone, Copy)]
-pub struct Value {
-    pub set: Set,
-    pub next: usize,
-    pub rounds: u64,
-}
-
-// What is reported of a set of states, after so many rounds.
-fn report_of(h: Header, set: Set, rounds: u64) -> Report
-    requires { (h.states ≤ state_limit) × (h.initial < state_limit) }
-    ensures { Reported h set rounds result }
-{
-    Report {
-        verdict: sets::test(&set, h.initial),
-        count: sets::count(&set),
-        rounds,
-    }
 }
 
 // Direct on a case and its tables.
@@ -80,12 +58,9 @@ pub fn direct_parts(case: &DirectCase<'_>, marks: &mut [u64], limit: u64) -> Ans
     if marks.len() < WORDS {
         return Err(Cause::Run(solver::Cause::Memory));
     }
-    let Some(value) = evaluate_root(case, limit) else {
-        return Err(Cause::Run(solver::Cause::Spent));
-    };
-    let set = value.set;
-    sets::store(marks, set);
-    Ok(report_of(case.header, set, value.rounds))
+    let value = evaluate_root(case, limit).ok_or(solver::Cause::Spent)?;
+    sets::store(marks, value.set);
+    Ok(Report::of_set(&value.set, case.header.initial, value.rounds))
 }
 
 // Direct on an accepted case.

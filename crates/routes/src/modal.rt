@@ -15,8 +15,8 @@ impl<'a> Evaluator<'a> {
         let transitions = self.case.transitions;
         for i in 0..transitions.count {
             let t = transitions.at(i);
-            if (labels >> t.label) % 2 == 1 && sets::test(set, t.target) {
-                sets::add(&mut found, t.source);
+            if sets::has_bit(labels, t.label) && sets::test(set, t.target) {
+                sets::put(&mut found, t.source, true);
             }
         }
         found

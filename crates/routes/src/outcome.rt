@@ -24,7 +24,7 @@ impl From<solver::Cause> for Cause {
     }
 }
 
-// An answer of solve's.
+// An answer of solve's. Neither of the two types is this crate's, so there can be no `From` between them.
 pub fn solving_answer(answer: solver::Answer) -> Answer
     ensures { route_answer result ≡ solve_answer answer }
 {

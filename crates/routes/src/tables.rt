@@ -6,7 +6,7 @@ ghost use Rattle.routes.specs.internal.Parts.{BinderBlocks};
 
 use cases::{NODES, Nodes};
 
-// How many binders stand before each node.
+// How many binders stand before each node. The count goes along from node to node; a function of the place alone would count anew at each.
 pub fn blocks_of(formula: &Nodes<'_>) -> [usize; NODES]
     requires { NodesFit node_limit formula.now.part.now formula.now.count }
     ensures { (length result ≡ node_limit) × BinderBlocks (nodes_in formula.now.part.now formula.now.count) result }

@@ -11,7 +11,7 @@ use Rattle.cases.specs.internal.Masks.{mask_of, ActionMasks}
 use Rattle.cases.specs.Meaning.{set_of}
 use Rattle.cases.specs.internal.Checks.{transitions_in, nodes_in}
 use Rattle.routes.specs.Direct.{Direct}
-use Rattle.routes.specs.declared.Value.{Value}
+use Rattle.routes.specs.declared.evaluate.Value.{Value}
 use Rattle.routes.specs.declared.evaluator.Evaluator.{Evaluator}
 
 -- row k is the words of the set of the binder with block k

@@ -14,7 +14,7 @@ use Rattle.cases.specs.Action.{Action}
 use Rattle.cases.specs.Formula.{Formula}
 use Rattle.cases.specs.declared.Node.{Node}
 use Rattle.cases.specs.declared.kinds.FormulaKind.{FormulaKind}
-use Rattle.cases.specs.Kinds.{formula_number}
+use Rattle.cases.specs.internal.Kinds.{formula_number}
 use Rattle.cases.specs.File.{node_in}
 use Rattle.cases.specs.Prefix.{arity_in, formula_arities, whole_formulas, end_of, formula_at}
 use Rattle.cases.specs.Conditions.{node_at, is_binder, binder_count}

@@ -4,7 +4,7 @@ use Rattle.routes.proofs.direct_opened.Goals as goal
 pub invariant_of-given : goal.invariant_of-given
 invariant_of-given c =
     let b = c.args.case.now in record {
-      parts = given_parts _ b.accepted b.read c.labels.ensures.part c.transitions.ensures.part c.actions.ensures.part c.formula.ensures.part;
+      parts = given_parts _ b.accepted b.laid.laid.read c.labels.ensures.part c.transitions.ensures.part c.actions.ensures.part c.formula.ensures.part;
       transition_count = c.transitions.ensures.count;
       node_count = c.formula.ensures.count;
     }
@@ -12,5 +12,5 @@ invariant_of-given c =
 pub returns : goal.returns
 returns c =
     let b = c.args.case.now in
-    let is = given_case _ b.accepted b.read c.labels.ensures.part c.transitions.ensures.part c.actions.ensures.part c.formula.ensures.part in
+    let is = given_case _ b.accepted b.laid.laid.read c.labels.ensures.part c.transitions.ensures.part c.actions.ensures.part c.formula.ensures.part in
     case_ran _ b.accepted c.direct_parts-answer.ensures is c.first_appearances-tally.ensures.tally

@@ -1,5 +1,5 @@
 -- What the parts of the two calls answer.
-use Rattle.std.specs.Prelude.{◌≡◌, List, ℕ, ◌<◌, ◌≤◌, Option, MatchOption}
+use Rattle.std.specs.Prelude.{◌≡◌, ℕ, ◌<◌, ◌≤◌, Option, MatchOption}
 use Rattle.sets.specs.Words.{words, word_count}
 use Rattle.sets.specs.computed.Iteration.{Worked}
 use Rattle.routes.specs.declared.evaluate.Value.{Value}

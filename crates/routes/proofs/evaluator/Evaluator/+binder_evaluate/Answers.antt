@@ -1,11 +1,8 @@
 -- Each kind of node works out what its rule says; a binder's loop starts, goes on and stops as the rule's does.
-use mathlib.Core.Path.{refl, sym, ap, ◌∙◌}
+use mathlib.Core.Path.{refl, sym, ◌∙◌}
 use native.Mathlib.Omega.{arith}
 use borrow.Author.Rules.{rules}
-use Prim.Native.Nat.{◌<◌}
 use Rattle.std.specs.Cmp.Lexicographic.{same_text, other_text}
-use Rattle.cases.specs.internal.Kinds.{formula_number}
-use Rattle.cases.specs.declared.kinds.FormulaKind.TheVariants.{False, True, And, Or, Box, Diamond, Mu, Nu}
 use Rattle.routes.proofs.NodeLaws.{kind_is, kind_known, binder_of, block_read, block_fits}
 use Rattle.routes.proofs.EvaluateLaws.{false_done, true_done, variable_done, box_at, diamond_at, one_asked, mask_read, one_spent, one_done, and_at, or_at, left_asked, left_spent, right_asked, right_after, right_spent, two_done}
 use Rattle.routes.proofs.BinderLaws.{mu_starts, nu_starts, own_binder, binder_body, body_spent, round_spent, stopped, replaced}

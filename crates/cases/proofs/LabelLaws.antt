@@ -85,11 +85,12 @@ occurrences_are k (x ∷ xs) = go (eqb x k) (occurrences_are k xs)
     go false rest = rest ∙ sym (zero-add _)
 
 -- The names are the same multiset if there are equally many of each number that is a name.
-pub names_by_numbers : (x y : Label) → every (equally_many (record_numbers x) (record_numbers y)) (record_numbers x ++ record_numbers y) ≡ same_names (names_of x) (names_of y)
+pub names_by_numbers : (x y : Label)
+    → (every (equally_many (record_numbers x) (record_numbers y)) (record_numbers x) && every (equally_many (record_numbers x) (record_numbers y)) (record_numbers y))
+    ≡ same_names (names_of x) (names_of y)
 unfolding same_names names_of
 names_by_numbers x y =
-    all_of_both (equally_many (record_numbers x) (record_numbers y)) (record_numbers x) (record_numbers y)
-    ∙ sym (all_of_both equal (names_of x) (names_of y) ∙ ap₂ ◌&&◌ (each (record_numbers x)) (each (record_numbers y)))
+    sym (all_of_both equal (names_of x) (names_of y) ∙ ap₂ ◌&&◌ (each (record_numbers x)) (each (record_numbers y)))
   where
     equal : ℕ → Bool
     equal k = eqb (occurrences k (names_of x)) (occurrences k (names_of y))

@@ -1,6 +1,6 @@
 // The label part: condition 15, and the labels that are alike to a label, as a mask with a bit for each label.
 ghost use Rattle.std.specs.Prelude.{◌≡◌, map, ◌<◌, ◌≤◌};
-ghost use Rattle.sets.specs.Lists.{numbers_from};
+ghost use Rattle.sets.specs.Lists.{numbers_from, every};
 ghost use Rattle.sets.specs.Words.{number_of_bits};
 ghost use Rattle.cases.specs.File.{label_records, label_limit};
 ghost use Rattle.cases.specs.Labels.{record_numbers, names_of, occurrences as list_occurrences, same_names, alike_labels};
@@ -30,7 +30,7 @@ pub fn bad_labels(case: &LaidCase<'_>) -> bool
 fn occurrences(x: &Label, k: usize) -> usize
     ensures { result ≡ list_occurrences k (record_numbers x.now) }
 {
-    x.names.iter().filter(|n| **n == k).count()
+    x.names.iter().map(|n| usize::from(*n == k)).sum()
 }
 
 // Whether k is a name of x as many times as of y, if it is one.
@@ -40,14 +40,18 @@ fn equally_many(x: &Label, y: &Label, k: usize) -> bool
     k == 0 || occurrences(x, k) == occurrences(y, k)
 }
 
+// Whether that holds of each name of z.
+fn all_equally_many(x: &Label, y: &Label, z: &Label) -> bool
+    ensures { result ≡ every (equally_many (record_numbers x.now) (record_numbers y.now)) (record_numbers z.now) }
+{
+    z.names.iter().all(|k| equally_many(x, y, *k))
+}
+
 // Whether the names of two labels are the same multiset. Most that are not differ in the first name, which is looked at first.
 fn same_names(x: &Label, y: &Label) -> bool
     ensures { result ≡ same_names (names_of x.now) (names_of y.now) }
 {
-    x.names
-        .iter()
-        .chain(y.names.iter())
-        .all(|k| equally_many(x, y, *k))
+    all_equally_many(x, y, x) && all_equally_many(x, y, y)
 }
 
 // The labels with the same names as label j. They are read from the last one down, and each makes the mask one bit longer.

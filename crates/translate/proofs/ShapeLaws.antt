@@ -22,6 +22,7 @@ use Rattle.sets.specs.Words.{number_of_bits, words, marked, bit}
 use Rattle.sets.proofs.Lists.{and_left, and_right, length_table, table_at}
 use Rattle.sets.proofs.Words.{marked_words}
 use Rattle.solver.specs.Cells.{Cell, operands_of}
+use Rattle.solver.specs.internal.Reading as reading
 use Rattle.cases.specs.Action.{Action, accepts}
 use Rattle.cases.specs.Formula.{Formula, False, True, And, Or, Box, Diamond, Variable, Fix}
 use Rattle.cases.specs.declared.Transition.{Transition}
@@ -32,7 +33,7 @@ use Rattle.translate.specs.Bytes.{all_operands, cell_numbers}
 use Rattle.translate.specs.Cells.{targets, cell_of}
 use Rattle.translate.specs.declared.Shape.{Shape}
 use Rattle.translate.specs.declared.bytes.Writer.{Writer}
-use Rattle.translate.specs.internal.Writing.{shape_of, leaves, shape_operands, shape_kind, shape_cell}
+use Rattle.translate.specs.internal.Writing.{shape_of, leaves, shape_operands, file_cell, shape_cell}
 use Rattle.translate.proofs.Counts.{operands_append}
 use Rattle.translate.proofs.Putting.{wrote_none, wrote_then}
 use Rattle.translate.specs.internal.Parts.{Wrote, WroteCells, flagged, distinct_in, leaves_at, leaving, target_cells, target_cell}
@@ -265,42 +266,34 @@ wrote_no_cell used w = record { wrote = wrote_none w; count = sym (add-zero used
 
 -- The cell of a shape at node i in state s.
 module _ (n : ℕ) (ts : List Transition) (x : Shape) (i s : ℕ) where
-  -- a variable's cell is written
-  variable_cell : {block : ℕ} → (x ≡ Shape.Variable block) ⊎ ((x ≡ Shape.Mu block) ⊎ (x ≡ Shape.Nu block)) → shape_cell n ts x i s ≡ Cell.Variable block s
-  unfolding shape_cell
-  variable_cell (inl e) = rw e
-  variable_cell (inr (inl e)) = rw e
-  variable_cell (inr (inr e)) = rw e
-
-  pub wrote_variable : {used block : ℕ} {before after : Writer} → (x ≡ Shape.Variable block) ⊎ ((x ≡ Shape.Mu block) ⊎ (x ≡ Shape.Nu block))
-      → Wrote (2 ∷ block ∷ s ∷ []) before after → WroteCells used (shape_cell n ts x i s ∷ []) before after used
-  unfolding cell_numbers all_operands operands_of
-  wrote_variable is w = rw (variable_cell is) (record { wrote = w; count = sym (add-zero _) })
-
-  -- a list's cell is written
-  pub wrote_list : {used count : ℕ} {before after : Writer} → ((k : ℕ) → ¬ (x ≡ Shape.Variable k)) → ((k : ℕ) → ¬ (x ≡ Shape.Mu k)) → ((k : ℕ) → ¬ (x ≡ Shape.Nu k))
-      → count ≡ length (shape_operands n ts x i s)
-      → Wrote (shape_kind x ∷ used ∷ count ∷ []) before after → WroteCells used (shape_cell n ts x i s ∷ []) before after (used + count)
-  unfolding shape_cell cell_numbers all_operands operands_of
-  wrote_list {used} {count} {before} {after} no_variable no_mu no_nu = go x refl
+  -- the cell of a file has the numbers of the shape's cell, where its operands are counted
+  cell_written : (used count : ℕ) → count ≡ length (shape_operands n ts x i s)
+      → reading.cell_numbers (file_cell x s (record { first = used; count = count })) ≡ cell_numbers used (shape_cell n ts x i s ∷ [])
+  unfolding shape_cell cell_numbers operands_of reading.cell_numbers
+  cell_written used count = go x
     where
-      by_and : (os : List ℕ) → count ≡ length os → Wrote (0 ∷ used ∷ count ∷ []) before after → WroteCells used (Cell.And os ∷ []) before after (used + count)
-      by_and os e w = record { wrote = rw e at w; count = ap (λ (c : ℕ). used + c) (e ∙ ap length (sym (append-nil os))) }
+      by : (k : ℕ) {c : ℕ} → count ≡ c → (k ∷ used ∷ count ∷ []) ≡ (k ∷ used ∷ c ∷ [])
+      by k e = ap (λ (c : ℕ). k ∷ used ∷ c ∷ []) e
 
-      by_or : (os : List ℕ) → count ≡ length os → Wrote (1 ∷ used ∷ count ∷ []) before after → WroteCells used (Cell.Or os ∷ []) before after (used + count)
-      by_or os e w = record { wrote = rw e at w; count = ap (λ (c : ℕ). used + c) (e ∙ ap length (sym (append-nil os))) }
+      go : (y : Shape) → count ≡ length (shape_operands n ts y i s)
+          → reading.cell_numbers (file_cell y s (record { first = used; count = count })) ≡ cell_numbers used (shape_cell n ts y i s ∷ [])
+      go Shape.False e = by 1 e
+      go Shape.True e = by 0 e
+      go (Shape.And second) e = by 0 e
+      go (Shape.Or second) e = by 1 e
+      go (Shape.Box labels) e = by 0 e
+      go (Shape.Diamond labels) e = by 1 e
+      go (Shape.Variable block) e = refl
+      go (Shape.Mu block) e = refl
+      go (Shape.Nu block) e = refl
 
-      go : (y : Shape) → x ≡ y → count ≡ length (shape_operands n ts y i s)
-          → Wrote (shape_kind y ∷ used ∷ count ∷ []) before after → WroteCells used (shape_cell n ts y i s ∷ []) before after (used + count)
-      go Shape.False is e w = by_or _ e w
-      go Shape.True is e w = by_and _ e w
-      go (Shape.And second) is e w = by_and _ e w
-      go (Shape.Or second) is e w = by_or _ e w
-      go (Shape.Box labels) is e w = by_and _ e w
-      go (Shape.Diamond labels) is e w = by_or _ e w
-      go (Shape.Variable block) is e w = absurd (no_variable block is)
-      go (Shape.Mu block) is e w = absurd (no_mu block is)
-      go (Shape.Nu block) is e w = absurd (no_nu block is)
+  -- one cell is written
+  pub wrote_one : {used count : ℕ} {before after : Writer} → count ≡ length (shape_operands n ts x i s)
+      → Wrote (reading.cell_numbers (file_cell x s (record { first = used; count = count }))) before after → WroteCells used (shape_cell n ts x i s ∷ []) before after (used + count)
+  wrote_one {used} {count} e w = record {
+    wrote = rw (cell_written used count e) at w;
+    count = ap (λ (c : ℕ). used + c) (e ∙ sym (ap length (operands_one (shape_cell n ts x i s))));
+  }
 
   -- the operands of an and or an or, of a box or a diamond, and of the others
   pub operands_pair : {second : ℕ} → (x ≡ Shape.And second) ⊎ (x ≡ Shape.Or second) → shape_operands n ts x i s ≡ ((i + 1) * n + s) ∷ (second * n + s) ∷ []

@@ -4,7 +4,7 @@ ghost use Rattle.sets.specs.Lists.{numbers_from};
 ghost use Rattle.sets.specs.Words.{state_limit};
 ghost use Rattle.cases.specs.File.{transition_limit, node_limit};
 ghost use Rattle.translate.specs.Bytes.{all_operands};
-ghost use Rattle.translate.specs.internal.Writing.{shape_kind, shape_operands, shape_cell, second_of};
+ghost use Rattle.translate.specs.internal.Writing.{file_cell, shape_operands, shape_cell, second_of};
 ghost use Rattle.translate.specs.internal.Parts.{HasRoom, Wrote, WroteCells};
 ghost use Rattle.translate.specs.internal.Flags.{distinct_of};
 
@@ -12,15 +12,18 @@ use crate::Shape;
 use crate::bytes::Writer;
 use crate::sources::Equations;
 use crate::steps::Steps;
+use solver::{FileCell, Operands};
 
-// The kind of the cells of a node of a shape: 0 for an and, 1 for an or, 2 for a variable.
-fn cell_kind(x: Shape) -> usize
-    ensures { result ≡ shape_kind x }
+// The cell of a node of a shape in state s, as a file has it, with its operands where it has any.
+fn file_cell(x: Shape, s: usize, operands: Operands) -> FileCell
+    ensures { result ≡ file_cell x s operands }
 {
     match x {
-        Shape::True | Shape::And { .. } | Shape::Box { .. } => 0,
-        Shape::False | Shape::Or { .. } | Shape::Diamond { .. } => 1,
-        Shape::Variable { .. } | Shape::Mu { .. } | Shape::Nu { .. } => 2,
+        Shape::True | Shape::And { .. } | Shape::Box { .. } => FileCell::And(operands),
+        Shape::False | Shape::Or { .. } | Shape::Diamond { .. } => FileCell::Or(operands),
+        Shape::Variable { block } | Shape::Mu { block } | Shape::Nu { block } => {
+            FileCell::Variable { block, state: s }
+        }
     }
 }
 
@@ -49,17 +52,10 @@ impl Equations<'_, '_> {
         ensures { ((n i : ℕ) → WroteCells used (shape_cell n (distinct_of self.now.records) x i s ∷ []) w.old w.new result)
             × (result ≤ used + transition_limit + 2) }
     {
-        match x {
-            Shape::Variable { block } | Shape::Mu { block } | Shape::Nu { block } => {
-                w.put([2, block, s]);
-                used
-            }
-            _ => {
-                let count = self.operand_count(x, s);
-                w.put([cell_kind(x), used, count]);
-                used + count
-            }
-        }
+        let count = self.operand_count(x, s);
+        let cell = file_cell(x, s, Operands { first: used, count });
+        w.put(cell.numbers());
+        used + count
     }
 
     // The cells of a node of a shape, one for each state. Answers how many operands come before those of the next node.

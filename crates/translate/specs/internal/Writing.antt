@@ -2,6 +2,8 @@
 use Rattle.std.specs.Prelude.{Bool, cond, ◌&&◌, List, [], ◌∷◌, map, ℕ, ◌+◌, ◌*◌, eqb}
 use Rattle.sets.specs.Words.{marked}
 use Rattle.solver.specs.Cells.{Cell, operands_of}
+use Rattle.solver.specs.declared.Operands.{Operands}
+use Rattle.solver.specs.declared.FileCell.{FileCell}
 use Rattle.cases.specs.Formula.{Formula, False, True, And, Or, Box, Diamond, Variable, Fix, nodes}
 use Rattle.cases.specs.internal.Masks.{mask_of}
 use Rattle.cases.specs.declared.Transition.{Transition}
@@ -39,17 +41,17 @@ shape_cell n ts (Shape.Nu block) i s = Cell.Variable block s
 abbrev pub shape_operands : ℕ → List Transition → Shape → ℕ → ℕ → List ℕ
 shape_operands n ts x i s = operands_of (shape_cell n ts x i s)
 
--- the kind of its cell: 0 for an and, 1 for an or, 2 for a variable
-abbrev pub shape_kind : Shape → ℕ
-shape_kind Shape.False = 1
-shape_kind Shape.True = 0
-shape_kind (Shape.And second) = 0
-shape_kind (Shape.Or second) = 1
-shape_kind (Shape.Box labels) = 0
-shape_kind (Shape.Diamond labels) = 1
-shape_kind (Shape.Variable block) = 2
-shape_kind (Shape.Mu block) = 2
-shape_kind (Shape.Nu block) = 2
+-- its cell in state s as a file has it, where its operands stand as `operands` says if it has any
+abbrev pub file_cell : Shape → ℕ → Operands → FileCell
+file_cell Shape.False s operands = FileCell.Or operands
+file_cell Shape.True s operands = FileCell.And operands
+file_cell (Shape.And second) s operands = FileCell.And operands
+file_cell (Shape.Or second) s operands = FileCell.Or operands
+file_cell (Shape.Box labels) s operands = FileCell.And operands
+file_cell (Shape.Diamond labels) s operands = FileCell.Or operands
+file_cell (Shape.Variable block) s operands = FileCell.Variable block s
+file_cell (Shape.Mu block) s operands = FileCell.Variable block s
+file_cell (Shape.Nu block) s operands = FileCell.Variable block s
 
 -- the node of its second operand; 0 where there is none
 abbrev pub second_of : Shape → ℕ

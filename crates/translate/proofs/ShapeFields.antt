@@ -1,11 +1,12 @@
 -- The fields of a shape as they are read from the tables, and the shapes of all nodes one after another.
 use mathlib.Core.Path.{◌≡◌, refl, sym, ap, subst, ◌∙◌}
-use mathlib.Core.Bool.{Bool, true, false, cond}
+use mathlib.Core.Bool.{Bool, true, false, cond, not}
 use mathlib.Core.List.{List, [], ◌∷◌, ◌++◌, map, append_assoc}
 use Prim.Native.Nat.{ℕ, zero, suc, ◌+◌, ◌<◌, ◌≤◌}
 use native.Mathlib.Omega.{arith}
 use lib.ListN.{length, take, drop, set, replicate, length-append, length-replicate, length-set, length-map, length-drop}
 use lib.Seq.{take-suc-set}
+use mir.Val.{bool_byte}
 use Rattle.sets.specs.Lists.{numbers_from}
 use Rattle.sets.proofs.Lists.{length_table}
 use Rattle.cases.specs.Action.{Action}
@@ -56,8 +57,17 @@ module _ (part : List ℕ) (f i : ℕ) (h : i < f) (x : Node) (e : x ≡ node_in
 
 -- a nu is put before a root that is no binder
 pub root_added : (part : List ℕ) (f : ℕ) → 0 < f → (x : Node) → x ≡ node_in part 0 → (b : Bool) → b ≡ is_binder x
-    → ◌≡◌ {A = ℕ} (cond b 0 1) (cond (is_binder (node_at (nodes_in part f) 0)) 0 1)
-root_added part f h x e b p = rw (node_read part f 0 h x e) (ap (λ (t : Bool). cond {A = ℕ} t 0 1) p)
+    → ◌≡◌ {A = ℕ} (bool_byte (not b)) (cond (is_binder (node_at (nodes_in part f) 0)) 0 1)
+root_added part f h x e b p = rw (node_read part f 0 h x e) (go b p)
+  where
+    go : (b : Bool) → b ≡ is_binder x → ◌≡◌ {A = ℕ} (bool_byte (not b)) (cond (is_binder x) 0 1)
+    go true p = rw (sym p)
+    go false p = rw (sym p)
+
+-- which is one node at most
+pub added_small : (b : Bool) {added : ℕ} → added ≡ cond b 0 1 → added ≤ 1
+added_small true e = omega (arith, e)
+added_small false e = omega (arith, e)
 
 -- the nu that is put before a root
 abbrev pub nu : Shape

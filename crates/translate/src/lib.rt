@@ -24,7 +24,7 @@ ghost use Rattle.translate.specs.Translating.{translate_number, written_number, 
 use blocks::{block_count, write_blocks};
 use bytes::Writer;
 use cases::{Flagged, OpenCase, TRANSITIONS, first_appearances};
-use formula::FormulaTable;
+use formula::{WholeFormula, added_before};
 use solver::HEADER;
 use sources::Equations;
 
@@ -125,12 +125,13 @@ pub fn write_case<'a>(case: &OpenCase<'a>, first: &'a [bool], out: &mut [u8]) ->
     let masks = case.action_masks();
     let a = case.laid.header.actions;
     let nodes = case.laid.formula();
-    let formula = FormulaTable {
+    let formula = WholeFormula {
         nodes,
         masks: &masks[..a],
+        added: added_before(&nodes),
     };
     let shapes = formula.shapes();
-    let k = formula.added_before() + formula.nodes.count;
+    let k = formula.added + nodes.count;
     let table = case.laid.transitions();
     let records = Flagged { table, first };
     let equations = Equations {

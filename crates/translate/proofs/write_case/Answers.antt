@@ -14,14 +14,19 @@ slice_bounds-formula-end c =
     let o = c.args.case.now in
     sym (length-take-le _ _ (omega (arith, c.action_masks-masks.ensures.long, actions_few _ o.accepted o.laid.laid.read)))
 
+pub added_before-requires : goal.added_before-requires
+added_before-requires c =
+    let o = c.args.case.now in
+    rw c.formula-nodes.ensures.count (table_some _ o.accepted o.laid.laid.read)
+
 pub invariant_of-formula : goal.invariant_of-formula
 invariant_of-formula c =
     let o = c.args.case.now in
     record {
-      some = rw c.formula-nodes.ensures.count (table_some _ o.accepted o.laid.laid.read);
       few = rw c.formula-nodes.ensures.count (table_few _ o.accepted o.laid.laid.read);
       readable = table_readable _ o.accepted o.laid.laid.read c.formula-nodes.ensures.part c.formula-nodes.ensures.count
           (sym (length-take-le _ _ (omega (arith, c.action_masks-masks.ensures.long, actions_few _ o.accepted o.laid.laid.read))));
+      before = c.added_before.ensures;
     }
 
 pub invariant_of-equations : goal.invariant_of-equations
@@ -30,7 +35,7 @@ invariant_of-equations c =
     let s =
     handed _ o.accepted o.laid.laid.read c.formula-nodes.ensures.part c.formula-nodes.ensures.count c.transitions-table.ensures.part c.transitions-table.ensures.count c.requires
     (c.shapes-shapes.ensures _ (masks_first _ o.laid.header.actions _ (omega (arith, c.action_masks-masks.ensures.long, actions_few _ o.accepted o.laid.laid.read)) c.action_masks-masks.ensures.masks))
-    c.added_before.ensures.0 in
+    c.added_before.ensures in
     record {
       few_transitions = s.few_transitions;
       few_nodes = s.few_nodes;
@@ -44,4 +49,4 @@ returns c =
     let o = c.args.case.now in
     left_as _ o.accepted o.laid.laid.read c.formula-nodes.ensures.part c.formula-nodes.ensures.count c.transitions-table.ensures.part c.transitions-table.ensures.count c.requires
     (c.shapes-shapes.ensures _ (masks_first _ o.laid.header.actions _ (omega (arith, c.action_masks-masks.ensures.long, actions_few _ o.accepted o.laid.laid.read)) c.action_masks-masks.ensures.masks))
-    c.added_before.ensures.0 c.emit.ensures
+    c.added_before.ensures c.emit.ensures

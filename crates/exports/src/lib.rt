@@ -19,7 +19,7 @@ use translate::Written;
 // written. What a call does not answer is 0, and so are all but the first after a refusal. Plain numbers in place of a Result, and here and
 // below one struct for each call's numbers, since the C interface needs it.
 #[repr(C)]
-#[derive(Clone, Copy)]
+#[derive(Clone, Copy, Default)]
 pub struct Numbers {
     pub refusal: u64,
     pub verdict: u64,
@@ -58,15 +58,6 @@ impl From<Answer> for Numbers {
     }
 }
 
-// What a call says that answers nothing.
-const NOTHING: Numbers = Numbers {
-    refusal: 0,
-    verdict: 0,
-    count: 0,
-    rounds: 0,
-    length: 0,
-};
-
 // The numbers of a translation.
 impl From<Written> for Numbers {
     ghost from_gives = { λ answer numbers. Says numbers (refused (written_number answer)) (written_length answer) };
@@ -76,11 +67,11 @@ impl From<Written> for Numbers {
         match answer {
             Ok(length) => Numbers {
                 length: length as u64,
-                ..NOTHING
+                ..Numbers::default()
             },
             Err(cause) => Numbers {
                 refusal: u64::from(cause),
-                ..NOTHING
+                ..Numbers::default()
             },
         }
     }

@@ -7,7 +7,7 @@ use native.Mathlib.Omega.{arith}
 use native.Mathlib.Decide.{dec_lt, ℕ_discrete}
 use borrow.Author.Tests.{eq-eqb, ne_eqb}
 use lib.Dec.{eqb}
-use lib.ListN.{length, get_or, set, take, length-replicate, get_or-eq_default}
+use lib.ListN.{length, get_or, set, take, get_or-eq_default}
 use lib.Seq.{get_or-set_same, get_or-set_other, set-set}
 use Rattle.sets.specs.States.{States, start, Valuation, update}
 use Rattle.sets.specs.Loop.{Step, Loop, itself}
@@ -81,16 +81,6 @@ mu_starts k e = record { from = omega (arith, k); to = omega (arith, k); set = r
 pub nu_starts : {ev : Evaluator} {at : ℕ} {first : List ℕ} → (node_at (nodes_of ev) at).kind ≡ 8
     → first ≡ words word_count (start ev.case.header.states true) → Starts ev at first
 nu_starts k e = record { from = omega (arith, k); to = omega (arith, k); set = rw k e }
-
--- it begins
-pub begins : {ev : Evaluator} {rows : List (List ℕ)} {at used block : ℕ} {held : List ℕ} → used ≤ ev.limit → Starts ev at held
-    → Going ev rows at used block held used rows
-begins {ev} l s = record {
-  others = λ row. refl;
-  low = omega arith;
-  high = l;
-  left = λ action ρ v r m shown run. record { now = _; known = (length-replicate ev.case.header.states _, s.set); rest = r; run = run; sum = refl };
-}
 
 module _ {ev : Evaluator} {at used : ℕ} (q : Asks ev at used)
     {first : List ℕ} (k : Starts ev at first) where

@@ -1,5 +1,5 @@
 -- What the evaluator answers at a constant, a variable, an and or an or, a box or a diamond, from the answers at its operands.
-use mathlib.Core.Path.{◌≡◌, refl, sym, ap, ◌∙◌}
+use mathlib.Core.Path.{◌≡◌, sym, ap, ◌∙◌}
 use mathlib.Core.Bool.{Bool, true, false}
 use mathlib.Core.List.{List, [], map}
 use Prim.Native.Nat.{ℕ, ◌+◌, ◌<◌, ◌≤◌}
@@ -71,11 +71,11 @@ module _ {ev : Evaluator} {at used : ℕ} (q : Asks ev at used) where
 
     -- a variable
     pub variable_done : {x : Node} → x ≡ node_in ev.case.formula.part.now at → (node_at t at).kind ≡ 6
-        → Reached ev rows at used (value (get_or rows (get_or ev.blocks.now x.arg 0) []) (at + 1) used)
+        → {block : ℕ} → block ≡ get_or ev.blocks.now x.arg 0 → Reached ev rows at used (value (get_or rows block []) (at + 1) used)
     unfolding Direct
-    variable_done {x} e k = leaf_done (arity q k) λ action ρ v r s d.
+    variable_done {x} e k b = leaf_done (arity q k) λ action ρ v r s d.
         let y : (v ≡ ρ (node_at t at).arg) × (r ≡ 0) = ruled q k action ρ v r d in (
-          ap (λ (m : ℕ). get_or rows m []) (block_of q binder refl) ∙ s.row x.arg binder.inside binder.is
+          ap (λ (m : ℕ). get_or rows m []) (block_of q binder b) ∙ s.row x.arg binder.inside binder.is
               ∙ ap (words word_count) (sym (y.0 ∙ ap (λ (z : Node). ρ z.arg) (node_read q e))),
           y.1,
         )

@@ -4,7 +4,7 @@ ghost use Rattle.cases.specs.File.{node_limit};
 ghost use Rattle.routes.specs.Route.{direct, run_of};
 ghost use Rattle.routes.specs.internal.Answering.{Rooted};
 ghost use Rattle.routes.specs.internal.Given.{case_given};
-ghost use Rattle.routes.specs.internal.Evaluating.{Asks, Starts, Evaluated};
+ghost use Rattle.routes.specs.internal.Evaluating.{kind_at, Asks, Starts, Evaluated};
 
 use crate::direct_case::DirectCase;
 use crate::evaluator::Evaluator;
@@ -55,37 +55,72 @@ impl<'a> Evaluator<'a> {
         match kind {
             FormulaKind::False => Some(Value::leaf(sets::empty(), at, used)),
             FormulaKind::True => Some(Value::leaf(sets::full(n), at, used)),
-            FormulaKind::And => {
-                let left = self.evaluate(sets, at + 1, used)?;
-                let right = self.evaluate(sets, left.next, left.rounds)?;
-                Some(right.with_set(sets::intersection(left.set, right.set)))
-            }
-            FormulaKind::Or => {
-                let left = self.evaluate(sets, at + 1, used)?;
-                let right = self.evaluate(sets, left.next, left.rounds)?;
-                Some(right.with_set(sets::union(left.set, right.set)))
-            }
-            FormulaKind::Box => {
-                let one = self.evaluate(sets, at + 1, used)?;
-                Some(one.with_set(self.box_set(self.masks[node.arg], &one.set)))
-            }
-            FormulaKind::Diamond => {
-                let one = self.evaluate(sets, at + 1, used)?;
-                Some(one.with_set(self.diamond_set(self.masks[node.arg], &one.set)))
-            }
-            FormulaKind::Variable => Some(Value::leaf(sets[self.blocks[node.arg]], at, used)),
+            FormulaKind::And => self.and(sets, at, used),
+            FormulaKind::Or => self.or(sets, at, used),
+            FormulaKind::Box => self.box_node(sets, at, used),
+            FormulaKind::Diamond => self.diamond(sets, at, used),
+            FormulaKind::Variable => Some(Value::leaf(
+                sets[usize::from(self.blocks[node.arg])],
+                at,
+                used,
+            )),
             FormulaKind::Mu => self.binder(sets, at, sets::empty(), used),
             FormulaKind::Nu => self.binder(sets, at, sets::full(n), used),
         }
     }
 
+    // The value of an and: the states in both sets of its operands, left first.
+    #[cycle(binder_evaluate)]
+    fn and(&self, sets: &[Set; BLOCKS], at: usize, used: u64) -> Option<Value>
+        requires { Asks self.now at used × kind_at self.now at ≡ 2 }
+        ensures { Evaluated self.now sets.now at used result }
+    {
+        let left = self.evaluate(sets, at + 1, used)?;
+        let right = self.evaluate(sets, left.next, left.rounds)?;
+        Some(right.with_set(sets::intersection(left.set, right.set)))
+    }
+
+    // The value of an or: the states in at least one.
+    #[cycle(binder_evaluate)]
+    fn or(&self, sets: &[Set; BLOCKS], at: usize, used: u64) -> Option<Value>
+        requires { Asks self.now at used × kind_at self.now at ≡ 3 }
+        ensures { Evaluated self.now sets.now at used result }
+    {
+        let left = self.evaluate(sets, at + 1, used)?;
+        let right = self.evaluate(sets, left.next, left.rounds)?;
+        Some(right.with_set(sets::union(left.set, right.set)))
+    }
+
+    // The value of a box.
+    #[cycle(binder_evaluate)]
+    fn box_node(&self, sets: &[Set; BLOCKS], at: usize, used: u64) -> Option<Value>
+        requires { Asks self.now at used × kind_at self.now at ≡ 4 }
+        ensures { Evaluated self.now sets.now at used result }
+    {
+        let labels = self.masks[self.case.formula.at(at).arg];
+        let one = self.evaluate(sets, at + 1, used)?;
+        Some(one.with_set(self.box_set(labels, &one.set)))
+    }
+
+    // The value of a diamond.
+    #[cycle(binder_evaluate)]
+    fn diamond(&self, sets: &[Set; BLOCKS], at: usize, used: u64) -> Option<Value>
+        requires { Asks self.now at used × kind_at self.now at ≡ 5 }
+        ensures { Evaluated self.now sets.now at used result }
+    {
+        let labels = self.masks[self.case.formula.at(at).arg];
+        let one = self.evaluate(sets, at + 1, used)?;
+        Some(one.with_set(self.diamond_set(labels, &one.set)))
+    }
+
     // The value of a mu or a nu, by the rounds of its loop from a first set. The sets of outer binders are held.
     #[cycle(binder_evaluate)]
+    #[inline(always)]
     fn binder(&self, sets: &[Set; BLOCKS], at: usize, first: Set, used: u64) -> Option<Value>
         requires { Asks self.now at used × Starts self.now at first }
         ensures { Evaluated self.now sets.now at used result }
     {
-        let k = self.blocks[at];
+        let k = usize::from(self.blocks[at]);
         let mut held = first;
         let mut before = used;
         let mut s = *sets;

@@ -9,7 +9,7 @@ use crate::direct_case::DirectCase;
 pub struct Evaluator<'a> {
     pub case: DirectCase<'a>,
     pub masks: &'a [u64],
-    pub blocks: &'a [usize],
+    pub blocks: &'a [u8],
     pub limit: u64,
     ghost beside: { Beside case.header case.formula.part.now masks.now blocks.now },
 }

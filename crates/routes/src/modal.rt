@@ -1,5 +1,4 @@
 // Boxes and diamonds on sets of states.
-ghost use Rattle.std.specs.Prelude.{◌≡◌};
 ghost use Rattle.cases.specs.Meaning.{box_in, diamond_in};
 ghost use Rattle.routes.specs.internal.Evaluating.{states_of, transitions_of, Finds};
 
@@ -7,7 +6,8 @@ use crate::evaluator::Evaluator;
 use sets::Set;
 
 impl<'a> Evaluator<'a> {
-    // The states where a diamond holds: those with a transition into the set that has one of the labels.
+    // The states where a diamond holds: those with a transition into the set that has one of the labels. The set found is filled in place,
+    // record by record; a fold would only hand it on.
     pub fn diamond_set(&self, labels: u64, set: &Set) -> Set
         ensures { Finds self.now labels set.now (diamond_in (states_of self.now) (transitions_of self.now)) result }
     {

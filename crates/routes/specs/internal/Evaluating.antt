@@ -36,16 +36,20 @@ abbrev pub Finds : Evaluator → ℕ → List ℕ → (Action → States → ℕ
 Finds ev labels held p found = (α : Action) (v : States) → labels ≡ mask_of α → length v ≡ states_of ev → held ≡ words word_count v
     → found ≡ words word_count (set_of (states_of ev) (p α v))
 
--- a node to evaluate, after `used` rounds
+-- A node to evaluate, after `used` rounds. The bounds are the evaluator's, so a struct of the two numbers could not hold them.
 pub record Asks (ev : Evaluator) (at used : ℕ) : Type 0 where
   pub node : at < ev.case.header.nodes
   pub within : used ≤ ev.limit
 
+-- the kind of node `at`
+abbrev pub kind_at : Evaluator → ℕ → ℕ
+kind_at ev at = (node_at (nodes_of ev) at).kind
+
 -- a mu or a nu at node `at`, and the words of the set where its loop starts
 pub record Starts (ev : Evaluator) (at : ℕ) (first : List ℕ) : Type 0 where
-  pub from : 7 ≤ (node_at (nodes_of ev) at).kind
-  pub to : (node_at (nodes_of ev) at).kind ≤ 8
-  pub set : first ≡ words word_count (start (states_of ev) (eqb (node_at (nodes_of ev) at).kind 8))
+  pub from : 7 ≤ kind_at ev at
+  pub to : kind_at ev at ≤ 8
+  pub set : first ≡ words word_count (start (states_of ev) (eqb (kind_at ev at) 8))
 
 module _ (ev : Evaluator) (rows : List (List ℕ)) (at used : ℕ) where
   -- what the rule works out at the node

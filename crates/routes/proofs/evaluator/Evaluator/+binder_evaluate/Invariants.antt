@@ -9,6 +9,18 @@ decreases-binder l = 2 * (l.self.now.case.header.nodes - l.at)
 abbrev pub decreases-evaluate : goal.decreases-evaluate
 decreases-evaluate l = 2 * (l.self.now.case.header.nodes - l.at) + 1
 
+abbrev pub decreases-and : goal.decreases-and
+decreases-and l = 2 * (l.self.now.case.header.nodes - l.at)
+
+abbrev pub decreases-or : goal.decreases-or
+decreases-or l = 2 * (l.self.now.case.header.nodes - l.at)
+
+abbrev pub decreases-box_node : goal.decreases-box_node
+decreases-box_node l = 2 * (l.self.now.case.header.nodes - l.at)
+
+abbrev pub decreases-diamond : goal.decreases-diamond
+decreases-diamond l = 2 * (l.self.now.case.header.nodes - l.at)
+
 abbrev pub invariant-binder-loop-one : goal.invariant-binder-loop-one
 invariant-binder-loop-one l = Going l.self l.sets l.at l.used l.k l.held l.before l.s
 

@@ -2,6 +2,7 @@
 use mathlib.Core.Path.{◌≡◌, refl, sym, ap, ◌∙◌}
 use mathlib.Core.Bool.{Bool, true, false}
 use Rattle.std.specs.Prelude.{max, Option, Some, None, unwrap_or}
+use Rattle.std.specs.Option.{option_eq}
 use Rattle.std.specs.Bool.{then_some}
 use borrow.Author.Tests.{eq-eqb, eqb-true}
 use mathlib.Core.List.{List, [], ◌∷◌, map}
@@ -105,3 +106,8 @@ ended ks i due end w z m = go (eqb due 0) refl
 pub end_known : (ks : List ℕ) (i m : ℕ) (o : Option ℕ) → WholeSubtree ks i o → m ≡ max i (length ks) → unwrap_or o m ≡ end_of ks i
 end_known ks i m None h e = e ∙ sym h.1
 end_known ks i m (Some x) h e = sym h.1
+
+-- whether the end that an answer gives is the table's
+pub whole_is : (ks : List ℕ) (n : ℕ) (o : Option ℕ) → WholeSubtree ks 0 o → length ks ≡ n → option_eq eqb o (Some n) ≡ exactly 1 ks
+whole_is ks n None h e = sym h.0
+whole_is ks n (Some x) h e = ap (eqb x) (sym e) ∙ sym h.0

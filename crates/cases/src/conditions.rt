@@ -17,7 +17,7 @@ use crate::labels::bad_labels;
 use crate::tables::{LaidCase, Nodes, OpenCase};
 use crate::{Cause, Header, Node, Transition};
 
-// Whether a count is below `low` or above `high`.
+// Whether a count is below `low` or above `high`. Condition 3 asks it five times: `contains` and `!` at each place would be no plainer.
 fn outside(low: usize, high: usize, count: usize) -> bool
     ensures { result ≡ not (between low high count) }
 {
@@ -69,7 +69,7 @@ fn bad_length(case: &[u8], h: Header) -> bool
     case.len() != file_end(h)
 }
 
-// Whether a version is one of those that are taken.
+// Whether a version is one of those that are taken. They are two, and `matches!` or `contains` would say it no plainer.
 fn is_taken(version: usize) -> bool
     ensures { result ≡ for_some (eqb version) versions }
 {
@@ -215,10 +215,7 @@ impl Nodes<'_> {
     fn one_formula(&self) -> bool
         ensures { result ≡ exactly 1 (map (arity_in formula_arities) (nodes_in self.now.part.now self.now.count)) }
     {
-        match self.whole_subtree(0) {
-            Some(end) => end == self.count,
-            None => false,
-        }
+        self.whole_subtree(0) == Some(self.count)
     }
 
     // The node after the subtree of a node of a formula table.

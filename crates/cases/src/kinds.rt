@@ -101,10 +101,7 @@ impl FormulaKind {
     pub fn is_binder(self) -> bool
         ensures { result ≡ (eqb (formula_number self) 7 || eqb (formula_number self) 8) }
     {
-        match self {
-            FormulaKind::Mu | FormulaKind::Nu => true,
-            _ => false,
-        }
+        matches!(self, FormulaKind::Mu | FormulaKind::Nu)
     }
 }
 
@@ -145,19 +142,13 @@ impl Node {
     pub fn is_binder(self) -> bool
         ensures { result ≡ is_binder self }
     {
-        match FormulaKind::try_from(self.kind) {
-            Ok(kind) => kind.is_binder(),
-            Err(()) => false,
-        }
+        FormulaKind::try_from(self.kind).is_ok_and(|kind| kind.is_binder())
     }
 
     // Whether it is a variable.
     pub fn is_variable(self) -> bool
         ensures { result ≡ eqb self.kind 6 }
     {
-        match FormulaKind::try_from(self.kind) {
-            Ok(FormulaKind::Variable) => true,
-            _ => false,
-        }
+        FormulaKind::try_from(self.kind) == Ok(FormulaKind::Variable)
     }
 }

@@ -30,7 +30,7 @@ fn mask_of(labels: &[u8], h: Header, kind: ActionKind, arg: usize, x: u64, y: u6
     }
 }
 
-// The mask at a place; none has the mask 0.
+// The mask at a place. Past the end it is 0 and no Option: a node reads two masks, whether it takes two, one or none.
 fn mask_at(masks: &[u64], at: usize) -> u64
     ensures { result ≡ get_or masks.now at 0 }
 {
@@ -38,8 +38,9 @@ fn mask_at(masks: &[u64], at: usize) -> u64
 }
 
 // The labels that the action formula at each node accepts: bit x of mask j says whether that at node j accepts label x. The nodes are read from
-// the last one down, and the masks of the formulas that start at node i or after it, outermost only, stand from `at` on. The two parts and the
-// header are no open case: callers have them of a case that a later condition may refuse.
+// the last one down, and the masks of the formulas that start at node i or after it, outermost only, stand from `at` on: a stack in an array, and
+// beside the nodes another array with a mask for each, for there is no heap. Each turn needs what the last one left on the stack, so no chain of
+// iterators would be plainer. The two parts and the header are no open case: callers have them of a case that a later condition may refuse.
 pub fn action_masks(labels: &[u8], h: Header, part: &[u8]) -> [u64; ACTIONS]
     requires { LabelPart labels.now h × NodesFit action_limit part.now h.actions × WholeActions h.labels (nodes_in part.now h.actions) }
     ensures { (length result ≡ action_limit)

@@ -186,7 +186,8 @@ impl Nodes<'_> {
         )
     }
 
-    // Whether the nodes of an action table are whole formulas. Where a formula begins none is due, and its root stands for itself.
+    // Whether the nodes of an action table are whole formulas. Where a formula begins none is due, and its root stands for itself. `fold` over the
+    // same range would be no plainer.
     fn whole_actions(&self) -> bool
         ensures { result ≡ whole_formulas 0 (map (arity_in action_arities) (nodes_in self.now.part.now self.now.count)) }
     {
@@ -197,7 +198,8 @@ impl Nodes<'_> {
         due == 0
     }
 
-    // The node after the subtree of a node of a formula table, if the subtree is whole.
+    // The node after the subtree of a node of a formula table, if the subtree is whole. The loop ends early, by a number that each turn changes, so
+    // that no chain would be plainer.
     fn whole_subtree(&self, at: usize) -> Option<usize>
         ensures { WholeSubtree (map (arity_in formula_arities) (nodes_in self.now.part.now self.now.count)) at result }
     {

@@ -1,16 +1,16 @@
 // Reading a case. Each table is read as the part of the file that starts at its offset.
 ghost use Rattle.std.specs.Prelude.{◌≡◌, ◌+◌, ◌*◌, ◌^◌, ◌<◌, ◌≤◌, length, take};
-ghost use Rattle.cases.specs.File.{u16, version as file_version, has_label_table, header_size, header_of, label_records, transitions_start, actions_start, formula_start, file_end, case_within, transition_in, label_limit, transition_limit, action_limit};
+ghost use Rattle.cases.specs.File.{u16, version as file_version, has_label_table, header_size, header_of, label_records, transitions_start, actions_start, formula_start, file_end, case_within, label_limit, transition_limit, action_limit};
 ghost use Rattle.cases.specs.internal.Checks.{common_header, longest_header, CountsFit};
 
-use crate::{Header, Transition};
+use crate::Header;
 
 // How many bytes the header has that all versions have, and how many the longest one has.
 pub const HEADER: usize = 20;
 
 pub const LONGEST_HEADER: usize = 22;
 
-// The 16-bit number at a place, low byte first.
+// The 16-bit number at a place, low byte first. The numbers of an equation file have 32 bits: solver reads those by a function of its own.
 #[tactic(auto, unfolding(crate::specs::File::u16))]
 pub fn number_at(part: &[u8], at: usize) -> usize
     requires { at + 2 ≤ length part.now }
@@ -145,17 +145,4 @@ pub fn file_end(h: Header) -> usize
     ensures { result ≡ file_end h }
 {
     formula_start(h) + 4 * h.nodes
-}
-
-// Transition i of the transition part.
-pub fn transition_at(part: &[u8], i: usize) -> Transition
-    requires { 6 * i + 6 ≤ length part.now }
-    ensures { result ≡ transition_in part.now i }
-{
-    let at = 6 * i;
-    Transition {
-        source: number_at(part, at),
-        label: number_at(part, at + 2),
-        target: number_at(part, at + 4),
-    }
 }

@@ -31,7 +31,7 @@ pub enum FormulaKind {
     Nu,
 }
 
-// By the number in the file.
+// By the number in the file. The error is (), since one thing alone can be wrong with a number: it is that of no kind.
 impl TryFrom<usize> for ActionKind {
     type Error = ();
 

@@ -54,7 +54,8 @@ fn same_names(x: &Label, y: &Label) -> bool
     all_equally_many(x, y, x) && all_equally_many(x, y, y)
 }
 
-// The labels with the same names as label j. They are read from the last one down, and each makes the mask one bit longer.
+// The labels with the same names as label j. They are read from the last one down, and each makes the mask one bit longer; `fold` over the same
+// range would be no plainer.
 fn same_labels(table: &LabelRecords<'_>, j: usize) -> u64
     requires { (table.now.count ≤ label_limit) × (j < table.now.count) }
     ensures { result ≡ number_of_bits (map (same_as table.now.part.now table.now.count j) (numbers_from 0 table.now.count)) }

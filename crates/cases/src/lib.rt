@@ -11,7 +11,7 @@ mod transitions;
 
 pub use actions::action_masks;
 pub use conditions::{check_layout, open, transition_holds};
-pub use file::{case_end, number_at, transition_at};
+pub use file::{case_end, number_at};
 pub use kinds::{ActionKind, FormulaKind};
 pub use tables::{LabelRecords, LaidCase, Nodes, OpenCase, Table, Transitions};
 pub use transitions::{Flagged, first_appearances};
@@ -34,7 +34,8 @@ pub const LARGEST: usize = file::LONGEST_HEADER
     + 4 * ACTIONS
     + 4 * NODES;
 
-// The version of a case, its counts, its initial state, and the offsets of its tables.
+// The version of a case, its counts, its initial state, and the offsets of its tables. The version is the paper's number and no enum, since condition
+// 2 asks of any number whether it is a version that is taken.
 #[derive(Clone, Copy)]
 pub struct Header {
     pub version: usize,
@@ -71,7 +72,8 @@ pub struct Tally {
     pub distinct: usize,
 }
 
-// A node of the action or formula table: kind, argument.
+// A node of the action or formula table: kind, argument. The kind is the number in the file, since conditions 7 and 8 ask whether it is that of a
+// kind.
 #[derive(Clone, Copy)]
 pub struct Node {
     pub kind: usize,

@@ -1,13 +1,14 @@
 // The tables of a case: each is the part of the file that starts at its offset, with the number of its records.
-ghost use Rattle.std.specs.Prelude.{◌≡◌, ◌*◌, ◌<◌, ◌≤◌, length};
+ghost use Rattle.std.specs.Prelude.{◌≡◌, ◌+◌, ◌*◌, ◌<◌, ◌≤◌, length, drop};
 ghost use Rattle.cases.specs.File.{label_records as records_of, label_in, transition_in, node_in};
 ghost use Rattle.cases.specs.Conditions.{Accepted};
 ghost use Rattle.cases.specs.internal.Checks.{label_part, transition_part, action_part, formula_part, Laid};
 
-use crate::file::{label_records, number_at, transition_at};
+use crate::file::{label_records, number_at};
 use crate::{Header, Label, Node, Transition};
 
-// A part of a file that starts with a table, and how many records the table has; each has SIZE bytes.
+// A part of a file that starts with a table, and how many records the table has; each has SIZE bytes. One `at` for all three, over a trait of
+// records, would want an impl that reads for each of them all the same, and the kind of record in the table: no plainer.
 #[derive(Clone, Copy)]
 pub struct Table<'a, const SIZE: usize> {
     pub part: &'a [u8],
@@ -45,7 +46,12 @@ impl<'a> Table<'a, 6> {
         requires { i < self.now.count }
         ensures { result ≡ transition_in self.now.part.now i }
     {
-        transition_at(self.part, i)
+        let at = 6 * i;
+        Transition {
+            source: number_at(self.part, at),
+            label: number_at(self.part, at + 2),
+            target: number_at(self.part, at + 4),
+        }
     }
 }
 
@@ -72,16 +78,24 @@ pub struct LaidCase<'a> {
 }
 
 impl<'a> LaidCase<'a> {
+    // The table that starts at a place, of so many records.
+    fn table<const SIZE: usize>(&self, start: usize, count: usize) -> Table<'a, SIZE>
+        requires { start + SIZE * count ≤ length self.now.bytes.now }
+        ensures part { result.part.now ≡ drop start self.now.bytes.now }
+        ensures count { result.count ≡ count }
+    {
+        Table {
+            part: &self.bytes[start..],
+            count,
+        }
+    }
+
     // The label records, where there are any.
     pub fn labels(&self) -> LabelRecords<'a>
         ensures part { result.part.now ≡ label_part self.now.bytes.now }
         ensures count { result.count ≡ records_of self.now.header }
     {
-        let start = self.header.labels_at;
-        Table {
-            part: &self.bytes[start..],
-            count: label_records(self.header),
-        }
+        self.table(self.header.labels_at, label_records(self.header))
     }
 
     // The transitions.
@@ -89,11 +103,7 @@ impl<'a> LaidCase<'a> {
         ensures part { result.part.now ≡ transition_part self.now.bytes.now }
         ensures count { result.count ≡ self.now.header.transitions }
     {
-        let start = self.header.transitions_at;
-        Table {
-            part: &self.bytes[start..],
-            count: self.header.transitions,
-        }
+        self.table(self.header.transitions_at, self.header.transitions)
     }
 
     // The action nodes.
@@ -101,11 +111,7 @@ impl<'a> LaidCase<'a> {
         ensures part { result.part.now ≡ action_part self.now.bytes.now }
         ensures count { result.count ≡ self.now.header.actions }
     {
-        let start = self.header.actions_at;
-        Table {
-            part: &self.bytes[start..],
-            count: self.header.actions,
-        }
+        self.table(self.header.actions_at, self.header.actions)
     }
 
     // The formula nodes.
@@ -113,11 +119,7 @@ impl<'a> LaidCase<'a> {
         ensures part { result.part.now ≡ formula_part self.now.bytes.now }
         ensures count { result.count ≡ self.now.header.nodes }
     {
-        let start = self.header.formula_at;
-        Table {
-            part: &self.bytes[start..],
-            count: self.header.nodes,
-        }
+        self.table(self.header.formula_at, self.header.nodes)
     }
 }
 

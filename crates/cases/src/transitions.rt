@@ -18,6 +18,7 @@ struct Links {
     after: [u16; TRANSITIONS],
 }
 
+// From the last record down, each becomes the first of its source. It writes two arrays at places that it reads, so no chain would be plainer.
 fn links_of(table: &Transitions<'_>) -> Links
     requires { Sourced table.now.part.now table.now.count }
     ensures { Linked table.now.part.now table.now.count result.first result.after }
@@ -32,7 +33,8 @@ fn links_of(table: &Transitions<'_>) -> Links
     Links { first, after }
 }
 
-// How many records before record i of a table equal it. Only those with its source are looked at.
+// How many records before record i of a table equal it. Only those with its source are looked at: a walk along the links, of which it is not known
+// beforehand how long it is.
 fn copies_before(table: &Transitions<'_>, links: &Links, i: usize) -> usize
     requires { Linked table.now.part.now table.now.count links.now.first links.now.after × (i < table.now.count) }
     ensures { result ≡ copies_before (transitions_in table.now.part.now table.now.count) i }

@@ -16,7 +16,7 @@ fn is_binder(x: Shape) -> bool
     matches!(x, Shape::Mu { .. } | Shape::Nu { .. })
 }
 
-// How many nodes are binders.
+// How many nodes are binders. They are counted here and not by `Nodes::binders` of cases, since a nu that is put before the root is among them.
 pub fn block_count(shapes: &[Shape]) -> usize
     ensures { result ≡ count_by shape_binds shapes.now }
 {

@@ -2,7 +2,9 @@
 ghost use Rattle.std.specs.Prelude.{◌≡◌, [], ◌∷◌, ℕ};
 ghost use Rattle.translate.specs.internal.Parts.{HasRoom, Wrote};
 
-// A buffer with numbers at its start, behind which others are written, and how many they are.
+// A buffer with numbers at its start, behind which others are written, and how many they are. How much room a function needs differs from one
+// to another, so it stands in their contracts and not in the type. Loops that write are `for` loops: a chain would end in a closure that changes
+// the writer, and be no plainer.
 #[derive(Drop)]
 pub struct Writer<'a> {
     pub out: &'a mut [u8],
@@ -10,7 +12,8 @@ pub struct Writer<'a> {
 }
 
 impl Writer<'_> {
-    // One number.
+    // One number. The records of a case have numbers of 16 bits and are written by the crate `records`: one function for both would be handed
+    // the width, and be no plainer.
     fn put_number(&mut self, x: usize)
         requires { HasRoom self.old 1 }
         ensures { Wrote (x ∷ []) self.old self.new }

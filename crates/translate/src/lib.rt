@@ -40,7 +40,7 @@ impl From<cases::Cause> for Cause {
     ghost from_gives = { λ cause e. e ≡ Open cause };
 
     fn from(cause: cases::Cause) -> Cause {
-        Cause::Open(cause)
+        Self::Open(cause)
     }
 }
 
@@ -61,7 +61,7 @@ impl From<Cause> for u64 {
 pub type Written = Result<usize, Cause>;
 
 // What the writers need of a node, by its kind: the node of a second operand, the labels that a box or diamond accepts, bit x for label x, and
-// the block of a variable or binder.
+// the block of a variable or binder. The kinds of cases have none of these, and they are worked out once for each node.
 #[derive(Clone, Copy)]
 pub enum Shape {
     False,

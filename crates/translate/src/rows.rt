@@ -9,7 +9,8 @@ use crate::bytes::Writer;
 use crate::sources::Equations;
 
 impl Equations<'_, '_> {
-    // The cells of all nodes. Answers how many operands they have.
+    // The cells of all nodes. Answers how many operands they have: that number goes from node to node as the writer does, which a fold would have
+    // to take by a closure that changes it.
     pub fn write_all_cells(&self, w: &mut Writer<'_>) -> usize
         requires { HasRoom w.old (3 * (length self.now.shapes.now * self.now.states)) }
         ensures { WroteCells 0 (shape_cells self.now.states (distinct_of self.now.records) 0 self.now.shapes.now) w.old w.new result }

@@ -19,13 +19,14 @@ use Rattle.sets.proofs.Ranges.{range_is}
 use Rattle.sets.specs.Lists.{numbers_from, every, keep}
 use Rattle.sets.specs.States.{States}
 use Rattle.sets.specs.Words.{number_of_bits, words, marked, bit}
-use Rattle.sets.proofs.Lists.{and_left, and_right, length_table, table_at}
+use Rattle.sets.proofs.Lists.{and_left, and_right, length_range, length_table, table_at}
 use Rattle.sets.proofs.Words.{marked_words}
 use Rattle.solver.specs.Cells.{Cell, operands_of}
 use Rattle.solver.specs.internal.Reading as reading
 use Rattle.cases.specs.Action.{Action, accepts}
 use Rattle.cases.specs.Formula.{Formula, False, True, And, Or, Box, Diamond, Variable, Fix}
 use Rattle.cases.specs.declared.Transition.{Transition}
+use Rattle.cases.proofs.Distinct.{length_keep}
 use Rattle.cases.specs.internal.Masks.{mask_of}
 use Rattle.cases.specs.Meaning.{from}
 use Rattle.cases.specs.File.{transition_in, label_limit}
@@ -138,6 +139,12 @@ grows f h j m l =
 pub length_targets : (base : ℕ) (ts : List Transition) → length (target_cells base ts) ≡ length ts
 unfolding target_cells
 length_targets base ts = length-map ts (λ t. base + t.target)
+
+-- no more transitions are distinct than there are
+pub distinct_few : (part : List ℕ) (first : List Bool) (m : ℕ) {k : ℕ} → m ≤ k → length (distinct_in part first m) ≤ k
+unfolding distinct_in
+distinct_few part first m h =
+    omega (arith, h, length-map (keep (flagged first) (numbers_from 0 m)) (transition_in part), length_keep (flagged first) (numbers_from 0 m), length_range 0 m)
 
 -- The first records of a transition part, with their flags, and those that leave s.
 module _ (part : List ℕ) (first : List Bool) (s labels : ℕ) where

@@ -1,7 +1,6 @@
 // How many operands the cells of a formula's nodes have.
-ghost use Rattle.std.specs.Prelude.{◌≡◌, map, ◌+◌, ℕ, ◌*◌, ◌≤◌, length};
+ghost use Rattle.std.specs.Prelude.{◌≡◌, map, ℕ, length};
 ghost use Rattle.sets.specs.Lists.{numbers_from};
-ghost use Rattle.cases.specs.File.{transition_limit};
 ghost use Rattle.translate.specs.Bytes.{all_operands};
 ghost use Rattle.translate.specs.internal.Writing.{shape_cell};
 ghost use Rattle.translate.specs.internal.Shapes.{shape_cells};
@@ -11,26 +10,17 @@ use crate::Shape;
 use crate::sources::Equations;
 
 impl Equations<'_, '_> {
-    // Those of a node of a shape, in all states. A cell has two operands, or one for each of some transitions.
+    // Those of a node of a shape, in all states.
     fn node_total(&self, x: Shape) -> usize
-        ensures { ((i : ℕ) → result ≡ length (all_operands (map (shape_cell self.now.states (distinct_of self.now.records) x i) (numbers_from 0 self.now.states))))
-            × (result ≤ (transition_limit + 2) * self.now.states) }
+        ensures { (i : ℕ) → result ≡ length (all_operands (map (shape_cell self.now.states (distinct_of self.now.records) x i) (numbers_from 0 self.now.states))) }
     {
-        let mut total: usize = 0;
-        for s in 0..self.states {
-            total += self.operand_count(x, s);
-        }
-        total
+        (0..self.states).map(|s| self.operand_count(x, s)).sum()
     }
 
     // Those of all nodes.
     pub fn operand_total(&self) -> usize
         ensures { result ≡ length (all_operands (shape_cells self.now.states (distinct_of self.now.records) 0 self.now.shapes.now)) }
     {
-        let mut total: usize = 0;
-        for x in self.shapes {
-            total += self.node_total(*x);
-        }
-        total
+        self.shapes.iter().map(|x| self.node_total(*x)).sum()
     }
 }

@@ -1,19 +1,26 @@
-use mathlib.Core.List.{List}
-use Prim.Native.Nat.{ℕ}
+use mathlib.Core.Path.{sym, ◌∙◌}
 use native.Mathlib.Omega.{arith}
-use Rattle.cases.specs.declared.Transition.{Transition}
+use borrow.Author.Rules.{rules}
+use Rattle.std.specs.List.{range_with_len}
+use Rattle.std.proofs.lemmas.Iterator.{YieldsList-from_range, YieldsList-from_map}
+use Rattle.std.proofs.lemmas.Iterator.Consumers.{sum_by_from_yields_List, fits_by_from_yields_list, YieldsList-at}
 use Rattle.translate.specs.internal.Flags.{distinct_of}
-use Rattle.translate.proofs.TotalLaws.{states_none, states_more}
+use Rattle.translate.proofs.TotalLaws.{size, size_is, node_sum, node_few}
+use Rattle.translate.proofs.ShapeLaws.{distinct_few}
 use Rattle.translate.proofs.sources.Equations.node_total.Goals as goal
 
-pub loop-s-init : goal.loop-s-init
-loop-s-init c =
-    let p = c.args in
-    (omega arith, λ i. omega (arith, states_none p.self.now.states (distinct_of p.self.now.records) p.x i), omega arith)
+pub sum-requires-clause-fits : goal.sum-requires-clause-fits
+sum-requires-clause-fits c =
+    let e = c.args.self.now in
+    let ts = distinct_of e.records in
+    fits_by_from_yields_list (size ts c.args.x) (range_with_len 0 e.states) c.map.result _
+    (YieldsList-from_map _ (size ts c.args.x) (YieldsList-at c.map.ensures.source (YieldsList-from_range 0 e.states e.states (cc) (omega arith))) c.map.ensures.closure λ x r q k. search rules)
+    (omega (arith, node_few ts (distinct_few e.records.table.part.now e.records.first.now e.records.table.count e.few_transitions) e.states c.args.x, e.few_states))
 
-pub loop-s-preserved : goal.loop-s-preserved
-loop-s-preserved c =
-    let p = c.args in
-    let ts : List Transition = distinct_of p.self.now.records in
-    let s : ℕ = c.loop-s.s in
-    (omega arith, λ i. omega (arith, c.loop-s.invariant.1 i, c.operand_count-total.ensures.0 p.self.now.states i, states_more p.self.now.states ts p.x i s), omega (arith, c.operand_count-total.ensures.1))
+pub returns : goal.returns
+returns c = λ i.
+    let e = c.args.self.now in
+    let ts = distinct_of e.records in
+    sum_by_from_yields_List (size ts c.args.x) (range_with_len 0 e.states) c.map.result c.sum.result c.sum.ensures.ran
+    (YieldsList-from_map _ (size ts c.args.x) (YieldsList-at c.map.ensures.source (YieldsList-from_range 0 e.states e.states (cc) (omega arith))) c.map.ensures.closure λ x r q k. search rules)
+    ∙ node_sum ts e.states c.args.x i

@@ -1,28 +1,24 @@
-use mathlib.Core.List.{List}
-use mathlib.Core.Path.{ap, ◌∙◌}
-use lib.ListN.{length}
+use mathlib.Core.Path.{sym, ◌∙◌}
 use native.Mathlib.Omega.{arith}
-use Rattle.translate.specs.Bytes.{all_operands}
-use Rattle.solver.specs.Cells.{Cell}
+use borrow.Author.Rules.{rules}
+use Rattle.std.proofs.lemmas.Iterator.{YieldsList-from_slice, YieldsList-from_map}
+use Rattle.std.proofs.lemmas.Iterator.Consumers.{sum_by_from_yields_List, fits_by_from_yields_list, YieldsList-at}
 use Rattle.translate.specs.internal.Flags.{distinct_of}
-use Rattle.translate.proofs.NodeParts.{cells_all}
-use Rattle.translate.proofs.TotalLaws.{nodes_none, nodes_more}
+use Rattle.translate.proofs.TotalLaws.{node_size, nodes_sum}
 use Rattle.translate.proofs.sources.Equations.operand_total.Goals as goal
 
-pub loop-x-init : goal.loop-x-init
-loop-x-init c =
+pub sum-requires-clause-fits : goal.sum-requires-clause-fits
+sum-requires-clause-fits c =
     let e = c.args.self.now in
-    (omega (arith, nodes_none e.states (distinct_of e.records) e.shapes.now), omega arith)
-
-pub loop-x-preserved : goal.loop-x-preserved
-loop-x-preserved c =
-    let e = c.args.self.now in
-    let i = c.loop-x.x-index in (
-      omega (arith, c.node_total-total.ensures.0 i, nodes_more e.states (distinct_of e.records) e.shapes.now i (omega arith)),
-      omega (arith, c.node_total-total.ensures.1, e.few_states),
-    )
+    let ts = distinct_of e.records in
+    fits_by_from_yields_list (node_size ts e.states) e.shapes.now c.map.result _
+    (YieldsList-from_map _ (node_size ts e.states) (YieldsList-at c.map.ensures.source (YieldsList-from_slice e.shapes.now c.iter.ensures.rest)) c.map.ensures.closure λ x r q k. search rules)
+    (omega (arith, nodes_sum ts e.states e.shapes.now 0, e.few_operands))
 
 pub returns : goal.returns
 returns c =
     let e = c.args.self.now in
-    c.loop-x.invariant.0 ∙ ap (λ (cs : List Cell). length (all_operands cs)) (cells_all e.states (distinct_of e.records) e.shapes.now c.loop-x.x-index (omega arith))
+    let ts = distinct_of e.records in
+    sum_by_from_yields_List (node_size ts e.states) e.shapes.now c.map.result c.sum.result c.sum.ensures.ran
+    (YieldsList-from_map _ (node_size ts e.states) (YieldsList-at c.map.ensures.source (YieldsList-from_slice e.shapes.now c.iter.ensures.rest)) c.map.ensures.closure λ x r q k. search rules)
+    ∙ nodes_sum ts e.states e.shapes.now 0

@@ -1,11 +1,11 @@
 -- The parts of an equation file, written one behind another.
-use mathlib.Core.Path.{◌≡◌, refl, sym, ap, ◌∙◌, subst}
+use mathlib.Core.Path.{◌≡◌, sym, ◌∙◌}
 use mathlib.Core.Bool.{true, false}
-use mathlib.Core.List.{List, [], ◌∷◌, ◌++◌, append_assoc}
-use Prim.Native.Nat.{ℕ, ◌+◌, ◌-◌, ◌*◌, ◌≤◌, ◌<◌}
+use mathlib.Core.List.{List, [], ◌∷◌, ◌++◌}
+use Prim.Native.Nat.{ℕ, ◌+◌, ◌*◌, ◌≤◌, ◌<◌}
 use native.Mathlib.Omega.{arith}
 use lib.Dec.{ltb}
-use lib.ListN.{length, take, drop, length-append}
+use lib.ListN.{length}
 use borrow.Author.Tests.{lt-ltb, le-ltb}
 use Rattle.cases.specs.declared.Transition.{Transition}
 use Rattle.translate.specs.declared.Shape.{Shape}
@@ -17,7 +17,7 @@ use Rattle.translate.specs.Bytes.{System, all_operands, block_numbers, cell_numb
 use Rattle.translate.specs.internal.Shapes.{shape_binds, shape_blocks, shape_cells}
 use Rattle.translate.specs.internal.Parts.{HasRoom, Wrote, WroteCells, Starts}
 use Rattle.cases.specs.File.{node_limit}
-use Rattle.solver.specs.File.{cell_limit, blocks_at}
+use Rattle.solver.specs.File.{blocks_at}
 use Rattle.translate.specs.internal.Sources.{RoomFor, shape_system, Emitted}
 use Rattle.translate.proofs.NumberBytes.{length_bytes, length_block_numbers, length_cell_numbers}
 use Rattle.translate.proofs.Putting.{wrote_then, wrote_start}

@@ -1,14 +1,13 @@
 -- Laws of the numbers that a writer wrote.
 use mathlib.Core.Path.{◌≡◌, refl, sym, ap, ◌∙◌}
 use mathlib.Core.List.{List, [], ◌∷◌, ◌++◌, append_assoc, append-nil}
-use Prim.Native.Nat.{ℕ, ◌+◌, ◌*◌, ◌≤◌}
+use Prim.Native.Nat.{ℕ, ◌+◌, ◌*◌}
 use native.Mathlib.Omega.{arith}
 use lib.ListN.{length, take, drop, length-append, take-append-drop}
 use lib.Seq.{drop-drop}
 use Rattle.translate.specs.Bytes.{bytes}
 use Rattle.translate.specs.declared.bytes.Writer.{Writer}
 use Rattle.translate.specs.internal.Parts.{Wrote, Starts}
-use Rattle.translate.proofs.NumberBytes.{length_bytes}
 
 -- the bytes of two lists follow one another
 pub bytes_append : (xs ys : List ℕ) → bytes (xs ++ ys) ≡ bytes xs ++ bytes ys

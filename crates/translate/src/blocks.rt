@@ -1,5 +1,5 @@
 // Writing the blocks of an equation file: one for each binder of the formula.
-ghost use Rattle.std.specs.Prelude.{◌≡◌, [], ◌∷◌, ℕ, ◌+◌, ◌*◌, ◌≤◌, length, count_by};
+ghost use Rattle.std.specs.Prelude.{◌≡◌, [], ◌∷◌, ◌+◌, ◌*◌, ◌≤◌, length, count_by};
 ghost use Rattle.sets.specs.Words.{state_limit};
 ghost use Rattle.cases.specs.File.{node_limit};
 ghost use Rattle.translate.specs.Bytes.{block_numbers};

@@ -1,5 +1,5 @@
 // Writing numbers of 32 bits, low byte first.
-ghost use Rattle.std.specs.Prelude.{◌≡◌, [], ◌∷◌, ℕ};
+ghost use Rattle.std.specs.Prelude.{[], ◌∷◌};
 ghost use Rattle.translate.specs.internal.Parts.{HasRoom, Wrote};
 
 // A buffer with numbers at its start, behind which others are written, and how many they are. How much room a function needs differs from one

@@ -1,7 +1,6 @@
 // Writing what one node of the formula gives: its cells, one for each state, and their operands.
 ghost use Rattle.std.specs.Prelude.{◌≡◌, [], ◌∷◌, map, ℕ, ◌+◌, ◌*◌, ◌^◌, ◌<◌, ◌≤◌, length};
 ghost use Rattle.sets.specs.Lists.{numbers_from};
-ghost use Rattle.sets.specs.Words.{state_limit};
 ghost use Rattle.cases.specs.File.{transition_limit, node_limit};
 ghost use Rattle.translate.specs.Bytes.{all_operands};
 ghost use Rattle.translate.specs.internal.Writing.{file_cell, shape_operands, shape_cell, second_of};

@@ -1,5 +1,5 @@
 // Writing what all nodes of the formula give: their cells, and the operands of these.
-ghost use Rattle.std.specs.Prelude.{◌≡◌, ℕ, ◌*◌, length};
+ghost use Rattle.std.specs.Prelude.{◌*◌, length};
 ghost use Rattle.translate.specs.Bytes.{all_operands};
 ghost use Rattle.translate.specs.internal.Shapes.{shape_cells};
 ghost use Rattle.translate.specs.internal.Parts.{HasRoom, Wrote, WroteCells};

@@ -1,5 +1,5 @@
 // The records that a box or diamond follows from a state, and the operands that they give.
-ghost use Rattle.std.specs.Prelude.{◌≡◌, [], ◌∷◌, ◌+◌, ◌*◌, ℕ, ◌^◌, ◌<◌, ◌≤◌, length};
+ghost use Rattle.std.specs.Prelude.{◌≡◌, [], ◌∷◌, ◌+◌, ◌*◌, ◌^◌, ◌<◌, ◌≤◌, length};
 ghost use Rattle.sets.specs.Words.{marked};
 ghost use Rattle.cases.specs.File.{transition_in};
 ghost use Rattle.translate.specs.internal.Parts.{HasRoom, Wrote, target_cells};

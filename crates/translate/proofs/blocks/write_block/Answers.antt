@@ -1,9 +1,6 @@
-use mathlib.Core.Path.{◌≡◌, refl, ap, ◌∙◌}
-use mathlib.Core.List.{[]}
+use mathlib.Core.Path.{ap}
 use native.Mathlib.Omega.{arith}
 use lib.ListN.{length}
-use Rattle.translate.specs.Bytes.{block_numbers}
-use Rattle.translate.specs.internal.Shapes.{shape_block}
 use Rattle.translate.proofs.Putting.{wrote_none}
 use Rattle.translate.proofs.BlockParts.{numbers_mu, numbers_nu, numbers_other}
 use Rattle.translate.proofs.blocks.write_block.Goals as goal

@@ -1,9 +1,5 @@
-use mathlib.Core.Path.{◌≡◌}
-use mathlib.Core.List.{[], ◌∷◌, ◌++◌}
-use Prim.Native.Nat.{◌+◌}
 use native.Mathlib.Omega.{arith}
 use native.Mathlib.Numerals.{add-one}
-use lib.ListN.{length, take, get_or}
 use lib.Seq.{take-suc, take_all, length-take-le}
 use Rattle.translate.proofs.Putting.{wrote_none, wrote_then}
 use Rattle.translate.proofs.bytes.Writer.put.Goals as goal

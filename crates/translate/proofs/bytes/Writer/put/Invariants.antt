@@ -1,4 +1,3 @@
-use mathlib.Core.Path.{◌≡◌}
 use lib.ListN.{take}
 use Rattle.translate.specs.internal.Parts.{Wrote}
 use Rattle.translate.proofs.bytes.Writer.put.Given as goal

@@ -1,7 +1,5 @@
-use mathlib.Core.Path.{◌≡◌, refl, ap, ◌∙◌}
-use native.Mathlib.Omega.{arith}
+use mathlib.Core.Path.{refl, ◌∙◌}
 use borrow.Author.Rules.{rules}
-use lib.ListN.{length}
 use Rattle.translate.specs.internal.Flags.{distinct_of}
 use Rattle.translate.proofs.Filling.{blocks_room, cells_room, operands_room, filled_parts}
 use Rattle.translate.proofs.sources.Equations.fill.Goals as goal

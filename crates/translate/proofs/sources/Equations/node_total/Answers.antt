@@ -1,11 +1,11 @@
-use mathlib.Core.Path.{sym, ◌∙◌}
+use mathlib.Core.Path.{◌∙◌}
 use native.Mathlib.Omega.{arith}
 use borrow.Author.Rules.{rules}
 use Rattle.std.specs.List.{range_with_len}
 use Rattle.std.proofs.lemmas.Iterator.{YieldsList-from_range, YieldsList-from_map}
 use Rattle.std.proofs.lemmas.Iterator.Consumers.{sum_by_from_yields_List, fits_by_from_yields_list, YieldsList-at}
 use Rattle.translate.specs.internal.Flags.{distinct_of}
-use Rattle.translate.proofs.TotalLaws.{size, size_is, node_sum, node_few}
+use Rattle.translate.proofs.TotalLaws.{size, node_sum, node_few}
 use Rattle.translate.proofs.ShapeLaws.{distinct_few}
 use Rattle.translate.proofs.sources.Equations.node_total.Goals as goal
 

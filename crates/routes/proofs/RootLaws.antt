@@ -66,7 +66,7 @@ module _ (ev : Evaluator) where
   root_asked = record { node = some_node ev.case.parts.formula_part; within = omega arith }
 
   -- and what it answers there
-  pub root_answer : ActionMasks (action_in ev.case.header ev.case.labels.now ev.case.actions.now) ev.case.header.actions ev.masks.now
+  pub root_answer : ActionMasks (action_in ev.case.header ev.case.labels.part.now ev.case.actions.part.now) ev.case.header.actions ev.masks.now
       → (o : Option Value) → Evaluated ev (replicate block_limit (replicate word_count 0)) 0 0 o → Rooted (run_of direct (case_given ev.case)) ev.limit o
   unfolding run_of case_in
   root_answer are = go
@@ -75,7 +75,7 @@ module _ (ev : Evaluator) where
       n = states_of ev
 
       action : ℕ → Action
-      action = action_in ev.case.header ev.case.labels.now ev.case.actions.now
+      action = action_in ev.case.header ev.case.labels.part.now ev.case.actions.part.now
 
       w : Worked
       w = worked n (transitions_of ev) (formula_at action (nodes_of ev) 0) (all_empty n)

@@ -69,7 +69,8 @@ impl<'a> Evaluator<'a> {
         }
     }
 
-    // The value of an and: the states in both sets of its operands, left first.
+    // The value of an and: the states in both sets of its operands, left first. This and the next three are not two functions over an operation:
+    // that was tried, but of functions that call each other all have the same type parameters.
     #[cycle(binder_evaluate)]
     fn and(&self, sets: &[Set; BLOCKS], at: usize, used: u64) -> Option<Value>
         requires { Asks self.now at used × kind_at self.now at ≡ 2 }
@@ -148,7 +149,7 @@ impl<'a> Evaluator<'a> {
 pub fn evaluate_root(case: &DirectCase<'_>, limit: u64) -> Option<Value>
     ensures { Rooted (run_of direct (case_given case.now)) limit result }
 {
-    let masks = action_masks(case.labels, case.header, case.actions);
+    let masks = action_masks(case.labels.part, case.header, case.actions.part);
     let blocks = blocks_of(&case.formula);
     let evaluator = Evaluator {
         case: *case,

@@ -71,9 +71,9 @@ fn direct_opened(case: &OpenCase<'_>, marks: &mut [u64], limit: u64) -> Tallied
     let tally = first_appearances(case, &mut first);
     let given = DirectCase {
         header: case.laid.header,
-        labels: case.laid.labels().part,
+        labels: case.laid.labels(),
         transitions: case.laid.transitions(),
-        actions: case.laid.actions().part,
+        actions: case.laid.actions(),
         formula: case.laid.formula(),
     };
     let answer = direct_parts(&given, marks, limit);

@@ -31,6 +31,11 @@ none_of_both cs ds t z = go (ℕ_discrete (first_of cs) 0)
     go (yes x) = (x, sym (first.none_of_first cs ds t x) ∙ z)
     go (no d) = absurd (d (sym (first.one_of_first cs ds d) ∙ z))
 
+-- each condition of a case has a number
+pub case_numbered : (b : List ℕ) → first.Without 0 (case_conditions b)
+unfolding case_conditions layout_conditions model_conditions formula_conditions every
+case_numbered b = tt
+
 pub passed : (b : List ℕ) → Accepted b → Passed b
 unfolding case_refusal case_conditions layout_conditions model_conditions formula_conditions every
 passed b ok =

@@ -12,6 +12,7 @@ use lib.ListN.{length, drop, drop_of_length-le}
 use Rattle.std.specs.List.{range_with_len, list_all}
 use Rattle.sets.specs.Lists.{numbers_from, every}
 use Rattle.sets.proofs.Lists.{length_range}
+use Rattle.sets.proofs.Ranges.{range_is}
 
 -- ---- truth values
 
@@ -75,13 +76,8 @@ all_map p f (x ∷ xs) = ap (λ (b : Bool). p (f x) && b) (all_map p f xs)
 
 -- ---- `all` over the places of a table
 
--- the numbers of a range are those that count from its start
-pub range_is : (i k : ℕ) → range_with_len i k ≡ numbers_from i k
-unfolding numbers_from
-range_is i zero = refl
-range_is i (suc k) = rw (add-one i) (ap (λ (l : List ℕ). i ∷ l) (range_is (suc i) k))
-
-every_is : {A : Type 0} (p : A → Bool) (xs : List A) → list_all p xs ≡ every p xs
+-- a test of all elements, as the library has it
+pub every_is : {A : Type 0} (p : A → Bool) (xs : List A) → list_all p xs ≡ every p xs
 unfolding every
 every_is p [] = refl
 every_is p (x ∷ xs) = ap (λ (b : Bool). p x && b) (every_is p xs)

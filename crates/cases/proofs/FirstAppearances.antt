@@ -1,6 +1,5 @@
 -- Laws of the flags of first appearances: the flagged transitions are the distinct ones, in order, and as many.
 use mathlib.Core.Path.{◌≡◌, refl, sym, ap, ◌∙◌}
-use mathlib.Core.Logic.{◌⊎◌, inl, inr}
 use mathlib.Core.Bool.{Bool, true, false, cond}
 use mathlib.Core.List.{List, [], ◌∷◌, ◌++◌, map}
 use Rattle.std.proofs.Common.{below_more}
@@ -8,21 +7,17 @@ use Rattle.std.specs.List.{count_by, filter}
 use Rattle.std.proofs.lemmas.List.Sums.{sum_by-cons, length-filter}
 use Rattle.sets.proofs.Ranges.{by_places}
 use Prim.Native.Nat.{ℕ, zero, suc, ◌+◌, ◌<◌, ◌≤◌}
-use native.Mathlib.Nat.{eq-or-lt_of_le, zero-add}
+use native.Mathlib.Nat.{zero-add}
 use native.Mathlib.Numerals.{one-add}
 use native.Mathlib.Omega.{arith}
-use mir.Val.{bool_byte}
 use lib.Dec.{eqb}
 use lib.ListN.{length, get_or, set, length-set, length-map, length-append, get_or-append}
 use lib.Seq.{get_or-set_same, get_or-set_other}
 use Rattle.sets.specs.Lists.{numbers_from, keep}
-use Rattle.sets.specs.Words.{bit}
-use Rattle.sets.proofs.Lists.{length_range, length_table, table_at}
+use Rattle.sets.proofs.Lists.{length_table, table_at}
 use Rattle.cases.specs.File.{transition_in}
 use Rattle.cases.specs.Case.{distinct, copies_before, transition_at}
 use Rattle.cases.specs.internal.Checks.{transitions_in}
-use Rattle.cases.proofs.Checking.{range_done, range_next}
-use Rattle.cases.proofs.Distinct.{length_keep}
 use Rattle.cases.specs.internal.Links.{FirstFlags}
 
 -- functions and tests that agree on a range pick the same

@@ -16,7 +16,8 @@ use Rattle.cases.specs.Prefix.{Node, arity_in, formula_arities, exactly, end_of}
 use Rattle.cases.specs.File.{node_in}
 use Rattle.cases.specs.Conditions.{node_ok, bad_formula, is_binder, node_at, bound_ok, bad_variable, binder_count, block_total, too_deep}
 use Rattle.cases.specs.internal.Checks.{nodes_in, binds}
-use Rattle.cases.proofs.Checking.{and_fails, range_is}
+use Rattle.sets.proofs.Ranges.{range_is}
+use Rattle.cases.proofs.Checking.{and_fails}
 
 -- ---- 8
 

@@ -3,7 +3,7 @@ use mir.Val.{bool_byte}
 use mathlib.Core.Path.{◌≡◌, refl, sym, ap, ap₂, ◌∙◌}
 use mathlib.Core.Bool.{Bool, true, false, cond, not, ◌&&◌, ◌||◌}
 use mathlib.Core.Logic.{by_cases}
-use mathlib.Core.List.{List, [], ◌∷◌, ◌++◌, map}
+use mathlib.Core.List.{List, [], ◌∷◌, map}
 use Prim.Native.Nat.{ℕ, zero, suc, ◌+◌, ◌-◌, ◌*◌, ◌^◌, ◌<◌, ◌≤◌}
 use native.Mathlib.Decide.{ℕ_discrete}
 use native.Mathlib.Numerals.{one-add}
@@ -12,34 +12,23 @@ use native.Mathlib.Omega.{arith}
 use borrow.Author.Tests.{eq-eqb, ne_eqb}
 use lib.Dec.{eqb}
 use lib.ListN.{length, get_or, drop}
-use lib.Pow.{pow_mono}
 use Rattle.std.specs.List.{list_all, prefix_len, filter}
 use Rattle.sets.specs.Lists.{numbers_from, every, keep}
 use Rattle.sets.specs.Words.{number_of_bits, bit}
 use Rattle.sets.proofs.Lists.{length_table, table_at, all_true, all_of_both, all_of_kept, kept_equal, all_kept}
 use Rattle.sets.proofs.Masks.{number_one}
-use Rattle.cases.specs.File.{Header, Label, has_label_table, label_records, label_in, label_limit}
+use Rattle.cases.specs.File.{Header, Label, has_label_table, label_records, label_in}
 use Rattle.cases.specs.Labels.{record_numbers, is_name, names_of, occurrences, same_names, label_names, alike, alike_labels}
 use Rattle.cases.specs.Conditions.{padded, label_ok}
 use Rattle.cases.specs.internal.Checks.{labels_in}
 use Rattle.cases.specs.internal.Names.{equally_many, same_as}
-use Rattle.cases.proofs.Checking.{all_map}
+use Rattle.cases.proofs.Checking.{every_is, all_map}
 
 -- ---- condition 15
-
-pub and-true : (b : Bool) → (b && true) ≡ b
-and-true true = refl
-and-true false = refl
 
 pub or-false : (b : Bool) → (b || false) ≡ b
 or-false true = refl
 or-false false = refl
-
--- a test of all elements, as the library has it
-pub every_is : {A : Type 0} (p : A → Bool) (xs : List A) → list_all p xs ≡ every p xs
-unfolding every
-every_is p [] = refl
-every_is p (x ∷ xs) = ap (λ (b : Bool). p x && b) (every_is p xs)
 
 -- Behind its first 0 a list has none but 0.
 pub padded_is : (ks : List ℕ) → list_all (λ k. eqb k 0) (drop (prefix_len (λ k. not (eqb k 0)) ks) ks) ≡ padded ks
@@ -176,16 +165,6 @@ masking_more part l j x mask k h m e =
       small = rw (z, pow-suc 2 (l - suc x)) (omega (arith, m.small));
       bits = mask_more (same_as part l j) x l mask k h m.bits e;
     }
-
-pub masking_done : (part : List ℕ) (l j x mask : ℕ) → x ≤ 0 → Masking part l j x mask → mask ≡ number_of_bits (map (same_as part l j) (numbers_from 0 l))
-masking_done part l j x mask h m =
-    let z : x ≡ 0 = omega arith in
-    let e : l - 0 ≡ l = omega arith in
-    rw e at (rw z at m.bits)
-
--- there is room for one bit more
-pub masking_room : {part : List ℕ} {l j x mask : ℕ} → l ≤ label_limit → 0 < x → Masking part l j x mask → 2 * mask + 1 < 2 ^ 64
-masking_room {l = l} {x = x} few h m = omega (arith, m.small, m.within, pow_mono {i = suc (l - x)} {j = 64} (omega (arith, m.within)), pow-suc 2 (l - x))
 
 -- ---- alike labels
 

@@ -1,5 +1,5 @@
 // Opening a case: its conditions, by what they look at.
-ghost use Rattle.std.specs.Prelude.{◌≡◌, not, map, ◌-◌, ◌≤◌, ◌<◌, eqb};
+ghost use Rattle.std.specs.Prelude.{◌≡◌, not, map, ◌≤◌, ◌<◌, eqb};
 ghost use Rattle.sets.specs.Lists.{every, for_some};
 ghost use Rattle.sets.specs.Refusals.{between, first_of};
 ghost use Rattle.cases.specs.Prefix.{arity_in, action_arities, formula_arities, whole_formulas, exactly, end_of};

@@ -114,8 +114,8 @@ pub fn case_end(bytes: &[u8]) -> usize
     end
 }
 
-// Where the transitions have to stand, by the version and the counts. This and the next three ask that the counts are in range, so that the
-// sums fit; a type for a header of which that is known would be no plainer than the one word of the contract.
+// Where the transitions have to stand, by the version and the counts. This, the next three, and conditions 4 and 5 ask that the counts are in
+// range, so that the sums fit; a type for a header of which that is known would be no plainer than the one word of the contract.
 pub fn transitions_start(h: Header) -> usize
     requires { CountsFit h }
     ensures { (result ≡ transitions_start h) × (result ≤ longest_header + 8 * label_limit) }

@@ -68,7 +68,8 @@ fn same_labels(table: &LabelRecords<'_>, j: usize) -> u64
     mask
 }
 
-// The labels that are alike to label j.
+// The labels that are alike to label j. The part and the header stand beside each other, here and in the two functions that hand them on: a header
+// alone says whether there are records, and a type for the two would be no plainer.
 pub fn alike_labels(part: &[u8], h: Header, j: usize) -> u64
     requires { LabelPart part.now h × (j < h.labels) }
     ensures { result ≡ number_of_bits (alike_labels h (labels_in part.now (label_records h)) j) }

@@ -5,7 +5,7 @@ use Rattle.std.proofs.lemmas.Iterator.{YieldsList-from_slice}
 use Rattle.std.proofs.lemmas.Iterator.Search.{all_from_yields_List}
 use Rattle.cases.specs.Labels.{record_numbers}
 use Rattle.cases.specs.internal.Names.{equally_many}
-use Rattle.cases.proofs.LabelLaws.{every_is}
+use Rattle.cases.proofs.Checking.{every_is}
 use Rattle.cases.proofs.labels.all_equally_many.Goals as goal
 
 pub returns : goal.returns

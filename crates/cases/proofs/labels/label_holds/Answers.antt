@@ -9,7 +9,8 @@ use Rattle.std.proofs.lemmas.Iterator.Adapters.{YieldsList-from_skip_while}
 use Rattle.sets.specs.Lists.{every}
 use Rattle.cases.specs.File.{name_limit}
 use Rattle.cases.specs.Labels.{record_numbers}
-use Rattle.cases.proofs.LabelLaws.{every_is, padded_is}
+use Rattle.cases.proofs.Checking.{every_is}
+use Rattle.cases.proofs.LabelLaws.{padded_is}
 use Rattle.cases.proofs.labels.label_holds.Goals as goal
 
 pub returns-then-all : goal.returns-then-all

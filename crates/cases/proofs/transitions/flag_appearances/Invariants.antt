@@ -1,5 +1,3 @@
-use mathlib.Core.Path.{◌≡◌}
-use lib.ListN.{length}
 use Rattle.cases.proofs.FirstAppearances.{SetBefore}
 use Rattle.cases.proofs.transitions.flag_appearances.Given as goal
 

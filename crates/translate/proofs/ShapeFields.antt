@@ -11,6 +11,8 @@ use Rattle.sets.specs.Lists.{numbers_from}
 use Rattle.sets.proofs.Lists.{length_table}
 use Rattle.cases.specs.Action.{Action}
 use Rattle.cases.specs.declared.Node.{Node}
+use Rattle.cases.specs.declared.FormulaKind.{FormulaKind}
+use Rattle.cases.specs.internal.Kinds.{formula_number}
 use Rattle.cases.specs.Prefix.{arity_in, formula_arities, end_of}
 use Rattle.cases.specs.File.{node_in, node_limit}
 use Rattle.cases.specs.internal.Masks.{mask_of}
@@ -46,12 +48,12 @@ module _ (part : List ℕ) (f i : ℕ) (h : i < f) (x : Node) (e : x ≡ node_in
   node_read = node_in_lem part f i (record { kind = 0; arg = 0 }) h ∙ sym e
 
   -- the shape of node i by its kind
-  pub shape_read : (action : ℕ → Action) (added k : ℕ) → x.kind ≡ k
+  pub shape_read : (action : ℕ → Action) (added : ℕ) {kind k : FormulaKind} → formula_number kind ≡ x.kind → kind ≡ k
       → shape_by (end_of (map (arity_in formula_arities) (nodes_in part f)) (i + 1) + added) (mask_of (action x.arg))
-      (binder_count (take x.arg (nodes_in part f)) + added) (binder_count (take i (nodes_in part f)) + added) k
+      (binder_count (take x.arg (nodes_in part f)) + added) (binder_count (take i (nodes_in part f)) + added) (formula_number k)
       ≡ shape_in action (nodes_in part f) added i
   unfolding shape_in
-  shape_read action added k e = rw (node_read, ← e)
+  shape_read action added n is = rw (node_read, ← n, is)
 
 -- ---- the shapes of all nodes
 

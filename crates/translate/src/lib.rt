@@ -86,6 +86,7 @@ impl Equations<'_, '_> {
         let cells = HEADER + 8 * d;
         let operands = cells + 12 * c;
         let mut w = Writer { out, done: 0 };
+        // The header: version, states, blocks, cells, operands, initial state, and where the three tables start.
         w.put([
             1,
             self.states,

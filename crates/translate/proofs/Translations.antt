@@ -9,17 +9,14 @@ use borrow.Author.Tests.{lt-ltb, le-ltb, ltb-true, ltb-false}
 use Rattle.sets.specs.Lists.{every}
 use Rattle.sets.proofs.Refusals.{Without, one_of_first, reached, none_reached, refusing}
 use Rattle.cases.specs.Conditions.{layout_conditions, model_conditions, formula_conditions, case_conditions, case_refusal, Accepted}
+use Rattle.cases.proofs.Accepting.{case_numbered}
 use Rattle.cases.proofs.Openings.{some_number as case_number_lem}
 use Rattle.translate.specs.Translating.{file, translate_conditions, translate_refusal, translate_number, file_after, Translated}
 use Rattle.translate.specs.declared.Cause.{Cause}
 use Rattle.translate.specs.declared.Cause.TheVariants.{Open, Memory}
 
 module _ (b : List ℕ) where
-  -- No condition of a case has the number 0, and none the number 13.
-  none_0 : Without 0 (case_conditions b)
-  unfolding case_conditions layout_conditions model_conditions formula_conditions every
-  none_0 = tt
-
+  -- no condition of a case has the number 13
   none_13 : Without 13 (case_conditions b)
   unfolding case_conditions layout_conditions model_conditions formula_conditions every
   none_13 = tt
@@ -29,7 +26,7 @@ module _ (b : List ℕ) where
     pub unrefused : translate_refusal b room ≡ 0 ↔ Accepted b × (length (file b) ≤ room)
     unfolding translate_refusal translate_conditions case_refusal
     unrefused =
-        let r = none_reached (case_conditions b) 13 _ (λ z. omega arith) none_0 in (
+        let r = none_reached (case_conditions b) 13 _ (λ z. omega arith) (case_numbered b) in (
           λ e. let x = r.0 e in (x.0, ltb-false room (length (file b)) x.1),
           λ x. r.1 (x.0, le-ltb room (length (file b)) x.1),
         )
@@ -38,7 +35,7 @@ module _ (b : List ℕ) where
     pub lacks_room : translate_refusal b room ≡ 13 ↔ Accepted b × (room < length (file b))
     unfolding translate_refusal translate_conditions case_refusal every
     lacks_room =
-        let r = reached (case_conditions b) 13 _ [] (λ z. omega arith) none_0 none_13 tt in (
+        let r = reached (case_conditions b) 13 _ [] (λ z. omega arith) (case_numbered b) none_13 tt in (
           λ e. let x = r.0 e in (x.0, ltb-true room (length (file b)) x.1),
           λ x. r.1 (x.0, lt-ltb room (length (file b)) x.1),
         )

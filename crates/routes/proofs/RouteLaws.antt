@@ -12,11 +12,12 @@ use lib.ListN.{length, drop}
 use Rattle.sets.specs.Lists.{every}
 use Rattle.sets.specs.Words.{words, word_count}
 use Rattle.sets.specs.Refusals.{Conditions, first_of, Outcome, refused, by_refusal, GivesMarks, report_of}
-use Rattle.sets.proofs.Refusals.{Without, apart, reached, none_reached, none_of_first, one_of_first, refusing, reports, refuses, number_is}
+use Rattle.sets.proofs.Refusals.{apart, reached, none_reached, none_of_first, one_of_first, refusing, reports, refuses, number_is}
 use Rattle.solver.specs.Outcome.{solve_conditions, solve_refusal, solve_exceeds, solve_too_short}
 use Rattle.solver.proofs.Promises.{formed_accepted}
 use Rattle.cases.specs.Case.{Case, case_of}
 use Rattle.cases.specs.Conditions.{layout_conditions, model_conditions, formula_conditions, case_conditions, case_refusal, Accepted}
+use Rattle.cases.proofs.Accepting.{case_numbered}
 use Rattle.translate.specs.Translating.{file, translate_conditions, translate_refusal}
 use Rattle.translate.proofs.Promises.{well_formed}
 use Rattle.translate.proofs.Translations.{unrefused, lacks_room, own_number}
@@ -50,11 +51,6 @@ module _ {cs : Conditions} {R : Route} {c : Case} {marks : List ℕ} {o : Outcom
 -- ---- conditions 13 and 14 behind those of the case
 
 module _ (b : List ℕ) where
-  -- the case's own are numbers other than 0, 13 and 14
-  pub case_numbered : Without 0 (case_conditions b)
-  unfolding case_conditions layout_conditions model_conditions formula_conditions every
-  case_numbered = tt
-
   module _ (x y : Bool) where
     abbrev behind : Conditions
     behind = (13, x) ∷ (14, y) ∷ []
@@ -64,7 +60,7 @@ module _ (b : List ℕ) where
 
     -- 13 and 14 are not reached
     passed_13 : first_of (case_conditions b ++ ((13, x) ∷ [])) ≡ 0 ↔ (first_of (case_conditions b) ≡ 0) × (x ≡ false)
-    passed_13 = none_reached (case_conditions b) 13 x (λ z. omega arith) case_numbered
+    passed_13 = none_reached (case_conditions b) 13 x (λ z. omega arith) (case_numbered b)
 
     pub answered_14 : first_of (case_conditions b ++ behind) ≡ 14 ↔ (first_of (case_conditions b) ≡ 0) × (x ≡ false) × (y ≡ true)
     unfolding case_conditions layout_conditions model_conditions formula_conditions every

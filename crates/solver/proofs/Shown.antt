@@ -15,15 +15,13 @@ use Rattle.sets.specs.Words.{marked, bit, word_count, state_limit}
 use Rattle.sets.proofs.Lists.{kept_equal}
 use Rattle.sets.proofs.Words.{marked_words}
 use Rattle.solver.specs.Cells.{Cell, And, Or, value, Values}
-use Rattle.solver.specs.declared.FileCell.TheVariants.{And as IsAnd, Or as IsOr, Variable as IsVariable}
 use Rattle.solver.specs.declared.Operands.{Operands}
-use Rattle.solver.specs.internal.Reading.{cell_read}
 use Rattle.solver.specs.internal.Forms.{Ordered}
 use Rattle.solver.specs.File.{sizes_of, operands, Entry, entry_at, entry_cell, cells, list_of, block_limit}
 use Rattle.solver.specs.internal.Checks.{SizesFit}
 use Rattle.solver.specs.internal.Working.{OpenFile, Ready, ListAt, HoldsRows, Shows, Valued, CellsValued, truths}
 use Rattle.solver.specs.declared.Sizes.{Sizes}
-use Rattle.solver.proofs.Tables.{counted, length_cells, cell_at_lem, operand_at_lem, and_numbers, or_numbers, variable_numbers}
+use Rattle.solver.proofs.Tables.{counted, length_cells, cell_at_lem, operand_at_lem}
 use Rattle.solver.proofs.Reading.{layout_facts}
 use Rattle.solver.proofs.WellFormed.{Keeps, ordered, cell_kept}
 use Rattle.solver.proofs.Values.{value_kept}
@@ -121,9 +119,6 @@ module _ {e : List ℕ} {sizes : Sizes} {work : List ℕ} (o : OpenFile e sizes)
   abbrev few : SizesFit (sizes_of e)
   few = (layout_facts e o.formed.layout).counts
 
-  pub known : entry.kind ≤ 2
-  known = facts.kinds
-
   -- a list's operands are in the table
   pub list_fits : {first count : ℕ} → entry.kind ≤ 1 → first ≡ entry.one → count ≡ entry.two → ListAt e first count
   list_fits k f c =
@@ -137,48 +132,39 @@ module _ {e : List ℕ} {sizes : Sizes} {work : List ℕ} (o : OpenFile e sizes)
   valued : {rows : List (List ℕ)} {answer : Bool} → ((ρ : Valuation) → answer ≡ value ρ (truths work) (cell_at e i)) → Valued e rows i work answer
   valued f = record { right = λ ρ vs holds v s. f ρ ∙ by_rule ρ vs v s }
 
-  -- the cell that was read is an and
-  module _ {l : Operands} (is : IsAnd l ≡ cell_read (entry_at e i)) where
-    abbrev and_of : (entry.kind ≡ 0) × (l.first ≡ entry.one) × (l.count ≡ entry.two)
-    and_of = and_numbers entry.kind entry.one entry.two is
-
+  -- an and
+  module _ {l : Operands} (kind : entry.kind ≡ 0) (list : (l.first ≡ entry.one) × (l.count ≡ entry.two)) where
     pub and_fits : ListAt e l.first l.count
-    and_fits = list_fits (omega (arith, and_of.0)) and_of.1 and_of.2
+    and_fits = list_fits (omega arith) list.0 list.1
 
     pub and_valued : {rows : List (List ℕ)} {found : Bool} → found ≡ wanted work 0 (list_of (operands e) l.first l.count) → Valued e rows i work (not found)
     unfolding entry_cell
-    and_valued f = valued (λ ρ. and_value work r.bits ρ _ f ∙ rw (and_of.0, ← and_of.1, ← and_of.2) refl)
+    and_valued f = valued (λ ρ. and_value work r.bits ρ _ f ∙ rw (kind, ← list.0, ← list.1) refl)
 
-  -- an or
-  module _ {l : Operands} (is : IsOr l ≡ cell_read (entry_at e i)) where
-    abbrev or_of : (entry.kind ≡ 1) × (l.first ≡ entry.one) × (l.count ≡ entry.two)
-    or_of = or_numbers entry.kind entry.one entry.two is
+  -- an or, if neither of the others
+  module _ {l : Operands} (n : ¬ (entry.kind ≡ 0)) (m : ¬ (entry.kind ≡ 2)) (list : (l.first ≡ entry.one) × (l.count ≡ entry.two)) where
+    kind : entry.kind ≡ 1
+    kind = omega (arith, n, m, facts.kinds)
 
     pub or_fits : ListAt e l.first l.count
-    or_fits = list_fits (omega (arith, or_of.0)) or_of.1 or_of.2
+    or_fits = list_fits (omega (arith, kind)) list.0 list.1
 
     pub or_valued : {rows : List (List ℕ)} {found : Bool} → found ≡ wanted work 1 (list_of (operands e) l.first l.count) → Valued e rows i work found
     unfolding entry_cell
-    or_valued f = valued (λ ρ. or_value work r.bits ρ _ f ∙ rw (or_of.0, ← or_of.1, ← or_of.2) refl)
+    or_valued f = valued (λ ρ. or_value work r.bits ρ _ f ∙ rw (kind, ← list.0, ← list.1) refl)
 
   -- a variable
-  module _ {block state : ℕ} (is : IsVariable block state ≡ cell_read (entry_at e i)) where
-    abbrev variable_of : (1 < entry.kind) × (block ≡ entry.one) × (state ≡ entry.two)
-    variable_of = variable_numbers entry.kind entry.one entry.two is
-
-    second : entry.kind ≡ 2
-    second = omega (arith, variable_of.0, facts.kinds)
-
+  module _ {block state : ℕ} (second : entry.kind ≡ 2) (pair : (block ≡ entry.one) × (state ≡ entry.two)) where
     pub variable_fits : (block < block_limit) × (state < state_limit)
     variable_fits =
         let b = facts.variable second in
-        (omega (arith, few.few_blocks, b.0, variable_of.1), omega (arith, few.few_states, b.1, variable_of.2))
+        (omega (arith, few.few_blocks, b.0, pair.0), omega (arith, few.few_states, b.1, pair.1))
 
     pub variable_valued : {rows : List (List ℕ)} {answer : Bool} → answer ≡ marked (get_or rows block []) state → Valued e rows i work answer
     unfolding value entry_cell
     variable_valued {rows} f = record {
       right = λ ρ vs holds v t.
-          let z : has (ρ block) state ≡ get_or vs i false = rw (variable_of.1, variable_of.2) (rw second at (by_rule ρ vs v t)) in
+          let z : has (ρ block) state ≡ get_or vs i false = rw (pair.0, pair.1) (rw second at (by_rule ρ vs v t)) in
           f
           ∙ ap (λ (w : List ℕ). marked w state) (holds.row block variable_fits.0)
           ∙ marked_words word_count (ρ block) state (omega (arith, variable_fits.1))

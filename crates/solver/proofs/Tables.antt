@@ -11,7 +11,6 @@ use Rattle.solver.specs.Cells.{And as AndOf}
 use Rattle.solver.specs.declared.FileCell.{FileCell}
 use Rattle.solver.specs.declared.FileCell.TheVariants.{And, Or, Variable}
 use Rattle.solver.specs.declared.Operands.{Operands}
-use Rattle.solver.specs.internal.Reading.{cell_of, cell_read}
 use Rattle.solver.specs.File.{u32, sizes_of, cells_at, operands_at, Block, block_at, blocks, operands, Entry, entry_at, entries, list_of, entry_cell, cells}
 use Rattle.solver.specs.Conditions.{arity, operands_before}
 use Rattle.solver.specs.declared.Sizes.{Sizes}
@@ -33,50 +32,14 @@ counted are = record {
   initial = ap (λ (x : Sizes). x.initial) are;
 }
 
--- a cell is read by its kind
-module _ (e : List ℕ) (i at : ℕ) {k x y : ℕ} (place : at ≡ cells_at (sizes_of e) + 12 * i) (kind : k ≡ u32 e at) (one : x ≡ u32 e (at + 4)) (two : y ≡ u32 e (at + 8)) where
-  numbers_read : cell_of k x y ≡ cell_read (entry_at e i)
-  numbers_read = cc
-
-  pub and_read : k ≡ 0 → And (record { first = x; count = y }) ≡ cell_read (entry_at e i)
-  unfolding cell_of
-  and_read z = rw z at numbers_read
-
-  pub or_read : k ≡ 1 → Or (record { first = x; count = y }) ≡ cell_read (entry_at e i)
-  unfolding cell_of
-  or_read z = rw z at numbers_read
-
-  pub variable_read : ¬ (k ≡ 0) → ¬ (k ≡ 1) → Variable x y ≡ cell_read (entry_at e i)
-  unfolding cell_of
-  variable_read n m = go k n m ∙ numbers_read
-    where
-      go : (k : ℕ) → ¬ (k ≡ 0) → ¬ (k ≡ 1) → Variable x y ≡ cell_of k x y
-      go zero n m = absurd (n refl)
-      go (suc zero) n m = absurd (m refl)
-      go (suc (suc k)) n m = refl
-
--- the numbers of a cell that was read
-pub and_numbers : (k x y : ℕ) {l : Operands} → And l ≡ cell_of k x y → (k ≡ 0) × (l.first ≡ x) × (l.count ≡ y)
-unfolding cell_of
-and_numbers zero x y h = (refl, cc, cc)
-and_numbers (suc zero) x y h = let n : ◌≡◌ {A = ℕ} 0 1 = cc in absurd (omega arith)
-and_numbers (suc (suc k)) x y h = let n : ◌≡◌ {A = ℕ} 0 1 = cc in absurd (omega arith)
-
-pub or_numbers : (k x y : ℕ) {l : Operands} → Or l ≡ cell_of k x y → (k ≡ 1) × (l.first ≡ x) × (l.count ≡ y)
-unfolding cell_of
-or_numbers zero x y h = let n : ◌≡◌ {A = ℕ} 0 1 = cc in absurd (omega arith)
-or_numbers (suc zero) x y h = (refl, cc, cc)
-or_numbers (suc (suc k)) x y h = let n : ◌≡◌ {A = ℕ} 0 1 = cc in absurd (omega arith)
-
-pub list_numbers : (k x y : ℕ) {cell : FileCell} {l : Operands} → cell ≡ cell_of k x y → (cell ≡ And l) ⊎ (cell ≡ Or l) → (k ≤ 1) × (l.first ≡ x) × (l.count ≡ y)
-list_numbers k x y h (inl q) = let n = and_numbers k x y (sym q ∙ h) in (omega (arith, n.0), n.1, n.2)
-list_numbers k x y h (inr q) = let n = or_numbers k x y (sym q ∙ h) in (omega (arith, n.0), n.1, n.2)
-
-pub variable_numbers : (k x y : ℕ) {block state : ℕ} → Variable block state ≡ cell_of k x y → (1 < k) × (block ≡ x) × (state ≡ y)
-unfolding cell_of
-variable_numbers zero x y h = let n : ◌≡◌ {A = ℕ} 0 1 = cc in absurd (omega arith)
-variable_numbers (suc zero) x y h = let n : ◌≡◌ {A = ℕ} 0 1 = cc in absurd (omega arith)
-variable_numbers (suc (suc k)) x y h = (omega arith, cc, cc)
+-- a number behind the first bytes of a file
+pub number_behind : (e : List ℕ) (front at place : ℕ) {part : List ℕ} {x : ℕ} → part ≡ drop front e → x ≡ u32 part at → front + at ≡ place → x ≡ u32 e place
+unfolding u32
+number_behind e front at place is h p =
+    let one : front + (at + 1) ≡ place + 1 = omega arith in
+    let two : front + (at + 2) ≡ place + 2 = omega arith in
+    let three : front + (at + 3) ≡ place + 3 = omega arith in
+    h ∙ rw (is, get_or-drop front e at 0, get_or-drop front e (at + 1) 0, get_or-drop front e (at + 2) 0, get_or-drop front e (at + 3) 0, p, one, two, three) refl
 
 -- operand j of the operand table
 abbrev pub operand_at : List ℕ → ℕ → ℕ

@@ -5,7 +5,7 @@ ghost use Rattle.solver.specs.File.{operands, list_of};
 ghost use Rattle.solver.specs.internal.Working.{Ready, ListAt, Valued, CellsValued, Applied};
 
 use crate::file::EquationFile;
-use crate::{BLOCKS, FileCell, Operands};
+use crate::{BLOCKS, Operands};
 use sets::Set;
 
 // The sets of all blocks, by block.
@@ -31,10 +31,15 @@ fn value_of(file: EquationFile<'_>, sets: &BlockSets, i: usize, work: &[u8]) -> 
     requires { let t = file.tables in Ready t.bytes.now work.now × (i < t.sizes.cells) }
     ensures { Valued file.entry.tables.bytes.now sets.now i work.now result }
 {
-    match file.tables.cell(i) {
-        FileCell::And(list) => !finds(file, list, 0, work),
-        FileCell::Or(list) => finds(file, list, 1, work),
-        FileCell::Variable { block, state } => sets::test(&sets[block], state),
+    let tables = file.tables;
+    match tables.kind(i) {
+        2 => {
+            let (block, state) = tables.pair(i);
+            sets::test(&sets[block], state)
+        }
+        0 => !finds(file, tables.list(i), 0, work),
+        // Only the kind of an or is left.
+        _ => finds(file, tables.list(i), 1, work),
     }
 }
 

@@ -8,7 +8,7 @@ ghost use Rattle.solver.specs.internal.Forms.{opened};
 ghost use Rattle.solver.specs.internal.Checks.{SizesFit, Places, rest_ok, Spans};
 
 use crate::file::{EquationFile, HEADER, Tables, number_at, sizes_of};
-use crate::{Cause, FileCell, Operands, Sizes};
+use crate::{Cause, Operands, Sizes};
 
 // Whether each count is in its range, and the initial state is a state.
 fn counts_hold(sizes: Sizes) -> bool
@@ -122,12 +122,16 @@ fn operand_count(tables: &Tables<'_>, i: usize, used: usize) -> Option<usize>
     requires few { used ≤ tables.now.sizes.operands }
     ensures { Spans tables.now.bytes.now i used result }
 {
-    if 2 < tables.kind(i) {
-        return None;
-    }
-    match tables.cell(i) {
-        FileCell::And(list) | FileCell::Or(list) => list_holds(tables, i, used, list).then_some(list.count),
-        FileCell::Variable { block, state } => variable_holds(tables.sizes, block, state).then_some(0),
+    match tables.kind(i) {
+        0 | 1 => {
+            let list = tables.list(i);
+            list_holds(tables, i, used, list).then_some(list.count)
+        }
+        2 => {
+            let (block, state) = tables.pair(i);
+            variable_holds(tables.sizes, block, state).then_some(0)
+        }
+        _ => None,
     }
 }
 

@@ -1,11 +1,10 @@
 // Reading an equation file.
-ghost use Rattle.std.specs.Prelude.{◌≡◌, ◌+◌, ◌*◌, ◌^◌, ◌<◌, ◌≤◌, leb, length};
+ghost use Rattle.std.specs.Prelude.{◌≡◌, ◌+◌, ◌*◌, ◌^◌, ◌<◌, ◌≤◌, length, drop};
 ghost use Rattle.solver.specs.File.{u32, cells_at, operands_at, entry_at, sizes_of, blocks_at};
-ghost use Rattle.solver.specs.internal.Reading.{cell_read};
 ghost use Rattle.solver.specs.internal.Checks.{Read, SizesFit};
 ghost use Rattle.solver.specs.internal.Working.{OpenFile};
 
-use crate::{FileCell, Operands, Sizes};
+use crate::{Operands, Sizes};
 
 // How many bytes stand before the first table.
 pub const HEADER: usize = 36;
@@ -76,36 +75,38 @@ impl<'a> Tables<'a> {
         number_at(self.bytes, HEADER + 8 * k + 4)
     }
 
-    // The kind of cell i, the file's number. It stays a number for condition 12, which asks whether it is at most 2; then `cell` tells which.
+    // The cell table and what is behind it, which has the places of cells as multiples of 12.
+    fn cells(&self) -> &'a [u8]
+        ensures { result.now ≡ drop (cells_at (sizes_of self.now.bytes.now)) self.now.bytes.now }
+    {
+        &self.bytes[self.sizes.cells_from()..]
+    }
+
+    // The kind of cell i, the file's number: 0 is an and, 1 an or, 2 a variable. It stays a number: as an enum, which is told by the number and then told again,
+    // it was tried, and solve was a quarter slower.
     pub fn kind(&self, i: usize) -> usize
         requires { i < self.now.sizes.cells }
         ensures { result ≡ (entry_at self.now.bytes.now i).kind }
     {
-        number_at(self.bytes, self.sizes.cells_from() + 12 * i)
+        number_at(self.cells(), 12 * i)
     }
 
-    // Cell i, whose kind is that of an and, an or or a variable.
-    pub fn cell(&self, i: usize) -> FileCell
-        requires inside { i < self.now.sizes.cells }
-        requires known { (entry_at self.now.bytes.now i).kind ≤ 2 }
-        ensures { result ≡ cell_read (entry_at self.now.bytes.now i) }
+    // The two numbers behind the kind of cell i: the block and the state, if it is a variable.
+    pub fn pair(&self, i: usize) -> (usize, usize)
+        requires { i < self.now.sizes.cells }
+        ensures { (result.0 ≡ (entry_at self.now.bytes.now i).one) × (result.1 ≡ (entry_at self.now.bytes.now i).two) }
     {
-        let at = self.sizes.cells_from() + 12 * i;
-        let one = number_at(self.bytes, at + 4);
-        let two = number_at(self.bytes, at + 8);
-        let operands = Operands {
-            first: one,
-            count: two,
-        };
-        match number_at(self.bytes, at) {
-            2 => FileCell::Variable {
-                block: one,
-                state: two,
-            },
-            0 => FileCell::And(operands),
-            // Only the kind of an or is left.
-            _ => FileCell::Or(operands),
-        }
+        let cells = self.cells();
+        (number_at(cells, 12 * i + 4), number_at(cells, 12 * i + 8))
+    }
+
+    // The operands of cell i, if it is an and or an or.
+    pub fn list(&self, i: usize) -> Operands
+        requires { i < self.now.sizes.cells }
+        ensures { (result.first ≡ (entry_at self.now.bytes.now i).one) × (result.count ≡ (entry_at self.now.bytes.now i).two) }
+    {
+        let (first, count) = self.pair(i);
+        Operands { first, count }
     }
 
     // The number at place j of the operand table.

@@ -9,7 +9,7 @@ mod rounds;
 ghost use Rattle.std.specs.Prelude.{◌≡◌, ◌<◌, length};
 ghost use Rattle.sets.specs.Words.{state_limit};
 ghost use Rattle.solver.specs.Outcome.{solve_number, solve_answer, Answered};
-ghost use Rattle.solver.specs.internal.Reading.{cell_numbers};
+ghost use Rattle.solver.specs.internal.Reading.{numbers_in_file};
 ghost use Rattle.solver.specs.internal.Working.{AllSolved, Reported};
 
 use conditions::open_file;
@@ -53,9 +53,9 @@ pub enum FileCell {
 
 impl FileCell {
     // The three numbers that stand for it in a file.
-    #[tactic(auto, unfolding(crate::specs::internal::Reading::cell_numbers))]
+    #[tactic(auto, unfolding(crate::specs::internal::Reading::numbers_in_file))]
     pub fn numbers(self) -> [usize; 3]
-        ensures { result ≡ cell_numbers self }
+        ensures { result ≡ numbers_in_file self }
     {
         match self {
             FileCell::And(list) => [0, list.first, list.count],

@@ -1,27 +1,22 @@
 use mathlib.Core.Path.{refl}
-use Prim.Native.Nat.{◌≤◌}
 use native.Mathlib.Omega.{arith}
-use Rattle.solver.specs.File.{entry_at}
-use Rattle.solver.proofs.Tables.{list_numbers, variable_numbers}
+use Rattle.std.proofs.Common.{rules}
 use Rattle.solver.proofs.CellRules.{found_variable, found_other, found_list}
 use Rattle.solver.proofs.conditions.operand_count.Goals as goal
 
-pub returns-then-kind-gt2 : goal.returns-then-kind-gt2
-returns-then-kind-gt2 c =
+pub returns-in_default : goal.returns-in_default
+returns-in_default c =
     let pre = c.requires in
-    found_other c.args.tables.now.read pre.inside pre.counted pre.few refl (rw c.kind.ensures at c.if-kind-gt2.true)
+    found_other c.args.tables.now.read pre.inside pre.counted pre.few refl (omega arith)
 
-pub returns-in-Variable : goal.returns-in-Variable
-returns-in-Variable c =
+pub returns-in-2 : goal.returns-in-2
+returns-in-2 c =
     let pre = c.requires in
-    let x = entry_at c.args.tables.now.bytes.now c.args.i in
-    let n = variable_numbers x.kind x.one x.two c.in-Variable.ensures in
-    let low : x.kind ≤ 2 = rw c.kind.ensures at c.if-kind-gt2.false in
-    rw c.then_some.ensures (found_variable c.args.tables.now.read pre.inside pre.counted pre.few refl (omega (arith, n.0, low)) (rw (n.1, n.2) at c.variable_holds.ensures))
+    let n = c.pair-block.ensures in
+    rw c.then_some.ensures (found_variable c.args.tables.now.read pre.inside pre.counted pre.few refl (omega arith) (rw (n.0, n.1) at c.variable_holds.ensures))
 
-pub returns-in-And : goal.returns-in-And
-returns-in-And c =
+pub returns-in-0 : goal.returns-in-0
+returns-in-0 c =
     let pre = c.requires in
-    let x = entry_at c.args.tables.now.bytes.now c.args.i in
-    let n = list_numbers x.kind x.one x.two c.cell.ensures c.in-And.is in
-    rw (c.then_some-in-And.ensures, n.2) (found_list c.args.tables.now.read pre.inside pre.counted pre.few refl n.0 (rw (n.1, n.2) at c.list_holds.ensures))
+    let n = c.list-list.ensures in
+    rw (c.then_some-in-0.ensures, n.1) (found_list c.args.tables.now.read pre.inside pre.counted pre.few refl (omega arith) (rw (n.0, n.1) at c.list_holds.ensures))

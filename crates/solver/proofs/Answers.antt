@@ -8,7 +8,7 @@ use borrow.Author.Tests.{lt-ltb}
 use Rattle.std.specs.Prelude.{Ok, Err, None}
 use lib.Dec.{ltb}
 use lib.ListN.{length, drop, length-replicate}
-use Rattle.sets.specs.States.{States, has, size, all_empty}
+use Rattle.sets.specs.States.{States, all_empty}
 use Rattle.sets.specs.Words.{words, bit, marked, word_count, state_limit}
 use Rattle.sets.specs.internal.Size.{SizeIs}
 use Rattle.sets.proofs.Words.{marked_words}

@@ -11,7 +11,6 @@ use lib.Seq.{ext_get_or, get_or-set_same, get_or-set_other}
 use borrow.Author.Tests.{lt-ltb, le-ltb}
 use Rattle.sets.specs.States.{start, update, all_empty, Sized}
 use Rattle.sets.specs.Words.{words, bit, word_count}
-use Rattle.sets.proofs.Words.{words_none}
 use Rattle.solver.specs.computed.Solved.{evaluate, Reached, solved, run}
 use Rattle.solver.specs.File.{sizes_of, blocks, block_at, cells, block_limit}
 use Rattle.solver.specs.Conditions.{WellFormed}
@@ -55,10 +54,10 @@ starting_more e k = fun_ext λ j. by j (ℕ_discrete j k)
         side (no h) = starting_out e k j (omega arith) ∙ sym (starting_out e (k + 1) j (omega (arith, q)))
 
 -- no block, one more, all of them
-pub none_started : (e : List ℕ) → HoldsRows (sizes_of e).states (replicate block_limit (replicate word_count 0)) (starting e 0)
-none_started e = record {
+pub none_started : (e : List ℕ) {row : List ℕ} → row ≡ words word_count (start (sizes_of e).states false) → HoldsRows (sizes_of e).states (replicate block_limit row) (starting e 0)
+none_started e {row} is = record {
   sized = starting_sized e 0;
-  row = λ k h. get_or-replicate block_limit k (replicate word_count 0) [] h ∙ words_none word_count (sizes_of e).states ∙ ap (words word_count) (sym (starting_out e 0 k (omega arith)));
+  row = λ k h. get_or-replicate block_limit k row [] h ∙ is ∙ ap (words word_count) (sym (starting_out e 0 k (omega arith)));
 }
 
 pub more_started : (e : List ℕ) {k : ℕ} {rows : List (List ℕ)} {row : List ℕ} → HoldsRows (sizes_of e).states rows (starting e k) → k < length rows → row ≡ words word_count (first e k)

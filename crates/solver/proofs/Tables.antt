@@ -1,17 +1,13 @@
 -- The counts and tables of any file: how long each table is, and each element by the place where it stands.
-use mathlib.Core.Path.{◌≡◌, refl, ap, sym, ◌∙◌}
-use mathlib.Core.Logic.{◌⊎◌, inl, inr}
+use mathlib.Core.Path.{◌≡◌, refl, ap, ◌∙◌}
 use mathlib.Core.List.{List, [], ◌∷◌}
-use Prim.Native.Nat.{ℕ, zero, suc, ◌+◌, ◌*◌, ◌≤◌, ◌<◌}
+use Prim.Native.Nat.{ℕ, ◌+◌, ◌*◌, ◌≤◌, ◌<◌}
 use native.Mathlib.Omega.{arith}
 use lib.ListN.{length, get_or, drop, length-map, length-take, length-drop}
 use lib.Seq.{get_or-take, get_or-drop}
 use Rattle.sets.proofs.Lists.{get_or_map, length_table, table_at, drop_next, sum_next, sum_grows}
 use Rattle.solver.specs.Cells.{And as AndOf}
-use Rattle.solver.specs.declared.FileCell.{FileCell}
-use Rattle.solver.specs.declared.FileCell.TheVariants.{And, Or, Variable}
-use Rattle.solver.specs.declared.Operands.{Operands}
-use Rattle.solver.specs.File.{u32, sizes_of, cells_at, operands_at, Block, block_at, blocks, operands, Entry, entry_at, entries, list_of, entry_cell, cells}
+use Rattle.solver.specs.File.{u32, sizes_of, operands_at, Block, block_at, blocks, operands, Entry, entry_at, entries, list_of, entry_cell, cells}
 use Rattle.solver.specs.Conditions.{arity, operands_before}
 use Rattle.solver.specs.declared.Sizes.{Sizes}
 

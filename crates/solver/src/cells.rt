@@ -1,7 +1,8 @@
 // The values of cells. The file is taken by value: through a reference its fields would be loaded anew for each cell.
-ghost use Rattle.std.specs.Prelude.{◌≡◌, ◌<◌, ◌≤◌, eqb, get_or};
+ghost use Rattle.std.specs.Prelude.{◌≡◌, ◌+◌, ◌*◌, ◌<◌, ◌≤◌, eqb, get_or};
 ghost use Rattle.sets.specs.Lists.{for_some};
-ghost use Rattle.solver.specs.File.{operands, list_of};
+ghost use Rattle.sets.specs.Words.{bit};
+ghost use Rattle.solver.specs.File.{u32, sizes_of, operands_at, operands, list_of};
 ghost use Rattle.solver.specs.internal.Working.{Ready, ListAt, Valued, CellsValued, Applied};
 
 use crate::file::EquationFile;
@@ -11,18 +12,22 @@ use sets::Set;
 // The sets of all blocks, by block.
 pub type BlockSets = [Set; BLOCKS];
 
-// Whether one of the operands of a list has the value wanted.
-fn finds(file: EquationFile<'_>, list: Operands, wanted: u8, work: &[u8]) -> bool
-    requires { let e = file.tables.bytes.now in Ready e work.now × ListAt e list.first list.count }
-    ensures { result ≡ for_some (λ o. eqb (get_or work.now o 0) wanted) (list_of (operands file.entry.tables.bytes.now) list.first list.count) }
+// Whether operand j of a list has the value wanted. A working byte stands for a truth value as 1 or 0, since the C interface lends bytes.
+fn has_value(file: EquationFile<'_>, list: Operands, j: usize, wanted: bool, work: &[u8]) -> bool
+    requires ready { Ready file.tables.bytes.now work.now }
+    requires listed { ListAt file.tables.bytes.now list.first list.count }
+    requires inside { j < list.count }
+    ensures { result ≡ eqb (get_or work.now (u32 file.entry.tables.bytes.now (operands_at (sizes_of file.entry.tables.bytes.now) + 4 * (list.first + j))) 0) (bit wanted) }
 {
-    for j in 0..list.count {
-        let o = file.tables.operand(list.first + j);
-        if work[o] == wanted {
-            return true;
-        }
-    }
-    false
+    work[file.tables.operand(list.first + j)] == u8::from(wanted)
+}
+
+// Whether one of the operands of a list has the value wanted.
+fn finds(file: EquationFile<'_>, list: Operands, wanted: bool, work: &[u8]) -> bool
+    requires { let e = file.tables.bytes.now in Ready e work.now × ListAt e list.first list.count }
+    ensures { result ≡ for_some (λ o. eqb (get_or work.now o 0) (bit wanted)) (list_of (operands file.entry.tables.bytes.now) list.first list.count) }
+{
+    (0..list.count).any(|j| has_value(file, list, j, wanted, work))
 }
 
 // The value of cell i, from those of the cells above it: an and is false if an operand is, an or is true if an operand is, and a
@@ -37,9 +42,9 @@ fn value_of(file: EquationFile<'_>, sets: &BlockSets, i: usize, work: &[u8]) -> 
             let (block, state) = tables.pair(i);
             sets::test(&sets[block], state)
         }
-        0 => !finds(file, tables.list(i), 0, work),
+        0 => !finds(file, tables.list(i), false, work),
         // Only the kind of an or is left.
-        _ => finds(file, tables.list(i), 1, work),
+        _ => finds(file, tables.list(i), true, work),
     }
 }
 

@@ -14,19 +14,11 @@ use crate::{Cause, Operands, Sizes};
 fn counts_hold(sizes: Sizes) -> bool
     ensures { DecidedBy (SizesFit sizes) result }
 {
-    if sizes.states < 1 || sets::STATES < sizes.states {
-        return false;
-    }
-    if sizes.blocks < 1 || crate::BLOCKS < sizes.blocks {
-        return false;
-    }
-    if sizes.cells < 1 || crate::CELLS < sizes.cells {
-        return false;
-    }
-    if crate::OPERANDS < sizes.operands {
-        return false;
-    }
-    sizes.initial < sizes.states
+    (1..=sets::STATES).contains(&sizes.states)
+        && (1..=crate::BLOCKS).contains(&sizes.blocks)
+        && (1..=crate::CELLS).contains(&sizes.cells)
+        && sizes.operands <= crate::OPERANDS
+        && sizes.initial < sizes.states
 }
 
 // Whether the version, the offsets and the length are right.
@@ -35,20 +27,11 @@ fn places_hold(file: &[u8], sizes: Sizes) -> bool
     requires sizes_fit { SizesFit sizes }
     ensures { DecidedBy (Places file.now sizes) result }
 {
-    if number_at(file, 0) != 1 {
-        return false;
-    }
-    if number_at(file, 24) != HEADER {
-        return false;
-    }
-    if number_at(file, 28) != sizes.cells_from() {
-        return false;
-    }
-    let end = sizes.operands_from();
-    if number_at(file, 32) != end {
-        return false;
-    }
-    file.len() == end + 4 * sizes.operands
+    number_at(file, 0) == 1
+        && number_at(file, 24) == HEADER
+        && number_at(file, 28) == sizes.cells_from()
+        && number_at(file, 32) == sizes.operands_from()
+        && file.len() == sizes.operands_from() + 4 * sizes.operands
 }
 
 // The tables of a file, or that condition 11 holds.

@@ -5,17 +5,12 @@ ghost use Rattle.sets.specs.Words.{words, word_count};
 ghost use Rattle.solver.specs.File.{sizes_of, block_at};
 ghost use Rattle.solver.specs.internal.Working.{Ready, HoldsRows, Started, Solving, Turned, starting};
 
+use std::ops::ControlFlow;
+
 use crate::BLOCKS;
 use crate::cells::{BlockSets, right_sides};
 use crate::file::EquationFile;
-use sets::{Set, WORDS};
-
-// How a round of a block ends: its set is stable, and the later blocks are solved, or it is replaced.
-#[derive(Clone, Copy)]
-pub enum Ending {
-    Stable(BlockSets),
-    Replaced(BlockSets),
-}
+use sets::Set;
 
 // Where block k starts: no state for mu, every state for nu.
 fn start_of(file: &EquationFile<'_>, k: usize) -> Set
@@ -25,14 +20,13 @@ fn start_of(file: &EquationFile<'_>, k: usize) -> Set
     sets::initial(file.tables.sizes.states, file.tables.sign(k) == 1)
 }
 
-// Where all blocks start.
+// Where all blocks start. This is a loop: by `array::from_fn` it was tried, and it was not proved that each call leaves the file that the closure holds as it was.
 pub fn starts(file: &EquationFile<'_>) -> BlockSets
     ensures { let e = file.now.tables.bytes.now in HoldsRows (sizes_of e).states result (starting e (sizes_of e).blocks) }
 {
-    let mut sets = [[0u64; WORDS]; BLOCKS];
+    let mut sets = [sets::empty(); BLOCKS];
     for k in 0..file.tables.sizes.blocks {
-        let row = start_of(file, k);
-        sets[k] = row;
+        sets[k] = start_of(file, k);
     }
     sets
 }
@@ -57,8 +51,8 @@ pub fn solve_last(
     loop {
         let end = round(file, s, left, work, budget)?;
         match end {
-            Ending::Stable(t) => return Some(t),
-            Ending::Replaced(t) => {
+            ControlFlow::Break(t) => return Some(t),
+            ControlFlow::Continue(t) => {
                 // The later blocks go back to where they start.
                 let k = file.tables.sizes.blocks - left;
                 let row = t[k];
@@ -70,7 +64,7 @@ pub fn solve_last(
 }
 
 // One round of the outermost of the last `left` blocks: the later blocks are solved anew, a round is counted, the right-hand sides are
-// worked out and compared.
+// worked out and compared. Breaks with all sets where its set is stable, and else goes on with its set replaced.
 #[cycle(round_solve_last)]
 fn round(
     file: &EquationFile<'_>,
@@ -78,7 +72,7 @@ fn round(
     left: usize,
     work: &mut [u8],
     budget: &mut u64,
-) -> Option<Ending>
+) -> Option<ControlFlow<BlockSets, BlockSets>>
     requires { let t = file.now.tables in Ready t.bytes.now work.old × (0 < left) × (left ≤ t.sizes.blocks) × Started t.bytes.now (t.sizes.blocks - left + 1) sets }
     ensures { let t = file.now.tables in Turned t.bytes.now sets (t.sizes.blocks - left) budget.old work.new result budget.new }
 {
@@ -87,7 +81,7 @@ fn round(
     let k = file.tables.sizes.blocks - left;
     let next = right_sides(*file, s, k, work);
     if next[k] == sets[k] {
-        return Some(Ending::Stable(s));
+        return Some(ControlFlow::Break(s));
     }
-    Some(Ending::Replaced(next))
+    Some(ControlFlow::Continue(next))
 }

@@ -1,5 +1,7 @@
 -- What the code's parts hold while blocks are solved, and what each part of the code answers.
 use Rattle.std.specs.Prelude.{◌≡◌, Bool, false, ◌&&◌, List, [], map, ℕ, ◌+◌, ◌<◌, ◌≤◌, eqb, ltb, length, get_or, drop, Ok, Option, MatchOption}
+use Rattle.std.specs.declared.ops.ControlFlow.{ControlFlow}
+use Rattle.std.specs.ControlFlow.{MatchControlFlow}
 use Rattle.sets.specs.States.{States, start, Valuation, update}
 use Rattle.sets.specs.Words.{words, bit, word_count, state_limit}
 use Rattle.sets.specs.Refusals.{report_of}
@@ -12,8 +14,6 @@ use Rattle.solver.specs.declared.Sizes.{Sizes}
 use Rattle.solver.specs.Outcome.{solve_answer}
 use Rattle.solver.specs.declared.Found.{Found}
 use Rattle.solver.specs.declared.Report.{Report}
-use Rattle.solver.specs.declared.rounds.Ending.{Ending}
-use Rattle.solver.specs.declared.rounds.Ending.TheVariants.{Stable, Replaced}
 
 -- a well-formed file and its counts
 pub record OpenFile (e : List ℕ) (sizes : Sizes) : Type 0 where
@@ -108,15 +108,11 @@ pub record IsReplaced (e : List ℕ) (rows : List (List ℕ)) (k budget : ℕ) (
   pub differs : (ρ τ : Valuation) (q : ℕ) (w : States) → HoldsRows (sizes_of e).states rows ρ → SolvesFrom e (k + 1) ρ τ q → RightSidesOf e k τ w →
       (get_or rows_after k [] ≡ words word_count w) × ¬ (w ≡ ρ k)
 
--- what is so by how a round ends
-abbrev pub Ended : List ℕ → List (List ℕ) → ℕ → ℕ → Ending → ℕ → Type 0
-Ended e rows k budget (Stable rows_after) budget_after = IsStable e rows k budget rows_after budget_after
-Ended e rows k budget (Replaced rows_after) budget_after = IsReplaced e rows k budget rows_after budget_after
-
--- One round of block k: the later blocks are solved, a round is counted, and the right-hand sides are compared with the set held.
-pub record Turned (e : List ℕ) (rows : List (List ℕ)) (k budget : ℕ) (work : List ℕ) (answer : Option Ending) (budget_after : ℕ) : Type 0 where
+-- One round of block k: the later blocks are solved, a round is counted, and the right-hand sides are compared with the set held. It breaks where they are that set.
+pub record Turned (e : List ℕ) (rows : List (List ℕ)) (k budget : ℕ) (work : List ℕ) (answer : Option (ControlFlow (List (List ℕ)) (List (List ℕ)))) (budget_after : ℕ) : Type 0 where
   pub ready : Ready e work
-  pub answers : MatchOption answer (TooManyInRound e rows k budget) (λ end. Ended e rows k budget end budget_after)
+  pub answers : MatchOption answer (TooManyInRound e rows k budget) (λ end.
+      MatchControlFlow end (λ rows_after. IsReplaced e rows k budget rows_after budget_after) (λ rows_after. IsStable e rows k budget rows_after budget_after))
 
 -- What solving all blocks finds, and the working bytes afterwards.
 pub record IsFound (e : List ℕ) (limit : ℕ) (work : List ℕ) (found : Found) : Type 0 where

@@ -1,8 +1,4 @@
-use Prim.Native.Nat.{◌<◌}
-use mathlib.Core.Path.{◌≡◌}
-use native.Mathlib.Omega.{arith}
 use Rattle.std.proofs.Common.{rules}
-use Rattle.solver.specs.File.{entry_at}
 use Rattle.solver.proofs.Reading.{row_fits}
 use Rattle.solver.proofs.Shown.{and_fits, and_valued, or_fits, or_valued, variable_fits, variable_valued}
 use Rattle.solver.proofs.cells.value_of.Goals as goal

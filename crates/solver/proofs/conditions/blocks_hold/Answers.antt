@@ -1,13 +1,16 @@
-use mathlib.Core.Path.{◌≡◌, refl}
-use mathlib.Core.Bool.{true, false}
+use mathlib.Core.Path.{refl, ◌∙◌}
 use native.Mathlib.Omega.{arith}
-use Rattle.std.proofs.Common.{rules}
-use Rattle.std.proofs.lemmas.Iterator.{cases_from_all, YieldsList-from_range}
+use Rattle.std.proofs.Common.{rules, tests}
+use Rattle.std.proofs.lemmas.Iterator.{YieldsList-from_range}
+use Rattle.std.proofs.lemmas.Iterator.Search.{all_from_yields_List}
 use Rattle.solver.specs.Conditions.{block_ok}
 use Rattle.solver.proofs.Tables.{counted}
-use Rattle.sets.proofs.Ranges.{every_below}
+use Rattle.sets.proofs.Ranges.{all_below}
 use Rattle.solver.proofs.conditions.blocks_hold.Goals as goal
 
 pub returns : goal.returns
 returns c =
-    rw (← (counted c.args.tables.now.read.sizes_are).blocks) (every_below (block_ok c.args.tables.now.bytes.now) c.args.tables.now.sizes.blocks c.all.result (cases_from_all _ _ c.all.result (λ k. block_ok c.args.tables.now.bytes.now k ≡ true) (λ k. block_ok c.args.tables.now.bytes.now k ≡ false) c.all.ensures.ran (YieldsList-from_range 0 c.args.tables.now.sizes.blocks c.args.tables.now.sizes.blocks refl (omega arith)) (λ x q k. search rules) (λ x q k. search rules)))
+    let t = c.args.tables.now in
+    let n = t.sizes.blocks in
+    rw (← (counted t.read.sizes_are).blocks)
+    (all_from_yields_List (block_ok t.bytes.now) _ _ _ c.all.ensures.ran (YieldsList-from_range 0 n n refl (omega arith)) (λ x b q k. search (rules, tests)) ∙ all_below (block_ok t.bytes.now) n)

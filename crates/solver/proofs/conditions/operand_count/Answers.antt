@@ -1,6 +1,5 @@
 use mathlib.Core.Path.{refl}
 use native.Mathlib.Omega.{arith}
-use Rattle.std.proofs.Common.{rules}
 use Rattle.solver.proofs.CellRules.{found_variable, found_other, found_list}
 use Rattle.solver.proofs.conditions.operand_count.Goals as goal
 

@@ -47,14 +47,14 @@ solve_last-returns-in_err-end t c =
     let z : c.from_residual.result ≡ None = search rules in
     rw z (record { ready = n.ready; answers = out_of_rounds c.args.file.now.opens (omega (arith, i.0, i.1)) i.6 n.answers })
 
-pub solve_last-returns-in-Stable : goal.solve_last-returns-in-Stable
-solve_last-returns-in-Stable t c =
+pub solve_last-returns-in-Break : goal.solve_last-returns-in-Break
+solve_last-returns-in-Break t c =
     let i = c.loop-end.invariant in
-    let n = rw c.in-Stable.is at c.in_ok-end.ensures in
+    let n = rw c.in-Break.is at c.in_ok-end.ensures in
     record { ready = n.ready; answers = stopped c.args.file.now.opens (omega (arith, i.0, i.1)) i.6 n.answers }
 
 pub solve_last-loop-end-preserved : goal.solve_last-loop-end-preserved
 solve_last-loop-end-preserved t c =
     let i = c.loop-end.invariant in
-    let n = rw c.in-Replaced.is at c.in_ok-end.ensures in
+    let n = rw c.in-Continue.is at c.in_ok-end.ensures in
     (i.0, i.1, i.2, i.3, i.4, n.ready, goes_on c.args.file.now.opens (omega (arith, i.0, i.1)) i.6 n.answers i.2 i.4)

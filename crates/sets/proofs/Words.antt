@@ -30,9 +30,9 @@ odd true x = omega arith
 odd false x = omega arith
 
 -- a bit is 0 or 1
-bit_small : (b : Bool) → bit b ≤ 1
-bit_small true = omega arith
-bit_small false = omega arith
+pub bit_low : (b : Bool) → bit b ≤ 1
+bit_low true = omega arith
+bit_low false = omega arith
 
 -- bit s of a set's number says whether state s is in the set
 pub number_bit : (v : States) (s : ℕ) → number_of_bits v / 2 ^ s % 2 ≡ bit (has v s)
@@ -45,18 +45,18 @@ number_bit (b ∷ v) (suc s) = rw (← one-add s, ← shr-shr (bit b + 2 * numbe
 pub number_fits : (v : States) → number_of_bits v < 2 ^ length v
 unfolding number_of_bits
 number_fits [] = omega arith
-number_fits (b ∷ v) = omega (arith, number_fits v, pow-suc 2 (length v), bit_small b)
+number_fits (b ∷ v) = omega (arith, number_fits v, pow-suc 2 (length v), bit_low b)
 
 -- one state more is one bit more
 number_add : (v : States) (s : ℕ) → s < length v → bit_or (number_of_bits v) (2 ^ s) ≡ number_of_bits (set v s true)
 unfolding number_of_bits
 number_add [] s h = absurd (omega arith)
 number_add (b ∷ v) zero h =
-    or_step (bit b + 2 * number_of_bits v) 1 ∙ rw (half b (number_of_bits v), odd b (number_of_bits v), or_zero_r (number_of_bits v)) (omega (arith, bit_small b))
+    or_step (bit b + 2 * number_of_bits v) 1 ∙ rw (half b (number_of_bits v), odd b (number_of_bits v), or_zero_r (number_of_bits v)) (omega (arith, bit_low b))
 number_add (b ∷ v) (suc s) h =
     rw (pow-suc 2 s)
     (or_step (bit b + 2 * number_of_bits v) (2 ^ s * 2)
-    ∙ rw (half b (number_of_bits v), odd b (number_of_bits v), double (2 ^ s), even (2 ^ s), number_add v s (omega arith)) (omega (arith, bit_small b)))
+    ∙ rw (half b (number_of_bits v), odd b (number_of_bits v), double (2 ^ s), even (2 ^ s), number_add v s (omega arith)) (omega (arith, bit_low b)))
   where
     double : (x : ℕ) → x * 2 / 2 ≡ x
     double x = omega arith
@@ -73,7 +73,7 @@ mask_all (b ∷ v) (suc m) h =
     let l : (2 ^ suc m - 1) / 2 ≡ 2 ^ m - 1 = omega (arith, pow-suc 2 m, pow_pos m) in
     let o : (2 ^ suc m - 1) % 2 ≡ 1 = omega (arith, pow-suc 2 m, pow_pos m) in
     and_step (bit b + 2 * number_of_bits v) (2 ^ suc m - 1)
-    ∙ rw (half b (number_of_bits v), odd b (number_of_bits v), l, o, mask_all v m (omega arith)) (omega (arith, bit_small b))
+    ∙ rw (half b (number_of_bits v), odd b (number_of_bits v), l, o, mask_all v m (omega arith)) (omega (arith, bit_low b))
 
 -- one state less is one bit less, in words of m bits
 number_remove : (v : States) (s m : ℕ) → s < length v → length v ≤ m → bit_and (number_of_bits v) (2 ^ m - 1 - 2 ^ s) ≡ number_of_bits (set v s false)
@@ -84,13 +84,13 @@ number_remove (b ∷ v) zero (suc m) h g =
     let l : (2 ^ suc m - 1 - 2 ^ 0) / 2 ≡ 2 ^ m - 1 = omega (arith, pow-suc 2 m, pow_pos m, pow-zero 2) in
     let o : (2 ^ suc m - 1 - 2 ^ 0) % 2 ≡ 0 = omega (arith, pow-suc 2 m, pow_pos m, pow-zero 2) in
     and_step (bit b + 2 * number_of_bits v) (2 ^ suc m - 1 - 2 ^ 0)
-    ∙ rw (half b (number_of_bits v), odd b (number_of_bits v), l, o, mask_all v m (omega arith)) (omega (arith, bit_small b))
+    ∙ rw (half b (number_of_bits v), odd b (number_of_bits v), l, o, mask_all v m (omega arith)) (omega (arith, bit_low b))
 number_remove (b ∷ v) (suc s) (suc m) h g =
     let wide : 2 ^ suc s ≤ 2 ^ m = pow_mono {i = suc s} {j = m} (omega arith) in
     let l : (2 ^ suc m - 1 - 2 ^ suc s) / 2 ≡ 2 ^ m - 1 - 2 ^ s = omega (arith, pow-suc 2 m, pow-suc 2 s, pow_pos s) in
     let o : (2 ^ suc m - 1 - 2 ^ suc s) % 2 ≡ 1 = omega (arith, pow-suc 2 m, pow-suc 2 s, pow_pos s) in
     and_step (bit b + 2 * number_of_bits v) (2 ^ suc m - 1 - 2 ^ suc s)
-    ∙ rw (half b (number_of_bits v), odd b (number_of_bits v), l, o, number_remove v s m (omega arith) (omega arith)) (omega (arith, bit_small b))
+    ∙ rw (half b (number_of_bits v), odd b (number_of_bits v), l, o, number_remove v s m (omega arith) (omega arith)) (omega (arith, bit_low b))
 
 -- a 64-bit word with the bits of a mask, or without them
 abbrev pub with_bits : ℕ → ℕ → Bool → ℕ
@@ -151,16 +151,16 @@ each_word P a b c d = below_more P 3 (below_more P 2 (below_more P 1 (below_more
 -- ---- from words back to the set
 
 -- a bit that is tested for 1
-bit_eqb : (b : Bool) → eqb (bit b) 1 ≡ b
-bit_eqb true = refl
-bit_eqb false = refl
+pub bit_back : (b : Bool) → eqb (bit b) 1 ≡ b
+bit_back true = refl
+bit_back false = refl
 
 -- The bit of state s says whether s is in the set. So bits of states that the set has not are zero.
 pub marked_words : (k : ℕ) (v : States) (s : ℕ) → s < 64 * k → marked (words k v) s ≡ has v s
 unfolding marked
 marked_words k v s h =
     let e : 64 * (s / 64) + s % 64 ≡ s = omega arith in
-    rw (word_at k v (s / 64) (omega arith), number_bit (part v (s / 64)) (s % 64), bit_eqb (has (part v (s / 64)) (s % 64)))
+    rw (word_at k v (s / 64) (omega arith), number_bit (part v (s / 64)) (s % 64), bit_back (has (part v (s / 64)) (s % 64)))
     (rw (get_or-take 64 (drop (64 * (s / 64)) v) (s % 64) false (omega arith), get_or-drop (64 * (s / 64)) v (s % 64) false, e))
 
 -- Words that follow those of a set change none of its states.

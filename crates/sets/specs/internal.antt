@@ -1,4 +1,3 @@
 -- What serves the contracts of inner functions, and laws beneath the promises.
-pub mod DecidedBy
 pub mod Functions
 pub mod Size

@@ -13,6 +13,7 @@ use Rattle.sets.specs.Lists.{every, for_some}
 use Rattle.sets.specs.States.{has, Valuation}
 use Rattle.sets.specs.Words.{marked, bit, word_count, state_limit}
 use Rattle.sets.proofs.Lists.{kept_equal}
+pub use Rattle.sets.proofs.Words.{bit_low, bit_back}
 use Rattle.sets.proofs.Words.{marked_words}
 use Rattle.solver.specs.Cells.{Cell, And, Or, value, Values}
 use Rattle.solver.specs.declared.Operands.{Operands}
@@ -26,20 +27,12 @@ use Rattle.solver.proofs.Reading.{layout_facts}
 use Rattle.solver.proofs.WellFormed.{Keeps, ordered, cell_kept}
 use Rattle.solver.proofs.Values.{value_kept}
 
-pub bit_low : (b : Bool) → bit b ≤ 1
-bit_low true = omega arith
-bit_low false = omega arith
-
 -- the byte that the code makes of a truth value
 pub byte_is : (b : Bool) {x : ℕ} → x ≡ bool_byte b → x ≡ bit b
 byte_is true h = h
 byte_is false h = h
 
 -- a byte of a truth value reads back
-pub bit_back : (b : Bool) → eqb (bit b) 1 ≡ b
-bit_back true = refl
-bit_back false = refl
-
 pub truth_at : (work : List ℕ) (o : ℕ) → get_or (truths work) o false ≡ eqb (get_or work o 0) 1
 unfolding truths
 truth_at work o = get_or-map (λ x. eqb x 1) work o 0

@@ -48,15 +48,7 @@ from_block e k ρ σ r h s = subst Later (sym (add-one k)) (subst (λ (bs : List
 
 -- ---- one round
 
--- the rounds of the later blocks are too many
-pub too_many_later : {e : List ℕ} {rows : List (List ℕ)} {k budget : ℕ} → TooMany e rows (k + 1) budget → TooManyInRound e rows k budget
-too_many_later s = record { over = λ ρ τ q h f. omega (arith, s.over ρ τ q h f) }
-
 module _ {e : List ℕ} {rows inner : List (List ℕ)} {k budget budget_inner : ℕ} (s : Settled e rows (k + 1) budget inner budget_inner) where
-  -- no round is left for this one
-  pub none_left : budget_inner ≡ 0 → TooManyInRound e rows k budget
-  none_left z = record { over = λ ρ τ q h f. omega (arith, (s.right ρ τ q h f).0) }
-
   module _ {sizes : Sizes} (o : OpenFile e sizes) (b : k < sizes.blocks) {work : List ℕ} {next : List (List ℕ)} (a : Applied e inner k work next) where
     row_is : (ρ τ : Valuation) (q : ℕ) (w : States) → HoldsRows (sizes_of e).states rows ρ → SolvesFrom e (k + 1) ρ τ q → RightSidesOf e k τ w → get_or next k [] ≡ words word_count w
     row_is ρ τ q w h t r = (a.right τ w (s.right ρ τ q h t).1 r).row k (few_blocks o b) ∙ ap (words word_count) (update_same τ k w)

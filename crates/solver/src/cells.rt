@@ -54,8 +54,7 @@ pub fn evaluate(file: EquationFile<'_>, sets: BlockSets, from: usize, work: &mut
     ensures { CellsValued file.entry.tables.bytes.now sets from work.new }
 {
     for i in (from..file.tables.sizes.cells).rev() {
-        let v = value_of(file, &sets, i, work);
-        work[i] = u8::from(v);
+        work[i] = u8::from(value_of(file, &sets, i, work));
     }
 }
 

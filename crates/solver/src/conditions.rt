@@ -1,7 +1,7 @@
 // Conditions 11 and 12.
 ghost use Rattle.std.specs.Prelude.{◌≡◌, ◌&&◌, ◌+◌, ◌-◌, ◌<◌, ◌≤◌, eqb, ltb, leb, length, IfOk, IfErr, Err};
+ghost use Rattle.std.specs.Bool.{Decides};
 ghost use Rattle.sets.specs.Lists.{numbers_from, every};
-ghost use Rattle.sets.specs.internal.DecidedBy.{DecidedBy};
 ghost use Rattle.solver.specs.File.{sizes_of, cells_at, operands_at, blocks_at};
 ghost use Rattle.solver.specs.Conditions.{block_ok, operands_before, operands_ok, tables_ok};
 ghost use Rattle.solver.specs.internal.Forms.{opened};
@@ -12,7 +12,7 @@ use crate::{Cause, Operands, Sizes};
 
 // Whether each count is in its range, and the initial state is a state.
 fn counts_hold(sizes: Sizes) -> bool
-    ensures { DecidedBy (SizesFit sizes) result }
+    ensures { Decides result (SizesFit sizes) }
 {
     (1..=sets::STATES).contains(&sizes.states)
         && (1..=crate::BLOCKS).contains(&sizes.blocks)
@@ -25,7 +25,7 @@ fn counts_hold(sizes: Sizes) -> bool
 fn places_hold(file: &[u8], sizes: Sizes) -> bool
     requires long_enough { blocks_at ≤ length file.now }
     requires sizes_fit { SizesFit sizes }
-    ensures { DecidedBy (Places file.now sizes) result }
+    ensures { Decides result (Places file.now sizes) }
 {
     number_at(file, 0) == 1
         && number_at(file, 24) == HEADER

@@ -12,7 +12,7 @@ pub loop-i-preserved : goal.loop-i-preserved
 loop-i-preserved c =
     let i : ℕ = c.loop-i.i - 1 in
     let s : i + 1 ≡ c.loop-i.i = omega arith in
-    (omega arith, evaluated_more (rw (← s) at c.loop-i.invariant.1) (omega (arith, (counted c.args.file.opens.counts).cells)) c.value_of-v.ensures (byte_is c.value_of-v.result c.from.ensures))
+    (omega arith, evaluated_more (rw (← s) at c.loop-i.invariant.1) (omega (arith, (counted c.args.file.opens.counts).cells)) c.value_of.ensures (byte_is c.value_of.result c.from.ensures))
 
 pub returns : goal.returns
 returns c =

@@ -1,16 +1,16 @@
 -- What the library's `all` answers of a range of numbers, and that range, in the words of this repository.
 use mathlib.Core.Path.{◌≡◌, refl, sym, ap, ◌∙◌}
-use mathlib.Core.Bool.{Bool, true, false, ◌&&◌, ◌||◌}
+use mathlib.Core.Bool.{Bool, true, false, ◌&&◌}
 use mathlib.Core.List.{List, [], ◌∷◌, map}
 use Prim.Native.Nat.{ℕ, zero, suc, ◌<◌}
 use native.Mathlib.Omega.{arith}
 use native.Mathlib.Numerals.{add-one}
 use lib.ListN.{length, get_or}
 use Rattle.std.specs.Bool.{MatchBool}
-use Rattle.std.specs.List.{range_with_len, list_all, list_any, AllWithin, HoldsAt}
+use Rattle.std.specs.List.{range_with_len, list_all, AllWithin, HoldsAt}
 use Rattle.std.proofs.lemmas.List.FromFn.{fill_by_all}
 use Rattle.std.proofs.lemmas.List.Recursion.{and_from_places, and_fails_at}
-use Rattle.sets.specs.Lists.{numbers_from, every, for_some}
+use Rattle.sets.specs.Lists.{numbers_from, every}
 
 -- the numbers of a range
 pub range_is : (i k : ℕ) → range_with_len i k ≡ numbers_from i k
@@ -56,13 +56,3 @@ all_below p n = rw (range_is 0 n) (all_is p (numbers_from 0 n))
 pub all_places : {A : Type 0} (p : A → Bool) (f : ℕ → A) (xs : List A) (n : ℕ) (d : A) → length xs ≡ n → ((k : ℕ) → k < n → get_or xs k d ≡ f k)
     → list_all (λ k. p (f k)) (range_with_len 0 n) ≡ every p xs
 all_places p f xs n d l at = all_below (λ k. p (f k)) n ∙ sym (every_places p f xs n d l at)
-
--- what `any` answers of the places of a list
-pub some_places : {A : Type 0} (p : A → Bool) (f : ℕ → A) (xs : List A) (n : ℕ) (d : A) → length xs ≡ n → ((k : ℕ) → k < n → get_or xs k d ≡ f k)
-    → list_any (λ k. p (f k)) (range_with_len 0 n) ≡ for_some p xs
-unfolding for_some
-some_places p f xs n d l at = rw (range_is 0 n, by_places f xs n d l at) (go (numbers_from 0 n))
-  where
-    go : (ns : List ℕ) → list_any (λ k. p (f k)) ns ≡ for_some p (map f ns)
-    go [] = refl
-    go (m ∷ ns) = ap (λ (b : Bool). p (f m) || b) (go ns)

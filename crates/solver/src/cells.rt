@@ -1,8 +1,8 @@
 // The values of cells. The file is taken by value: through a reference its fields would be loaded anew for each cell.
-ghost use Rattle.std.specs.Prelude.{◌≡◌, ◌+◌, ◌*◌, ◌<◌, ◌≤◌, eqb, get_or};
+ghost use Rattle.std.specs.Prelude.{◌≡◌, ◌<◌, ◌≤◌, eqb, get_or};
 ghost use Rattle.sets.specs.Lists.{for_some};
 ghost use Rattle.sets.specs.Words.{bit};
-ghost use Rattle.solver.specs.File.{u32, sizes_of, operands_at, operands, list_of};
+ghost use Rattle.solver.specs.File.{operands, list_of};
 ghost use Rattle.solver.specs.internal.Working.{Ready, ListAt, Valued, CellsValued, Applied};
 
 use crate::file::EquationFile;
@@ -12,22 +12,19 @@ use sets::Set;
 // The sets of all blocks, by block.
 pub type BlockSets = [Set; BLOCKS];
 
-// Whether operand j of a list has the value wanted. A working byte stands for a truth value as 1 or 0, since the C interface lends bytes.
-fn has_value(file: EquationFile<'_>, list: Operands, j: usize, wanted: bool, work: &[u8]) -> bool
-    requires ready { Ready file.tables.bytes.now work.now }
-    requires listed { ListAt file.tables.bytes.now list.first list.count }
-    requires inside { j < list.count }
-    ensures { result ≡ eqb (get_or work.now (u32 file.entry.tables.bytes.now (operands_at (sizes_of file.entry.tables.bytes.now) + 4 * (list.first + j))) 0) (bit wanted) }
-{
-    work[file.tables.operand(list.first + j)] == u8::from(wanted)
-}
-
-// Whether one of the operands of a list has the value wanted.
+// Whether one of the operands of a list has the value wanted. A working byte stands for a truth value as 1 or 0, since the C interface lends bytes. This is a
+// loop: by `any` it was tried, and solve took a sixth more instructions.
 fn finds(file: EquationFile<'_>, list: Operands, wanted: bool, work: &[u8]) -> bool
     requires { let e = file.tables.bytes.now in Ready e work.now × ListAt e list.first list.count }
     ensures { result ≡ for_some (λ o. eqb (get_or work.now o 0) (bit wanted)) (list_of (operands file.entry.tables.bytes.now) list.first list.count) }
 {
-    (0..list.count).any(|j| has_value(file, list, j, wanted, work))
+    for j in 0..list.count {
+        let o = file.tables.operand(list.first + j);
+        if work[o] == u8::from(wanted) {
+            return true;
+        }
+    }
+    false
 }
 
 // The value of cell i, from those of the cells above it: an and is false if an operand is, an or is true if an operand is, and a

@@ -45,7 +45,9 @@ fn value_of(file: EquationFile<'_>, sets: &BlockSets, i: usize, work: &[u8]) -> 
     }
 }
 
-// Works out the cells from the last down to cell `from`.
+// Works out the cells from the last down to cell `from`. The loop goes by number, since each cell is worked out from the working bytes above its own. It is kept
+// out of the callers' code: in a round's code it was tried, and solve took a twentieth more instructions.
+#[inline(never)]
 pub fn evaluate(file: EquationFile<'_>, sets: BlockSets, from: usize, work: &mut [u8])
     requires { let t = file.tables in Ready t.bytes.now work.old × (from ≤ t.sizes.cells) }
     ensures { CellsValued file.entry.tables.bytes.now sets from work.new }

@@ -42,7 +42,7 @@ pub fn full(n: usize) -> Set
     array::from_fn(|i| word_below(n, 64 * i))
 }
 
-// Where an iteration starts: no state for mu, every state below n for nu.
+// Where an iteration starts: no state for mu, every state below n for nu. Which it is, is a truth value here, as the sign of a block is in the paper and in `start`.
 pub fn initial(n: usize, nu: bool) -> Set
     requires { n ≤ state_limit }
     ensures { result ≡ words word_count (start n nu) }
@@ -68,7 +68,7 @@ pub fn test(set: &Set, s: usize) -> bool
     has_bit(set[s / 64], s % 64)
 }
 
-// Puts state s into the set, or takes it out.
+// Puts state s into the set, or takes it out. Which of the two is data, the value of a right-hand side, and no choice that is known where it is called.
 pub fn put(held: &mut Set, s: usize, there: bool)
     requires { s < state_limit }
     ensures { (v : States) → s < length v → held.old ≡ words word_count v → held.new ≡ words word_count (set v s there) }
@@ -78,7 +78,7 @@ pub fn put(held: &mut Set, s: usize, there: bool)
     held[s / 64] = if there { word | mask } else { word & !mask };
 }
 
-// How many bits of a word are 1.
+// How many bits of a word are 1, as a size. It has a name, since what it answers is one of the promises of the project.
 fn word_ones(word: u64) -> usize
     ensures { (result ≡ ones word) × (result ≤ 64) }
 {
@@ -125,7 +125,7 @@ pub fn complement(held: Set, n: usize) -> Set
     zip_words(full(n), held, |x, y| x ^ y)
 }
 
-// Puts a set into the first words.
+// Puts a set into the first words. Written out at its callers it would be no plainer: each would show anew that there are so many words.
 pub fn store(marks: &mut [u64], row: Set)
     requires { word_count ≤ length marks.old }
     ensures { marks.new ≡ row ++ drop word_count marks.old }
@@ -133,7 +133,7 @@ pub fn store(marks: &mut [u64], row: Set)
     *marks.first_chunk_mut().unwrap() = row;
 }
 
-// The set in the first words.
+// The set in the first words. The wrong programs that leave the marks as they were read them by it.
 pub fn load(marks: &[u64]) -> Set
     requires { word_count ≤ length marks.now }
     ensures { result ≡ take word_count marks.now }

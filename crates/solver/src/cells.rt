@@ -1,4 +1,5 @@
-// The values of cells. The file is taken by value: through a reference its fields would be loaded anew for each cell.
+// The values of cells. The file is taken by value: through a reference its fields would be loaded anew for each cell. `Ready` is asked
+// for at each function that is lent the working bytes, and is no invariant of a struct of file and bytes: each function would then speak of the struct before and after.
 ghost use Rattle.std.specs.Prelude.{◌≡◌, ◌<◌, ◌≤◌, eqb, get_or};
 ghost use Rattle.sets.specs.Lists.{for_some};
 ghost use Rattle.sets.specs.Words.{bit};
@@ -57,7 +58,8 @@ pub fn evaluate(file: EquationFile<'_>, sets: BlockSets, from: usize, work: &mut
     }
 }
 
-// The sets with that of block k replaced by its right-hand sides, all of them worked out from the sets as they were.
+// The sets with that of block k replaced by its right-hand sides, all of them worked out from the sets as they were. The loop goes by number as that of `evaluate`
+// does, and each value goes to two places.
 pub fn right_sides(file: EquationFile<'_>, sets: BlockSets, k: usize, work: &mut [u8]) -> BlockSets
     requires { let t = file.tables in Ready t.bytes.now work.old × (k < t.sizes.blocks) }
     ensures { Applied file.entry.tables.bytes.now sets k work.new result }

@@ -1,8 +1,8 @@
-// Conditions 11 and 12.
+// Conditions 11 and 12. What is asked of the tables of a file stands here, as functions of them. They are no methods: those read what a file holds.
 ghost use Rattle.std.specs.Prelude.{◌≡◌, ◌&&◌, ◌+◌, ◌-◌, ◌<◌, ◌≤◌, eqb, ltb, leb, length, IfOk, IfErr, Err};
 ghost use Rattle.std.specs.Bool.{Decides};
 ghost use Rattle.sets.specs.Lists.{numbers_from, every};
-ghost use Rattle.solver.specs.File.{sizes_of, cells_at, operands_at, blocks_at};
+ghost use Rattle.solver.specs.File.{sizes_of, blocks_at};
 ghost use Rattle.solver.specs.Conditions.{block_ok, operands_before, operands_ok, tables_ok};
 ghost use Rattle.solver.specs.internal.Forms.{opened};
 ghost use Rattle.solver.specs.internal.Checks.{SizesFit, Places, rest_ok, Spans};
@@ -21,7 +21,7 @@ fn counts_hold(sizes: Sizes) -> bool
         && sizes.initial < sizes.states
 }
 
-// Whether the version, the offsets and the length are right.
+// Whether the version, the offsets and the length are right. The bytes and counts are not yet known to be those of tables, of which this would be a method.
 fn places_hold(file: &[u8], sizes: Sizes) -> bool
     requires long_enough { blocks_at ≤ length file.now }
     requires sizes_fit { SizesFit sizes }
@@ -66,7 +66,7 @@ fn blocks_hold(tables: &Tables<'_>) -> bool
     (0..tables.sizes.blocks).all(|k| block_holds(tables, k))
 }
 
-// Whether an operand of cell i is a cell number above i.
+// Whether an operand of cell i is a cell number above i. A range that contains it would be no plainer, since it starts at i + 1.
 fn operand_holds(sizes: Sizes, i: usize, operand: usize) -> bool
     ensures { result ≡ (ltb i operand && ltb operand sizes.cells) }
 {
@@ -118,7 +118,7 @@ fn operand_count(tables: &Tables<'_>, i: usize, used: usize) -> Option<usize>
     }
 }
 
-// Whether every cell keeps its rule, and the lists fill the operand table.
+// Whether every cell keeps its rule, and the lists fill the operand table. This is a loop: `try_fold` would carry the same sum through the same question.
 fn cells_hold(tables: &Tables<'_>) -> bool
     ensures { result ≡ rest_ok tables.now.bytes.now 0 }
 {

@@ -5,12 +5,11 @@ ghost use Rattle.sets.specs.Words.{words, word_count};
 ghost use Rattle.solver.specs.File.{sizes_of, block_at};
 ghost use Rattle.solver.specs.internal.Working.{Ready, HoldsRows, Started, Solving, Turned, starting};
 
-use std::ops::ControlFlow;
-
 use crate::BLOCKS;
 use crate::cells::{BlockSets, right_sides};
 use crate::file::EquationFile;
 use sets::Set;
+use std::ops::ControlFlow;
 
 // Where block k starts: no state for mu, every state for nu.
 fn start_of(file: &EquationFile<'_>, k: usize) -> Set
@@ -32,7 +31,7 @@ pub fn starts(file: &EquationFile<'_>) -> BlockSets
 }
 
 // Solves the last `left` blocks, which are held where they start, with the sets of those before them held, or answers None where the
-// rounds left are too few.
+// rounds left are too few. This is a loop, since the number of rounds to a fixed point is not known before.
 #[cycle(round_solve_last)]
 pub fn solve_last(
     file: &EquationFile<'_>,
@@ -55,9 +54,8 @@ pub fn solve_last(
             ControlFlow::Continue(t) => {
                 // The later blocks go back to where they start.
                 let k = file.tables.sizes.blocks - left;
-                let row = t[k];
                 s = sets;
-                s[k] = row;
+                s[k] = t[k];
             }
         }
     }

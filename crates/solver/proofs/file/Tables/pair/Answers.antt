@@ -8,8 +8,7 @@ pub returns : goal.returns
 returns c =
     let e = c.args.self.now.bytes.now in
     let i = c.args.i in
-    let from = cells_at (sizes_of e) in
-    (
+    let from = cells_at (sizes_of e) in (
       number_behind e from (12 * i + 4) (from + 12 * i + 4) c.cells-cells.ensures c.number_at.ensures.0 (omega arith),
       number_behind e from (12 * i + 8) (from + 12 * i + 8) c.cells-cells.ensures c.number_at-2.ensures.0 (omega arith),
     )

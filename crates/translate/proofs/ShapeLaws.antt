@@ -274,15 +274,15 @@ wrote_no_cell used w = record { wrote = wrote_none w; count = sym (add-zero used
 module _ (n : ℕ) (ts : List Transition) (x : Shape) (i s : ℕ) where
   -- the cell of a file has the numbers of the shape's cell, where its operands are counted
   cell_written : (used count : ℕ) → count ≡ length (shape_operands n ts x i s)
-      → reading.cell_numbers (file_cell x s (record { first = used; count = count })) ≡ cell_numbers used (shape_cell n ts x i s ∷ [])
-  unfolding shape_cell cell_numbers operands_of reading.cell_numbers
+      → reading.numbers_in_file (file_cell x s (record { first = used; count = count })) ≡ cell_numbers used (shape_cell n ts x i s ∷ [])
+  unfolding shape_cell cell_numbers operands_of reading.numbers_in_file
   cell_written used count = go x
     where
       by : (k : ℕ) {c : ℕ} → count ≡ c → (k ∷ used ∷ count ∷ []) ≡ (k ∷ used ∷ c ∷ [])
       by k e = ap (λ (c : ℕ). k ∷ used ∷ c ∷ []) e
 
       go : (y : Shape) → count ≡ length (shape_operands n ts y i s)
-          → reading.cell_numbers (file_cell y s (record { first = used; count = count })) ≡ cell_numbers used (shape_cell n ts y i s ∷ [])
+          → reading.numbers_in_file (file_cell y s (record { first = used; count = count })) ≡ cell_numbers used (shape_cell n ts y i s ∷ [])
       go Shape.False e = by 1 e
       go Shape.True e = by 0 e
       go (Shape.And second) e = by 0 e
@@ -295,7 +295,7 @@ module _ (n : ℕ) (ts : List Transition) (x : Shape) (i s : ℕ) where
 
   -- one cell is written
   pub wrote_one : {used count : ℕ} {before after : Writer} → count ≡ length (shape_operands n ts x i s)
-      → Wrote (reading.cell_numbers (file_cell x s (record { first = used; count = count }))) before after → WroteCells used (shape_cell n ts x i s ∷ []) before after (used + count)
+      → Wrote (reading.numbers_in_file (file_cell x s (record { first = used; count = count }))) before after → WroteCells used (shape_cell n ts x i s ∷ []) before after (used + count)
   wrote_one {used} {count} e w = record {
     wrote = rw (cell_written used count e) at w;
     count = ap (λ (c : ℕ). used + c) (e ∙ sym (ap length (operands_one (shape_cell n ts x i s))));

@@ -83,7 +83,7 @@ impl<'a> Tables<'a> {
     }
 
     // The kind of cell i, the file's number: 0 is an and, 1 an or, 2 a variable. It stays a number: as an enum, which is told by the number and then told again,
-    // it was tried, and solve was a quarter slower.
+    // it was tried, and solve took a quarter more instructions.
     pub fn kind(&self, i: usize) -> usize
         requires { i < self.now.sizes.cells }
         ensures { result ≡ (entry_at self.now.bytes.now i).kind }

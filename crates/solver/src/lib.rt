@@ -43,7 +43,7 @@ pub struct Operands {
     pub count: usize,
 }
 
-// A cell as it stands in a file: an and or an or of operands, or the variable of a block in a state.
+// A cell as it is written to a file: an and or an or of operands, or the variable of a block in a state. What is read is told by the number of its kind.
 #[derive(Clone, Copy, PartialEq, Eq)]
 pub enum FileCell {
     And(Operands),

@@ -3,8 +3,8 @@ use mathlib.Core.Path.{◌≡◌, refl, sym, ap, ◌∙◌}
 use mathlib.Core.Bool.{Bool, true, false, cond}
 use mathlib.Core.List.{List, [], ◌∷◌, ◌++◌, map}
 use Rattle.std.proofs.Common.{below_more}
-use Rattle.std.specs.List.{count_by, filter}
-use Rattle.std.proofs.lemmas.List.Sums.{sum_by-cons, length-filter}
+use Rattle.std.specs.List.{count_by}
+use Rattle.std.proofs.lemmas.List.Sums.{sum_by-cons}
 use Rattle.sets.proofs.Ranges.{by_places}
 use Prim.Native.Nat.{ℕ, zero, suc, ◌+◌, ◌<◌, ◌≤◌}
 use native.Mathlib.Nat.{zero-add}
@@ -89,9 +89,8 @@ module _ {part : List ℕ} {m j : ℕ} {flags : List Bool} (s : SetBefore part m
     at = λ k l. get_or-append flags rest false k (omega (arith, s.long)) ∙ each k l;
   }
 
-  pub set_count : length (filter (λ b. b) flags) ≡ length (distinct (transitions_in part m))
+  pub set_count : count_by (λ b. b) flags ≡ length (distinct (transitions_in part m))
   unfolding distinct transitions_in
   set_count =
-      length-filter (λ b. b) flags
-      ∙ rw (by_places (is_first part m) flags m false s.long each, length_table (transition_in part) m, length-map (keep (is_first part m) (numbers_from 0 m)) (transition_at (transitions_in part m)))
+      rw (by_places (is_first part m) flags m false s.long each, length_table (transition_in part) m, length-map (keep (is_first part m) (numbers_from 0 m)) (transition_at (transitions_in part m)))
       (kept_counted (is_first part m) (numbers_from 0 m))

@@ -61,7 +61,7 @@ fn flag_appearances(table: &Transitions<'_>, first: &mut [bool]) -> usize
     for (i, flag) in flags.iter_mut().enumerate() {
         *flag = copies_before(table, &links, i) == 0;
     }
-    flags.iter().filter(|flag| **flag).count()
+    flags.iter().map(|flag| usize::from(*flag)).sum()
 }
 
 // Flags the records of an accepted case that are the first of their kind, and tells how many records there are and how many of them are

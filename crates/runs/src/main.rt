@@ -2,7 +2,7 @@
 // for each: its number in the stream, and then what `twosides` prints. A stream that ends inside a case ends there.
 #![tactic(auto)]
 
-ghost use Rattle.std.specs.Prelude.{◌≡◌, ◌++◌, codes, decimal, OnOk};
+ghost use Rattle.std.specs.Prelude.{◌++◌, codes, decimal, OnOk};
 ghost use Rattle.std.specs.Io.KnownBytes.{Appends};
 ghost use Rattle.cases.specs.Tally.{tally_of};
 ghost use Rattle.routes.specs.Route.{direct, equation, outcome_of, program_limit, program_memory};

@@ -2,7 +2,7 @@
 // the count of marked states and the rounds; the last three are 0 on a refusal.
 #![tactic(auto)]
 
-ghost use Rattle.std.specs.Prelude.{◌≡◌, ◌++◌, codes, OnOk};
+ghost use Rattle.std.specs.Prelude.{◌++◌, codes, OnOk};
 ghost use Rattle.std.specs.Io.KnownBytes.{Appends};
 ghost use Rattle.sets.specs.Words.{word_count};
 ghost use Rattle.solver.specs.File.{cell_limit};

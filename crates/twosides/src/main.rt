@@ -3,7 +3,7 @@
 // table and the distinct ones, both 0 where the case itself is refused.
 #![tactic(auto)]
 
-ghost use Rattle.std.specs.Prelude.{◌≡◌, ◌++◌, codes, OnOk};
+ghost use Rattle.std.specs.Prelude.{◌++◌, codes, OnOk};
 ghost use Rattle.std.specs.Io.KnownBytes.{Appends};
 ghost use Rattle.cases.specs.Tally.{tally_of};
 ghost use Rattle.routes.specs.Route.{direct, equation, outcome_of, program_limit, program_memory};

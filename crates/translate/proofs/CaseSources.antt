@@ -36,6 +36,7 @@ use Rattle.translate.specs.internal.Readable.{Readable}
 use Rattle.translate.specs.internal.Tabled.{HoldsShapes}
 use Rattle.translate.proofs.AllLaws.{all_distinct}
 use Rattle.cases.proofs.FirstAppearances.{flagged_distinct}
+use Rattle.translate.proofs.ShapeFields.{added_small}
 use Rattle.translate.proofs.TableShapes.{shape_blocks_lem, shape_cells_lem, table_shapes_lem}
 use Rattle.translate.proofs.ShapeLaws.{shape_cell_lem}
 use Rattle.translate.proofs.CaseFile.{operands_high}
@@ -221,17 +222,12 @@ module _ (b : List ℕ) (accepted : Accepted b) where
     sources =
         let l = good.lies in
         let few : length table ≤ node_limit = omega (arith, length_formula b, l.counts.few_nodes) in
-        let all : length (take k shapes) ≤ node_limit + 1 = omega (arith, ap length shapes_taken, shape_count, count, l.counts.few_nodes, added_small (is_binder (node_at (nodes_in (formula_part b) (header_of b).nodes) 0))) in
+        let all : length (take k shapes) ≤ node_limit + 1 = omega (arith, ap length shapes_taken, shape_count, count, l.counts.few_nodes, added_small (is_binder (node_at (nodes_in (formula_part b) (header_of b).nodes) 0)) refl) in
         let operands = ap (λ (y : System). length (all_operands y.cells)) system_of_lem in
         record {
-          recorded = record { records = parts.0; flags = flags.long };
           few_transitions = parts.1;
           few_nodes = all;
           few_states = l.counts.few_states;
           second = rw shapes_taken (shapes_fine action table formed few);
           few_operands = omega (arith, operands, operands_high (case_of b) (fit b accepted));
         }
-      where
-        added_small : (r : Bool) → cond r 0 1 ≤ 1
-        added_small true = omega arith
-        added_small false = omega arith

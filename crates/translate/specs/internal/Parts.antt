@@ -52,8 +52,3 @@ target_cells base ts = map (λ t. base + t.target) ts
 -- the operand that record j gives, if it leaves s
 unfoldable pub target_cell : List ℕ → List Bool → ℕ → ℕ → ℕ → ℕ → List ℕ
 target_cell part first base s labels j = cond (leaves_at part first s labels j) ((base + (transition_in part j).target) ∷ []) []
-
--- the first m records are there, each with its flag
-pub record Recorded (part : List ℕ) (first : List Bool) (m : ℕ) : Type 0 where
-  pub records : 6 * m ≤ length part
-  pub flags : m ≤ length first

@@ -7,7 +7,7 @@ use Rattle.cases.specs.declared.Transition.{Transition}
 use Rattle.translate.specs.Bytes.{System, all_operands, bytes, numbers}
 use Rattle.translate.specs.internal.Writing.{second_of}
 use Rattle.translate.specs.internal.Shapes.{shape_at, shape_cells, shape_blocks}
-use Rattle.translate.specs.internal.Parts.{Recorded, distinct_in}
+use Rattle.translate.specs.internal.Parts.{distinct_in}
 use Rattle.translate.specs.declared.Shape.{Shape}
 use Rattle.translate.specs.declared.Cause.{Cause}
 use Rattle.translate.specs.declared.Cause.TheVariants.{Memory}
@@ -16,9 +16,8 @@ use Rattle.translate.specs.declared.Cause.TheVariants.{Memory}
 unfoldable pub shape_system : ℕ → ℕ → List Transition → List Shape → System
 shape_system n initial ts xs = record { states = n; initial = initial; blocks = shape_blocks n 0 xs; cells = shape_cells n ts 0 xs }
 
--- m records with their flags, the shapes of all nodes and n states, as an accepted case has them
+-- m records with their flags, the shapes of all nodes and n states are within limits, as those of an accepted case
 pub record Sources (part : List ℕ) (first : List Bool) (m : ℕ) (shapes : List Shape) (n : ℕ) : Type 0 where
-  pub recorded : Recorded part first m
   pub few_transitions : m ≤ transition_limit
   pub few_nodes : length shapes ≤ node_limit + 1
   pub few_states : n ≤ state_limit

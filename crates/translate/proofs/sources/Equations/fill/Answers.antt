@@ -7,7 +7,7 @@ use Rattle.translate.proofs.sources.Equations.fill.Goals as goal
 pub write_blocks-requires : goal.write_blocks-requires
 write_blocks-requires c =
     let e = c.args.self.now in
-    (e.few_states, e.few_nodes, blocks_room e.states e.initial (distinct_of e.records) e.shapes.now c.requires refl refl c.put.ensures)
+    (e.within.few_states, e.within.few_nodes, blocks_room e.states e.initial (distinct_of e.records) e.shapes.now c.requires refl refl c.put.ensures)
 
 pub write_all_cells-requires : goal.write_all_cells-requires
 write_all_cells-requires c =

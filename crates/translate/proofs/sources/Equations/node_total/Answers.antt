@@ -15,7 +15,7 @@ sum-requires-clause-fits c =
     let ts = distinct_of e.records in
     fits_by_from_yields_list (size ts c.args.x) (range_with_len 0 e.states) c.map.result _
     (YieldsList-from_map _ (size ts c.args.x) (YieldsList-at c.map.ensures.source (YieldsList-from_range 0 e.states e.states (cc) (omega arith))) c.map.ensures.closure λ x r q k. search rules)
-    (omega (arith, node_few ts (distinct_few e.records.table.part.now e.records.first.now e.records.table.count e.few_transitions) e.states c.args.x, e.few_states))
+    (omega (arith, node_few ts (distinct_few e.records.table.part.now e.records.first.now e.records.table.count e.within.few_transitions) e.states c.args.x, e.within.few_states))
 
 pub returns : goal.returns
 returns c = λ i.

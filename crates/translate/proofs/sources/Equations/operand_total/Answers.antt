@@ -13,7 +13,7 @@ sum-requires-clause-fits c =
     let ts = distinct_of e.records in
     fits_by_from_yields_list (node_size ts e.states) e.shapes.now c.map.result _
     (YieldsList-from_map _ (node_size ts e.states) (YieldsList-at c.map.ensures.source (YieldsList-from_slice e.shapes.now c.iter.ensures.rest)) c.map.ensures.closure λ x r q k. search rules)
-    (omega (arith, nodes_sum ts e.states e.shapes.now 0, e.few_operands))
+    (omega (arith, nodes_sum ts e.states e.shapes.now 0, e.within.few_operands))
 
 pub returns : goal.returns
 returns c =

@@ -16,7 +16,7 @@ write_cells-used-requires c =
     let l = c.loop-x in
     let i = l.x-index in (
       omega (arith, l.invariant.wrote.done, l.invariant.wrote.long, numbers_to e.states (distinct_of e.records) e.shapes.now i (omega arith), rows_fit i (length e.shapes.now) e.states (omega arith)),
-      omega (arith, l.invariant.count, operands_fit e.states (distinct_of e.records) e.shapes.now i (omega arith), e.few_operands),
+      omega (arith, l.invariant.count, operands_fit e.states (distinct_of e.records) e.shapes.now i (omega arith), e.within.few_operands),
     )
 
 pub loop-x-preserved : goal.loop-x-preserved

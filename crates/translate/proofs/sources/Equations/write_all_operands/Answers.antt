@@ -14,8 +14,8 @@ pub write_operands-requires : goal.write_operands-requires
 write_operands-requires c =
     let e = c.args.self.now in
     let l = c.loop-i in (
-      omega (arith, e.few_nodes),
-      e.second l.i (omega arith),
+      omega (arith, e.within.few_nodes),
+      e.within.second l.i (omega arith),
       omega (arith, l.invariant.done, l.invariant.long, operands_fit e.states (distinct_of e.records) e.shapes.now l.i (omega arith)),
     )
 

@@ -23,14 +23,16 @@ fn links_of(table: &Transitions<'_>) -> Links
     requires { Sourced table.now.part.now table.now.count }
     ensures { Linked table.now.part.now table.now.count result.first result.after }
 {
-    let mut first = [TRANSITIONS as u16; STATES];
-    let mut after = [TRANSITIONS as u16; TRANSITIONS];
+    let mut links = Links {
+        first: [TRANSITIONS as u16; STATES],
+        after: [TRANSITIONS as u16; TRANSITIONS],
+    };
     for j in (0..table.count).rev() {
         let s = table.at(j).source;
-        after[j] = first[s];
-        first[s] = j as u16;
+        links.after[j] = links.first[s];
+        links.first[s] = j as u16;
     }
-    Links { first, after }
+    links
 }
 
 // How many records before record i of a table equal it. Only those with its source are looked at: a walk along the links, of which it is not known

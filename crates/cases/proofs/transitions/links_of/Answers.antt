@@ -9,4 +9,4 @@ pub loop-j-preserved : goal.loop-j-preserved
 loop-j-preserved c =
     let l = c.loop-j in
     let t = c.args.table.now in
-    linked_step t.part.now t.count l.j l.first l.after c.requires (omega arith) (omega arith) l.invariant c.at-s.result c.at-s.ensures
+    linked_step t.part.now t.count l.j l.links.first l.links.after c.requires (omega arith) (omega arith) l.invariant c.at-s.result c.at-s.ensures

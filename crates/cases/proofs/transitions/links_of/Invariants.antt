@@ -2,4 +2,4 @@ use Rattle.cases.specs.internal.Links.{LinkedFrom}
 use Rattle.cases.proofs.transitions.links_of.Given as goal
 
 abbrev pub invariant-loop-j : goal.invariant-loop-j
-invariant-loop-j l = LinkedFrom l.table.part.now l.table.count l.j l.first l.after
+invariant-loop-j l = LinkedFrom l.table.part.now l.table.count l.j l.links.first l.links.after

@@ -49,12 +49,12 @@ fn value_of(file: EquationFile<'_>, sets: &BlockSets, i: usize, work: &[u8]) -> 
 // Works out the cells from the last down to cell `from`. The loop goes by number, since each cell is worked out from the working bytes above its own. It is kept
 // out of the callers' code: in a round's code it was tried, and solve took a twentieth more instructions.
 #[inline(never)]
-pub fn evaluate(file: EquationFile<'_>, sets: BlockSets, from: usize, work: &mut [u8])
+pub fn evaluate(file: EquationFile<'_>, sets: &BlockSets, from: usize, work: &mut [u8])
     requires { let t = file.tables in Ready t.bytes.now work.old × (from ≤ t.sizes.cells) }
-    ensures { CellsValued file.entry.tables.bytes.now sets from work.new }
+    ensures { CellsValued file.entry.tables.bytes.now sets.now from work.new }
 {
     for i in (from..file.tables.sizes.cells).rev() {
-        work[i] = u8::from(value_of(file, &sets, i, work));
+        work[i] = u8::from(value_of(file, sets, i, work));
     }
 }
 
@@ -66,7 +66,7 @@ pub fn right_sides(file: EquationFile<'_>, sets: BlockSets, k: usize, work: &mut
 {
     let first = file.tables.first(k);
     let states = file.tables.sizes.states;
-    evaluate(file, sets, first + states, work);
+    evaluate(file, &sets, first + states, work);
     let mut next = sets;
     for s in (0..states).rev() {
         let v = value_of(file, &sets, first + s, work);

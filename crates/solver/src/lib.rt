@@ -129,7 +129,7 @@ fn run(file: &EquationFile<'_>, work: &mut [u8], limit: u64) -> Option<Found>
     let starts = rounds::starts(file);
     let mut budget = limit;
     let sets = rounds::solve_last(file, starts, file.tables.sizes.blocks, work, &mut budget)?;
-    cells::evaluate(*file, sets, 0, work);
+    cells::evaluate(*file, &sets, 0, work);
     Some(Found {
         row: sets[0],
         rounds: limit - budget,

@@ -114,7 +114,8 @@ impl<'a> Evaluator<'a> {
         Some(one.with_set(self.diamond_set(labels, &one.set)))
     }
 
-    // The value of a mu or a nu, by the rounds of its loop from a first set. The sets of outer binders are held.
+    // The value of a mu or a nu, by the rounds of its loop from a first set. The sets of outer binders are held. Inline it spares a copy of each
+    // node's value.
     #[cycle(binder_evaluate)]
     #[inline(always)]
     fn binder(&self, sets: &[Set; BLOCKS], at: usize, first: Set, used: u64) -> Option<Value>

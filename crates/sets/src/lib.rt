@@ -34,7 +34,7 @@ fn word_below(n: usize, from: usize) -> u64
     if 64 <= left { !0 } else { (1 << left) - 1 }
 }
 
-// Every state below n.
+// Every state below n. This, `initial` and `complement` ask that a set has room for n states; a type for such a number would be no plainer.
 pub fn full(n: usize) -> Set
     requires { n ≤ state_limit }
     ensures { result ≡ words word_count (start n true) }
@@ -42,7 +42,8 @@ pub fn full(n: usize) -> Set
     array::from_fn(|i| word_below(n, 64 * i))
 }
 
-// Where an iteration starts: no state for mu, every state below n for nu. Which it is, is a truth value here, as the sign of a block is in the paper and in `start`.
+// Where an iteration starts: no state for mu, every state below n for nu. Which it is, is a truth value here, as the sign of a block is in the paper and in `start`:
+// it is data that is read from a file, and two functions would have the caller choose by it, no plainer.
 pub fn initial(n: usize, nu: bool) -> Set
     requires { n ≤ state_limit }
     ensures { result ≡ words word_count (start n nu) }
@@ -68,7 +69,8 @@ pub fn test(set: &Set, s: usize) -> bool
     has_bit(set[s / 64], s % 64)
 }
 
-// Puts state s into the set, or takes it out. Which of the two is data, the value of a right-hand side, and no choice that is known where it is called.
+// Puts state s into the set, or takes it out. Which of the two is a truth value: to the solver it is data, the value of a right-hand side, and two functions would have
+// it choose by it, no plainer.
 pub fn put(held: &mut Set, s: usize, there: bool)
     requires { s < state_limit }
     ensures { (v : States) → s < length v → held.old ≡ words word_count v → held.new ≡ words word_count (set v s there) }
@@ -133,7 +135,8 @@ pub fn store(marks: &mut [u64], row: Set)
     *marks.first_chunk_mut().unwrap() = row;
 }
 
-// The set in the first words. The wrong programs that leave the marks as they were read them by it.
+// The set in the first words, by the library's method; as with `store`, written out it would be no plainer. Only the wrong programs that leave the marks as they were
+// call it.
 pub fn load(marks: &[u64]) -> Set
     requires { word_count ≤ length marks.now }
     ensures { result ≡ take word_count marks.now }

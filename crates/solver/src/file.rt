@@ -9,7 +9,7 @@ use crate::{Operands, Sizes};
 // How many bytes stand before the first table.
 pub const HEADER: usize = 36;
 
-// The 32-bit number at a place, low byte first.
+// The 32-bit number at a place, low byte first. The numbers of a case have 16 bits: one function for both would be handed the width, and be no plainer.
 #[tactic(auto, unfolding(crate::specs::File::u32))]
 pub fn number_at(file: &[u8], at: usize) -> usize
     requires { at + 4 ≤ length file.now }
@@ -33,7 +33,8 @@ pub fn sizes_of(file: &[u8]) -> Sizes
 }
 
 impl Sizes {
-    // Where the cells start.
+    // Where the cells start. This, the next, and whether the places hold ask that the counts fit, so that the sums do; a type for such counts would be no plainer than
+    // the one word of the contract.
     pub fn cells_from(&self) -> usize
         requires { SizesFit self.now }
         ensures { result ≡ cells_at self.now }
@@ -59,7 +60,8 @@ pub struct Tables<'a> {
 }
 
 impl<'a> Tables<'a> {
-    // The sign of block k, the file's number: 0 is mu, 1 is nu. It stays a number, since condition 12 asks whether it is one of the two.
+    // The sign of block k, the file's number: 0 is mu, 1 is nu. It stays a number: an enum would be told by the number for condition 12, and told
+    // again where a block starts, no plainer.
     pub fn sign(&self, k: usize) -> usize
         requires { k < self.now.sizes.blocks }
         ensures { result ≡ u32 self.now.bytes.now (blocks_at + 8 * k) }

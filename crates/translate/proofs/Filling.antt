@@ -1,26 +1,25 @@
 -- The parts of an equation file, written one behind another.
-use mathlib.Core.Path.{◌≡◌, sym, ◌∙◌}
+use mathlib.Core.Path.{◌≡◌, refl, sym, ap, ◌∙◌, subst}
 use mathlib.Core.Bool.{true, false}
-use mathlib.Core.List.{List, [], ◌∷◌, ◌++◌}
-use Prim.Native.Nat.{ℕ, ◌+◌, ◌*◌, ◌≤◌, ◌<◌}
+use mathlib.Core.List.{List, [], ◌∷◌, ◌++◌, append_assoc}
+use Prim.Native.Nat.{ℕ, ◌+◌, ◌-◌, ◌*◌, ◌≤◌, ◌<◌}
 use native.Mathlib.Omega.{arith}
 use lib.Dec.{ltb}
-use lib.ListN.{length}
+use lib.ListN.{length, take, drop, length-append}
 use borrow.Author.Tests.{lt-ltb, le-ltb}
 use Rattle.cases.specs.declared.Transition.{Transition}
 use Rattle.translate.specs.declared.Shape.{Shape}
-use Rattle.translate.specs.declared.bytes.Writer.{Writer}
 use Rattle.translate.specs.declared.Cause.TheVariants.{Memory}
 use Rattle.std.specs.Prelude.{Ok, Err, count_by}
 use Rattle.std.proofs.lemmas.List.Sums.{count_by-le-length}
 use Rattle.translate.specs.Bytes.{System, all_operands, block_numbers, cell_numbers, numbers, bytes}
 use Rattle.translate.specs.internal.Shapes.{shape_binds, shape_blocks, shape_cells}
-use Rattle.translate.specs.internal.Parts.{HasRoom, Wrote, WroteCells, Starts}
+use Rattle.translate.specs.internal.Parts.{Starts}
 use Rattle.cases.specs.File.{node_limit}
 use Rattle.solver.specs.File.{blocks_at}
 use Rattle.translate.specs.internal.Sources.{RoomFor, shape_system, Emitted}
 use Rattle.translate.proofs.NumberBytes.{length_bytes, length_block_numbers, length_cell_numbers}
-use Rattle.translate.proofs.Putting.{wrote_then, wrote_start}
+use Rattle.translate.proofs.Putting.{starts_then}
 use Rattle.translate.proofs.ReadBack.{length_file}
 use Rattle.translate.proofs.NodeParts.{length_cells}
 use Rattle.translate.proofs.BlockParts.{blocks_counted}
@@ -29,14 +28,26 @@ use Rattle.translate.proofs.BlockParts.{blocks_counted}
 abbrev header : ℕ → ℕ → ℕ → ℕ → ℕ → List ℕ
 header n d c p initial = 1 ∷ n ∷ d ∷ c ∷ p ∷ initial ∷ blocks_at ∷ (blocks_at + 8 * d) ∷ (blocks_at + 8 * d + 12 * c) ∷ []
 
--- header, blocks, cells and operands, each written behind the one before
+-- header, blocks, cells and operands, each written to the part that starts where the one before ends
 module _ (y : System) {c d p room : ℕ} (sized : RoomFor y c d p room) where
-  pub filled : {s t u v w : Writer} → s.done ≡ 0 → Wrote (header y.states d c p y.initial) s t → Wrote (block_numbers y.blocks) t u
-      → {used : ℕ} → WroteCells 0 y.cells u v used → Wrote (all_operands y.cells) v w → Starts (numbers y) s.out.now w.out.now
+  pub filled : (s w : List ℕ) {t u v a b e : List ℕ} → Starts (header y.states d c p y.initial) s t
+      → Starts (block_numbers y.blocks) (take (length t - blocks_at) (drop blocks_at t)) a → u ≡ take blocks_at t ++ (a ++ drop (length t - blocks_at) (drop blocks_at t))
+      → Starts (cell_numbers 0 y.cells) (take (length u - (blocks_at + 8 * d)) (drop (blocks_at + 8 * d) u)) b
+      → v ≡ take (blocks_at + 8 * d) u ++ (b ++ drop (length u - (blocks_at + 8 * d)) (drop (blocks_at + 8 * d) u))
+      → Starts (all_operands y.cells) (take (length v - (blocks_at + 8 * d + 12 * c)) (drop (blocks_at + 8 * d + 12 * c) v)) e
+      → w ≡ take (blocks_at + 8 * d + 12 * c) v ++ (e ++ drop (length v - (blocks_at + 8 * d + 12 * c)) (drop (blocks_at + 8 * d + 12 * c) v)) → Starts (numbers y) s w
   unfolding numbers
-  filled {s} {t} {u} {v} {w} z a b e f =
-      let all : Wrote (header y.states d c p y.initial ++ (block_numbers y.blocks ++ (cell_numbers 0 y.cells ++ all_operands y.cells))) s w = wrote_then a (wrote_then b (wrote_then e.wrote f)) in
-      rw (sym sized.blocks, sym sized.cells, sym sized.operands) (wrote_start z all)
+  filled s w h k x l z m o =
+      let first : List ℕ = header y.states d c p y.initial in
+      let second : List ℕ = block_numbers y.blocks in
+      let third : List ℕ = cell_numbers 0 y.cells in
+      let two : length second ≡ 2 * d = length_block_numbers y.blocks ∙ ap (λ (k : ℕ). 2 * k) (sym sized.blocks) in
+      let three : length third ≡ 3 * c = length_cell_numbers 0 y.cells ∙ ap (λ (k : ℕ). 3 * k) (sym sized.cells) in
+      let blocks = starts_then first second s refl h k x in
+      let cells = starts_then (first ++ second) third s (omega (arith, length-append first second, two)) blocks l z in
+      let all = starts_then ((first ++ second) ++ third) (all_operands y.cells) s (omega (arith, length-append (first ++ second) third, length-append first second, two, three)) cells m o in
+      rw (sym sized.blocks, sym sized.cells, sym sized.operands)
+      (subst (λ (xs : List ℕ). Starts xs s w) (append_assoc (first ++ second) third (all_operands y.cells) ∙ append_assoc first second (third ++ all_operands y.cells)) all)
 
   -- the file's length
   pub file_length : length (bytes (numbers y)) ≡ blocks_at + 8 * d + 12 * c + 4 * p
@@ -77,7 +88,7 @@ module _ (n initial : ℕ) (ts : List Transition) (shapes : List Shape) where
     unfolding shape_system
     blocks_are = sized.blocks
 
-    cells_are : c ≡ length (shape_cells n ts 0 shapes)
+    pub cells_are : c ≡ length (shape_cells n ts 0 shapes)
     unfolding shape_system
     cells_are = sized.cells
 
@@ -85,38 +96,14 @@ module _ (n initial : ℕ) (ts : List Transition) (shapes : List Shape) where
     unfolding shape_system
     operands_are = sized.operands
 
-    -- the numbers of the blocks, of the cells and of the operands have room behind those before them
-    module _ {s t : Writer} (start : s.done ≡ 0) (whole : length s.out.now ≡ room) (head : Wrote (header n d c p initial) s t) where
-      pub blocks_room : HasRoom t (2 * length (shape_blocks n 0 shapes))
-      blocks_room = omega (arith, start, whole, head.done, head.long, blocks_are, sized.roomy)
-
-      module _ {u : Writer} (blocks : Wrote (block_numbers (shape_blocks n 0 shapes)) t u) where
-        pub cells_room : HasRoom u (3 * c)
-        cells_room = omega (arith, start, whole, head.done, head.long, blocks.done, blocks.long, length_block_numbers (shape_blocks n 0 shapes), blocks_are, sized.roomy)
-
-        pub operands_room : {v : Writer} {used : ℕ} → WroteCells 0 (shape_cells n ts 0 shapes) u v used → HasRoom v (length (all_operands (shape_cells n ts 0 shapes)))
-        operands_room cells =
-            omega (
-              arith,
-              start,
-              whole,
-              head.done,
-              head.long,
-              blocks.done,
-              blocks.long,
-              length_block_numbers (shape_blocks n 0 shapes),
-              blocks_are,
-              cells.wrote.done,
-              cells.wrote.long,
-              length_cell_numbers 0 (shape_cells n ts 0 shapes),
-              cells_are,
-              operands_are,
-              sized.roomy,
-            )
-
-    -- the parts of the file, written behind one another into a buffer
-    pub filled_parts : {s t u v w : Writer} → s.done ≡ 0 → Wrote (header n d c p initial) s t → Wrote (block_numbers (shape_blocks n 0 shapes)) t u
-        → {used : ℕ} → WroteCells 0 (shape_cells n ts 0 shapes) u v used → Wrote (all_operands (shape_cells n ts 0 shapes)) v w
-        → Starts (numbers (shape_system n initial ts shapes)) s.out.now w.out.now
+    -- the parts of the file, written into the parts of a buffer
+    pub filled_parts : (s w : List ℕ) {t u v a b e : List ℕ} → Starts (header n d c p initial) s t
+        → Starts (block_numbers (shape_blocks n 0 shapes)) (take (length t - blocks_at) (drop blocks_at t)) a
+        → u ≡ take blocks_at t ++ (a ++ drop (length t - blocks_at) (drop blocks_at t))
+        → Starts (cell_numbers 0 (shape_cells n ts 0 shapes)) (take (length u - (blocks_at + 8 * d)) (drop (blocks_at + 8 * d) u)) b
+        → v ≡ take (blocks_at + 8 * d) u ++ (b ++ drop (length u - (blocks_at + 8 * d)) (drop (blocks_at + 8 * d) u))
+        → Starts (all_operands (shape_cells n ts 0 shapes)) (take (length v - (blocks_at + 8 * d + 12 * c)) (drop (blocks_at + 8 * d + 12 * c) v)) e
+        → w ≡ take (blocks_at + 8 * d + 12 * c) v ++ (e ++ drop (length v - (blocks_at + 8 * d + 12 * c)) (drop (blocks_at + 8 * d + 12 * c) v))
+        → Starts (numbers (shape_system n initial ts shapes)) s w
     unfolding shape_system
-    filled_parts z a b e f = filled (shape_system n initial ts shapes) sized z a b e f
+    filled_parts s w h k x l z m o = filled (shape_system n initial ts shapes) sized s w h k x l z m o

@@ -3,7 +3,7 @@ ghost use Rattle.std.specs.Prelude.{◌≡◌, [], ◌∷◌, ◌+◌, ◌*◌, 
 ghost use Rattle.sets.specs.Words.{state_limit};
 ghost use Rattle.cases.specs.File.{node_limit};
 ghost use Rattle.translate.specs.Bytes.{block_numbers};
-ghost use Rattle.translate.specs.internal.Parts.{HasRoom, Wrote};
+ghost use Rattle.translate.specs.internal.Parts.{HasRoom, Wrote, Starts};
 ghost use Rattle.translate.specs.internal.Shapes.{shape_binds, shape_blocks};
 
 use crate::Shape;
@@ -35,12 +35,13 @@ fn write_block(w: &mut Writer<'_>, n: usize, x: Shape, i: usize)
     }
 }
 
-// The blocks of all nodes, where there are n states.
-pub fn write_blocks(w: &mut Writer<'_>, n: usize, shapes: &[Shape])
-    requires { (n ≤ state_limit) × (length shapes.now ≤ node_limit + 1) × HasRoom w.old (2 * length (shape_blocks n 0 shapes.now)) }
-    ensures { Wrote (block_numbers (shape_blocks n 0 shapes.now)) w.old w.new }
+// The blocks of all nodes, where there are n states, to the start of a part.
+pub fn write_blocks(part: &mut [u8], n: usize, shapes: &[Shape])
+    requires { (n ≤ state_limit) × (length shapes.now ≤ node_limit + 1) × (8 * length (shape_blocks n 0 shapes.now) ≤ length part.old) }
+    ensures { Starts (block_numbers (shape_blocks n 0 shapes.now)) part.old part.new }
 {
+    let mut w = Writer { out: part, done: 0 };
     for (i, x) in shapes.iter().enumerate() {
-        write_block(w, n, *x, i);
+        write_block(&mut w, n, *x, i);
     }
 }

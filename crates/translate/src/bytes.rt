@@ -1,6 +1,6 @@
 // Writing numbers of 32 bits, low byte first.
-ghost use Rattle.std.specs.Prelude.{[], ◌∷◌};
-ghost use Rattle.translate.specs.internal.Parts.{HasRoom, Wrote};
+ghost use Rattle.std.specs.Prelude.{[], ◌∷◌, ◌*◌, ◌≤◌, length};
+ghost use Rattle.translate.specs.internal.Parts.{HasRoom, Wrote, Starts};
 
 // A buffer with numbers at its start, behind which others are written, and how many they are. How much room a function needs differs from one
 // to another, so it stands in their contracts and not in the type. Loops that write are `for` loops: a chain would end in a closure that changes
@@ -32,4 +32,13 @@ impl Writer<'_> {
             self.put_number(x);
         }
     }
+}
+
+// Some numbers, to the start of a part.
+pub fn put<const N: usize>(part: &mut [u8], numbers: [usize; N])
+    requires { 4 * N ≤ length part.old }
+    ensures { Starts numbers.entry part.old part.new }
+{
+    let mut w = Writer { out: part, done: 0 };
+    w.put(numbers);
 }

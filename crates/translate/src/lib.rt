@@ -22,7 +22,7 @@ ghost use Rattle.translate.specs.declared.Cause.TheVariants.{Open};
 ghost use Rattle.translate.specs.Translating.{translate_number, written_number, written_length, Translated};
 
 use blocks::{block_count, write_blocks};
-use bytes::Writer;
+use bytes::put;
 use cases::{Flagged, OpenCase, TRANSITIONS, first_appearances};
 use formula::{WholeFormula, added_before};
 use solver::HEADER;
@@ -85,9 +85,7 @@ impl Equations<'_, '_> {
         let c = self.shapes.len() * self.states;
         let cells = HEADER + 8 * d;
         let operands = cells + 12 * c;
-        let mut w = Writer { out, done: 0 };
-        // The header: version, states, blocks, cells, operands, initial state, and where the three tables start.
-        w.put([
+        let header = [
             1,
             self.states,
             d,
@@ -97,10 +95,12 @@ impl Equations<'_, '_> {
             HEADER,
             cells,
             operands,
-        ]);
-        write_blocks(&mut w, self.states, self.shapes);
-        self.write_all_cells(&mut w);
-        self.write_all_operands(&mut w);
+        ];
+        put(out, header);
+        let blocks = HEADER;
+        write_blocks(&mut out[blocks..], self.states, self.shapes);
+        self.write_all_cells(&mut out[cells..]);
+        self.write_all_operands(&mut out[operands..]);
     }
 
     // The equations, if there is room.

@@ -1,12 +1,14 @@
 use native.Mathlib.Omega.{arith}
-use Rattle.translate.proofs.Putting.{wrote_none, wrote_then}
+use mathlib.Core.Path.{refl}
+use borrow.Author.Rules.{rules}
+use Rattle.translate.proofs.Putting.{wrote_none, wrote_then, wrote_start}
 use Rattle.translate.proofs.BlockParts.{numbers_none, numbers_more, numbers_fit, blocks_all}
 use Rattle.translate.proofs.blocks.write_blocks.Goals as goal
 
 pub loop-i-init : goal.loop-i-init
 loop-i-init c =
     let p = c.args in
-    rw (numbers_none p.n p.shapes.now) (wrote_none p.w.now)
+    rw (numbers_none p.n p.shapes.now) (wrote_none _)
 
 pub write_block-requires : goal.write_block-requires
 write_block-requires c =
@@ -23,4 +25,7 @@ loop-i-preserved c =
 pub returns : goal.returns
 returns c =
     let p = c.args in
-    rw (blocks_all p.n p.shapes.now c.loop-i.i (omega arith)) at c.loop-i.invariant
+    let l = c.loop-i in
+    let same = l.invariant.same_buffer in
+    let started = wrote_start refl (rw (blocks_all p.n p.shapes.now l.i (omega arith)) at l.invariant) in
+    search rules

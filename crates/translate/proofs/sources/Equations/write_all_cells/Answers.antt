@@ -1,6 +1,9 @@
 use native.Mathlib.Omega.{arith}
+use mathlib.Core.Path.{refl}
+use borrow.Author.Rules.{rules}
 use lib.ListN.{length}
 use Rattle.translate.specs.internal.Flags.{distinct_of}
+use Rattle.translate.proofs.Putting.{wrote_start}
 use Rattle.translate.proofs.NodeParts.{operands_fit, cells_all}
 use Rattle.translate.proofs.RowLaws.{wrote_no_rows, wrote_row, rows_fit, numbers_to}
 use Rattle.translate.proofs.sources.Equations.write_all_cells.Goals as goal
@@ -8,7 +11,7 @@ use Rattle.translate.proofs.sources.Equations.write_all_cells.Goals as goal
 pub loop-x-init : goal.loop-x-init
 loop-x-init c =
     let e = c.args.self.now in
-    wrote_no_rows e.states (distinct_of e.records) e.shapes.now c.args.w.now
+    wrote_no_rows e.states (distinct_of e.records) e.shapes.now _
 
 pub write_cells-used-requires : goal.write_cells-used-requires
 write_cells-used-requires c =
@@ -28,4 +31,7 @@ loop-x-preserved c =
 pub returns : goal.returns
 returns c =
     let e = c.args.self.now in
-    rw (cells_all e.states (distinct_of e.records) e.shapes.now c.loop-x.x-index (omega arith)) at c.loop-x.invariant
+    let l = c.loop-x in
+    let same = l.invariant.wrote.same_buffer in
+    let started = wrote_start refl (rw (cells_all e.states (distinct_of e.records) e.shapes.now l.x-index (omega arith)) at l.invariant.wrote) in
+    search rules

@@ -64,7 +64,8 @@ impl<R: Read, W: Write> Editor<'_, R, W> {
         Ok(true)
     }
 
-    // Makes the next call, and answers whether the stream may go on.
+    // Makes the next call, and answers whether the stream may go on. The byte is told apart here and nowhere else, so an enum of calls would be
+    // no plainer.
     fn call_next(&mut self) -> io::Result<bool> {
         let Some(call) = next_bytes::<1, R>(&mut self.input)? else {
             return Ok(false);

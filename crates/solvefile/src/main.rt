@@ -2,11 +2,12 @@
 // the count of marked states and the rounds; the last three are 0 on a refusal.
 #![tactic(auto)]
 
-ghost use Rattle.std.specs.Prelude.{◌++◌, codes, OnOk};
+ghost use Rattle.std.specs.Prelude.{◌≡◌, ◌+◌, ◌++◌, codes, length, OnOk};
 ghost use Rattle.std.specs.Io.KnownBytes.{Appends};
 ghost use Rattle.sets.specs.Words.{word_count};
 ghost use Rattle.solver.specs.File.{cell_limit};
 ghost use Rattle.solver.specs.Outcome.{solve_outcome};
+ghost use Rattle.solver.specs.internal.Forms.{largest_file};
 ghost use Rattle.routes.specs.Route.{program_limit};
 ghost use Rattle.lines.specs.Printed.{outcome_text};
 
@@ -15,8 +16,15 @@ use solver::LARGEST;
 use std::io;
 use std::io::Write;
 
-// Room for the largest file and one byte more, so that a longer input is refused for its length.
+// The length of the largest file, and one more, so that a longer input is refused for its length.
 const ROOM: usize = LARGEST + 1;
+
+// Room for the largest file, as its definition counts it, and one byte more.
+fn space() -> [u8; ROOM]
+    ensures { length result ≡ largest_file + 1 }
+{
+    lines::room::<ROOM>()
+}
 
 // The line of a file.
 fn run<W: Write>(output: &mut W, file: &[u8]) -> io::Result<()>
@@ -28,7 +36,7 @@ fn run<W: Write>(output: &mut W, file: &[u8]) -> io::Result<()>
 }
 
 fn main(rt: HostRuntime) -> io::Result<()> {
-    let mut file = lines::room::<ROOM>();
+    let mut file = space();
     let length = lines::read_full(&mut rt.reader(), &mut file)?;
     run(&mut io::writer(&rt), &file[..length])
 }

@@ -3,9 +3,10 @@
 // table and the distinct ones, both 0 where the case itself is refused.
 #![tactic(auto)]
 
-ghost use Rattle.std.specs.Prelude.{◌++◌, codes, OnOk};
+ghost use Rattle.std.specs.Prelude.{◌≡◌, ◌+◌, ◌++◌, codes, length, OnOk};
 ghost use Rattle.std.specs.Io.KnownBytes.{Appends};
 ghost use Rattle.cases.specs.Tally.{tally_of};
+ghost use Rattle.cases.specs.internal.Checks.{largest_case};
 ghost use Rattle.routes.specs.Route.{direct, equation, outcome_of, program_limit, program_memory};
 ghost use Rattle.lines.specs.Printed.{outcome_text, records_text};
 
@@ -14,8 +15,15 @@ use lines::Runs;
 use std::io;
 use std::io::Write;
 
-// Room for the largest case and one byte more, so that a longer input is refused for its length.
+// The length of the largest case, and one more, so that a longer input is refused for its length.
 const ROOM: usize = LARGEST + 1;
+
+// Room for the largest case, as its definition counts it, and one byte more.
+fn space() -> [u8; ROOM]
+    ensures { length result ≡ largest_case + 1 }
+{
+    lines::room::<ROOM>()
+}
 
 // The three lines of a case.
 fn run<W: Write>(output: &mut W, case: &[u8]) -> io::Result<()>
@@ -33,7 +41,7 @@ fn run<W: Write>(output: &mut W, case: &[u8]) -> io::Result<()>
 }
 
 fn main(rt: HostRuntime) -> io::Result<()> {
-    let mut space = lines::room::<ROOM>();
-    let length = lines::read_full(&mut rt.reader(), &mut space)?;
-    run(&mut io::writer(&rt), &space[..length])
+    let mut case = space();
+    let length = lines::read_full(&mut rt.reader(), &mut case)?;
+    run(&mut io::writer(&rt), &case[..length])
 }

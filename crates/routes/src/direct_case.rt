@@ -1,5 +1,6 @@
 // A case as direct needs it.
 ghost use Rattle.std.specs.Prelude.{◌≡◌};
+ghost use Rattle.cases.specs.File.{label_records};
 ghost use Rattle.routes.specs.internal.Parts.{CaseParts};
 
 use cases::{Header, LabelRecords, Nodes, Transitions};
@@ -13,6 +14,8 @@ pub struct DirectCase<'a> {
     pub actions: Nodes<'a>,
     pub formula: Nodes<'a>,
     ghost parts: { CaseParts header labels.part.now transitions.part.now actions.part.now formula.part.now },
+    ghost label_count: { labels.count ≡ label_records header },
     ghost transition_count: { transitions.count ≡ header.transitions },
+    ghost action_count: { actions.count ≡ header.actions },
     ghost node_count: { formula.count ≡ header.nodes },
 }

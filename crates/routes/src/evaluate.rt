@@ -43,7 +43,8 @@ impl Value {
 }
 
 impl<'a> Evaluator<'a> {
-    // The value of node `at`, after `used` rounds; none if they are spent.
+    // The value of node `at`, after `used` rounds; none if they are spent. The sets, the place and the rounds are no struct: the value of an operand
+    // is asked with another of them, so each call would build it anew. `Asks` is in each contract, since its bounds are the evaluator's.
     #[cycle(binder_evaluate)]
     fn evaluate(&self, sets: &[Set; BLOCKS], at: usize, used: u64) -> Option<Value>
         requires { Asks self.now at used }
@@ -70,7 +71,8 @@ impl<'a> Evaluator<'a> {
     }
 
     // The value of an and: the states in both sets of its operands, left first. This and the next three are not two functions over an operation:
-    // that was tried, but of functions that call each other all have the same type parameters.
+    // that was tried, but of functions that call each other all have the same type parameters. As arms of the `match` they made direct
+    // slower. A function that hands both values back would need a contract of its own for two lines.
     #[cycle(binder_evaluate)]
     fn and(&self, sets: &[Set; BLOCKS], at: usize, used: u64) -> Option<Value>
         requires { Asks self.now at used × kind_at self.now at ≡ 2 }

@@ -34,6 +34,7 @@ pub enum Cause {
 pub type Answer = Result<Report, Cause>;
 
 // A route's answer, and the tally of the case's transition table: both its numbers are 0 where the case is refused on opening.
+// They are two numbers and no `Option`, since C is handed them.
 #[derive(Clone, Copy)]
 pub struct Tallied {
     pub answer: Answer,
@@ -104,7 +105,7 @@ pub fn direct(case: &[u8], marks: &mut [u64], limit: u64) -> Tallied
 }
 
 // The equation route on an accepted case. First appearances are found once, for the file and for the tally. Without a file the buffer was too
-// short, for the case is accepted.
+// short, for the case is accepted. The memory is lent slice by slice, as C lends it.
 fn equation_opened(
     case: OpenCase<'_>,
     file: &mut [u8],

@@ -7,7 +7,7 @@ use sets::Set;
 
 impl<'a> Evaluator<'a> {
     // The states where a diamond holds: those with a transition into the set that has one of the labels. The set found is filled in place,
-    // record by record; a fold would only hand it on.
+    // record by record; a fold would only hand it on, and an iterator of a table is spoken of at `Table`.
     pub fn diamond_set(&self, labels: u64, set: &Set) -> Set
         ensures { Finds self.now labels set.now (diamond_in (states_of self.now) (transitions_of self.now)) result }
     {

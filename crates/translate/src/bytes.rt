@@ -2,9 +2,9 @@
 ghost use Rattle.std.specs.Prelude.{[], ◌∷◌, ◌*◌, ◌≤◌, length};
 ghost use Rattle.translate.specs.internal.Parts.{HasRoom, Wrote, Starts};
 
-// A buffer with numbers at its start, behind which others are written, and how many they are. How much room a function needs differs from one
-// to another, so it stands in their contracts and not in the type. Loops that write are `for` loops: a chain would end in a closure that changes
-// the writer, and be no plainer.
+// A buffer with numbers at its start, behind which others are written, and how many they are. The buffer is lent and there is no heap, so the
+// number stands beside it. How much room a function needs differs from one to another, so it stands in their contracts and not in the type. Loops
+// that write are `for` loops: a chain would end in a closure that changes the writer, and be no plainer.
 #[derive(Drop)]
 pub struct Writer<'a> {
     pub out: &'a mut [u8],

@@ -8,7 +8,8 @@ ghost use Rattle.translate.specs.internal.Readable.{Readable};
 use cases::Nodes;
 
 // A formula table, the masks of its action formulas (bit x of mask j says whether that at action node j accepts label x), and how many nodes are
-// put before its root. The masks stand beside the nodes, since the project has no heap: the nodes are read where they lie in the case.
+// put before its root: a count and no truth value, since places and blocks rise by it. The masks stand beside the nodes, since the project has no
+// heap: the nodes are read where they lie in the case.
 #[derive(Clone, Copy)]
 pub struct WholeFormula<'a> {
     pub nodes: Nodes<'a>,

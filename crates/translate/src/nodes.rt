@@ -1,4 +1,6 @@
-// Writing what one node of the formula gives: its cells, one for each state, and their operands.
+// Writing what one node of the formula gives: its cells, one for each state, and their operands. The loops that write are `for` loops,
+// as said at `Writer`: a chain would be no plainer. A node's shape, its number and a state are handed on one by one, since each function needs
+// others of them.
 ghost use Rattle.std.specs.Prelude.{◌≡◌, [], ◌∷◌, map, ℕ, ◌+◌, ◌*◌, ◌^◌, ◌<◌, ◌≤◌, length};
 ghost use Rattle.sets.specs.Lists.{numbers_from};
 ghost use Rattle.cases.specs.File.{transition_limit, node_limit};
@@ -27,20 +29,25 @@ fn file_cell(x: Shape, s: usize, operands: Operands) -> FileCell
 }
 
 impl Equations<'_, '_> {
+    // The records that a box or diamond with these labels follows from state s.
+    #[inline]
+    fn steps(&self, labels: u64, s: usize) -> Steps<'_>
+        ensures { result ≡ record { records = self.now.records; state = s; labels = labels } }
+    {
+        Steps {
+            records: self.records,
+            state: s,
+            labels,
+        }
+    }
+
     // How many operands a node of a shape has in state s.
     pub fn operand_count(&self, x: Shape, s: usize) -> usize
         ensures { ((n i : ℕ) → result ≡ length (shape_operands n (distinct_of self.now.records) x i s)) × (result ≤ transition_limit + 2) }
     {
         match x {
             Shape::And { .. } | Shape::Or { .. } => 2,
-            Shape::Box { labels } | Shape::Diamond { labels } => {
-                let steps = Steps {
-                    records: self.records,
-                    state: s,
-                    labels,
-                };
-                steps.count()
-            }
+            Shape::Box { labels } | Shape::Diamond { labels } => self.steps(labels, s).count(),
             _ => 0,
         }
     }
@@ -89,12 +96,7 @@ impl Equations<'_, '_> {
                 w.put([low + s, self.row(second) + s]);
             }
             Shape::Box { labels } | Shape::Diamond { labels } => {
-                let steps = Steps {
-                    records: self.records,
-                    state: s,
-                    labels,
-                };
-                steps.write_targets(w, low);
+                self.steps(labels, s).write_targets(w, low);
             }
             _ => {}
         }

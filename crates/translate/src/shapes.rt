@@ -12,7 +12,8 @@ use crate::Shape;
 use crate::formula::WholeFormula;
 use cases::{FormulaKind, Nodes};
 
-// The limit on nodes, and one more for a nu that is put before the root.
+// The limit on nodes, and one more for a nu that is put before the root. The array has room for so many, and their number is told beside it, for
+// there is no heap.
 pub const SHAPES: usize = cases::NODES + 1;
 
 impl WholeFormula<'_> {

@@ -1,5 +1,6 @@
-// The records that a box or diamond follows from a state, and the operands that they give.
-ghost use Rattle.std.specs.Prelude.{◌≡◌, [], ◌∷◌, ◌+◌, ◌*◌, ◌^◌, ◌<◌, ◌≤◌, length};
+// The records that a box or diamond follows from a state, and the operands that they give. The loop that writes is a `for` loop, as said at
+// `Writer`: a chain would be no plainer.
+ghost use Rattle.std.specs.Prelude.{◌≡◌, [], ◌∷◌, ◌^◌, ◌<◌, ◌≤◌, length};
 ghost use Rattle.sets.specs.Words.{marked};
 ghost use Rattle.cases.specs.File.{transition_in};
 ghost use Rattle.translate.specs.internal.Parts.{HasRoom, Wrote, target_cells};
@@ -18,7 +19,8 @@ pub struct Steps<'a> {
     pub labels: u64,
 }
 
-// Whether bit x of a mask of labels is 1. A label past its bits is not in it.
+// Whether bit x of a mask of labels is 1. A label past its bits is not in it. `has_bit` asks that there is such a bit, which is not known of the
+// labels of any records.
 fn marks(labels: u64, x: usize) -> bool
     ensures { result ≡ marked (labels ∷ []) x }
 {

@@ -5,7 +5,9 @@ pub invariant_of-given : goal.invariant_of-given
 invariant_of-given c =
     let b = c.args.case.now in record {
       parts = given_parts _ b.accepted b.laid.laid.read c.labels.ensures.part c.transitions.ensures.part c.actions.ensures.part c.formula.ensures.part;
+      label_count = c.labels.ensures.count;
       transition_count = c.transitions.ensures.count;
+      action_count = c.actions.ensures.count;
       node_count = c.formula.ensures.count;
     }
 

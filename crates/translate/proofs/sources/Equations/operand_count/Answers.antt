@@ -15,7 +15,8 @@ pub returns-in-Box : goal.returns-in-Box
 unfolding leaving
 returns-in-Box c =
     let p = c.args in
-    (λ n i. c.count.ensures.0 ∙ modal_count n (distinct_of p.self.now.records) p.x i p.s c.in-Box.is, omega arith)
+    let few = rw c.steps.ensures at c.count.ensures in
+    (λ n i. few.0 ∙ modal_count n (distinct_of p.self.now.records) p.x i p.s c.in-Box.is, omega arith)
 
 pub returns-in_default : goal.returns-in_default
 returns-in_default c =

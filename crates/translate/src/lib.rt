@@ -21,7 +21,7 @@ ghost use Rattle.translate.specs.internal.Sources.{RoomFor, shape_system, Emitte
 ghost use Rattle.translate.specs.declared.Cause.TheVariants.{Open};
 ghost use Rattle.translate.specs.Translating.{translate_number, written_number, written_length, Translated};
 
-use blocks::{block_count, write_blocks};
+use blocks::block_count;
 use bytes::put;
 use cases::{Flagged, OpenCase, TRANSITIONS, first_appearances};
 use formula::{WholeFormula, added_before};
@@ -98,7 +98,7 @@ impl Equations<'_, '_> {
         ];
         put(out, header);
         let blocks = HEADER;
-        write_blocks(&mut out[blocks..], self.states, self.shapes);
+        self.write_blocks(&mut out[blocks..]);
         self.write_all_cells(&mut out[cells..]);
         self.write_all_operands(&mut out[operands..]);
     }

@@ -7,8 +7,6 @@ use Rattle.translate.proofs.sources.Equations.fill.Goals as goal
 pub write_blocks-requires : goal.write_blocks-requires
 write_blocks-requires c =
     let e = c.args.self.now in
-    let few = e.within.few_states in
-    let nodes = e.within.few_nodes in
     let room = c.requires.roomy in
     let are = blocks_are e.states e.initial (distinct_of e.records) e.shapes.now c.requires in
     search rules

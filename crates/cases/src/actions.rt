@@ -40,7 +40,8 @@ fn mask_at(masks: &[u64], at: usize) -> u64
 // The labels that the action formula at each node accepts: bit x of mask j says whether that at node j accepts label x. The nodes are read from
 // the last one down, and the masks of the formulas that start at node i or after it, outermost only, stand from `at` on: a stack in an array, and
 // beside the nodes another array with a mask for each, for there is no heap. Each turn needs what the last one left on the stack, so no chain of
-// iterators would be plainer. The two parts and the header are no open case: callers have them of a case that a later condition may refuse.
+// iterators would be plainer. The two parts and the header are no open case: direct hands in those of a `DirectCase`, whose tables need
+// not be those of an accepted case: it asks nothing of the numbers of label records, and lets a formula through that is one binder too deep.
 pub fn action_masks(labels: &[u8], h: Header, part: &[u8]) -> [u64; ACTIONS]
     requires { LabelPart labels.now h × NodesFit action_limit part.now h.actions × WholeActions h.labels (nodes_in part.now h.actions) }
     ensures { (length result ≡ action_limit)

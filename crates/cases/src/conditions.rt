@@ -60,7 +60,7 @@ fn bad_offset(h: Header) -> bool
     h.formula_at != formula_start(h)
 }
 
-// Condition 5, where the counts are in range.
+// Condition 5, where the counts are in range. The layout is not yet known to be right, so the two are no `LaidCase`.
 fn bad_length(case: &[u8], h: Header) -> bool
     requires counts_fit { CountsFit h }
     requires header_read { h ≡ header_of case.now }

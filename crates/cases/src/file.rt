@@ -10,7 +10,8 @@ pub const HEADER: usize = 20;
 
 pub const LONGEST_HEADER: usize = 22;
 
-// The 16-bit number at a place, low byte first. The numbers of an equation file have 32 bits: solver reads those by a function of its own.
+// The 16-bit number at a place, low byte first. The numbers of an equation file have 32 bits: solver reads those by a function of its own. One
+// function for both widths would be handed the width, and be no plainer.
 #[tactic(auto, unfolding(crate::specs::File::u16))]
 pub fn number_at(part: &[u8], at: usize) -> usize
     requires { at + 2 ≤ length part.now }

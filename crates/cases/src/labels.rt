@@ -26,7 +26,8 @@ pub fn bad_labels(case: &LaidCase<'_>) -> bool
     !(0..table.count).all(|j| label_holds(&table.at(j)))
 }
 
-// How many of the four numbers of a label are k.
+// How many of the four numbers of a label are k. The truth values are summed, since with `filter` and `count`, which were tried, labels were compared
+// slower.
 fn occurrences(x: &Label, k: usize) -> usize
     ensures { result ≡ list_occurrences k (record_numbers x.now) }
 {

@@ -8,7 +8,7 @@ use crate::file::{label_records, number_at};
 use crate::{Header, Label, Node, Transition};
 
 // A part of a file that starts with a table, and how many records the table has; each has SIZE bytes. One `at` for all three, over a trait of
-// records, would want an impl that reads for each of them all the same, and the kind of record in the table: no plainer. Nor would be an iterator,
+// records, would want an impl that reads for each of them all the same, and the kind of record in the table: no plainer. Nor would an iterator be,
 // which wants an impl with its laws for each of them, where chains over a range with `at` say the same.
 #[derive(Clone, Copy)]
 pub struct Table<'a, const SIZE: usize> {

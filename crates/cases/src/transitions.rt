@@ -53,7 +53,8 @@ fn copies_before(table: &Transitions<'_>, links: &Links, i: usize) -> usize
     copies
 }
 
-// Flags those records of a table that are the first of their kind, and answers how many they are.
+// Flags those records of a table that are the first of their kind, and answers how many they are. The flags are summed, since `filter` and `count`
+// were tried and compiled to a slower loop, which branches at each flag.
 fn flag_appearances(table: &Transitions<'_>, first: &mut [bool]) -> usize
     requires { Sourced table.now.part.now table.now.count × (table.now.count ≤ length first.old) }
     ensures { FirstFlags table.now.part.now table.now.count first.new × (result ≡ length (distinct (transitions_in table.now.part.now table.now.count))) }
@@ -80,7 +81,8 @@ pub fn first_appearances(case: &OpenCase<'_>, first: &mut [bool]) -> Tally
     }
 }
 
-// The transitions of a table, and of each whether it is the first of its kind.
+// The transitions of a table, and of each whether it is the first of its kind. The flags stand in an array of their own: the records are bytes of
+// the file, and there is no heap.
 #[derive(Clone, Copy)]
 pub struct Flagged<'a> {
     pub table: Transitions<'a>,

@@ -12,7 +12,7 @@ use lines::Runs;
 use std::io;
 use std::io::Write;
 
-// The line of a case.
+// The line of a case. `twosides` prints the same of a case on three lines: what the two share is `lines::run_both`, and each has its own layout.
 fn run<W: Write>(output: &mut W, number: u64, case: &[u8]) -> io::Result<()>
     ensures { OnOk result (Appends (W.contents output.old) (W.contents output.new) (
         decimal number

@@ -35,6 +35,7 @@ fn run<W: Write>(output: &mut W, file: &[u8]) -> io::Result<()>
     writeln!(output, "S{solved}")
 }
 
+// As in `twosides`, but for the room and for what is run: one function over both would be handed a length and a closure, and be no plainer.
 fn main(rt: HostRuntime) -> io::Result<()> {
     let mut file = space();
     let length = lines::read_full(&mut rt.reader(), &mut file)?;

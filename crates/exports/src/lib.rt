@@ -1,5 +1,5 @@
-// The calls for programs in C or Rust. A slice is a pointer and a length. Translating and solving answer five numbers, a route over a case or
-// a model six, and a change of a model one, its refusal number.
+// The calls for programs in C or Rust. A slice is a pointer and a length. Translating and solving answer five numbers, direct over a case or
+// a model six, the equation route seven, and a change of a model one, its refusal number.
 #![tactic(auto)]
 
 ghost use Rattle.std.specs.Prelude.{◌≡◌};
@@ -12,7 +12,7 @@ ghost use Rattle.exports.specs.internal.Saying.{Says};
 
 use cases::Transition;
 use models::change_number;
-use routes::{Answer, Tallied, solving_answer};
+use routes::{Answer, Priced, Tallied, solving_answer};
 use translate::Written;
 
 // The refusal number (0 if none), the verdict as 1 or 0, the count of marked states, the rounds, and the length of the file that was
@@ -39,6 +39,14 @@ pub struct RouteNumbers {
     pub rounds: u64,
     pub records: u64,
     pub distinct: u64,
+}
+
+// The six numbers of a route, and then the price of the run, in cents. For C they are seven numbers in a row.
+#[repr(C)]
+#[derive(Clone, Copy)]
+pub struct EquationNumbers {
+    pub run: RouteNumbers,
+    pub cents: u64,
 }
 
 // The numbers of an answer.
@@ -95,6 +103,18 @@ impl From<Tallied> for RouteNumbers {
     }
 }
 
+// The numbers of a run of the equation route.
+impl From<Priced> for EquationNumbers {
+    ghost from_gives = { λ priced numbers. (exported_route numbers.run ≡ route_answer priced.run.answer) × (exported_tally numbers.run ≡ priced.run.tally) × (numbers.cents ≡ priced.cents) };
+
+    fn from(priced: Priced) -> EquationNumbers {
+        EquationNumbers {
+            run: RouteNumbers::from(priced.run),
+            cents: priced.cents,
+        }
+    }
+}
+
 // A transition of three 64-bit numbers, which C gives one by one.
 fn transition_of(source: u64, label: u64, target: u64) -> Transition
     ensures { result ≡ record { source = source; label = label; target = target } }
@@ -139,11 +159,11 @@ pub extern "C" fn bithrowy_equation(
     work: &mut [u8],
     marks: &mut [u64],
     limit: u64,
-) -> RouteNumbers
+) -> EquationNumbers
     ensures { EquationSays case.now (lent file.old work.old marks.old) limit result
         file.new work.new marks.new }
 {
-    RouteNumbers::from(routes::equation(case, file, work, marks, limit))
+    EquationNumbers::from(routes::equation(case, file, work, marks, limit))
 }
 
 #[unsafe(no_mangle)]

@@ -6,7 +6,7 @@ ghost use Rattle.routes.specs.Route.{lent};
 ghost use Rattle.cases.specs.File.{case_within};
 ghost use Rattle.exports.specs.Exported.{TranslateSays, SolveSays, DirectSays, EquationSays, OpenSays, AddSays, DropSays};
 
-use exports::{Numbers, RouteNumbers};
+use exports::{EquationNumbers, Numbers, RouteNumbers};
 
 #[unsafe(no_mangle)]
 pub extern "C" fn bithrowy_translate(case: &[u8], file: &mut [u8]) -> Numbers
@@ -41,7 +41,7 @@ pub extern "C" fn bithrowy_equation(
     work: &mut [u8],
     marks: &mut [u64],
     limit: u64,
-) -> RouteNumbers
+) -> EquationNumbers
     ensures { EquationSays case.now (lent file.old work.old marks.old) limit result
         file.new work.new marks.new }
 {

@@ -25,14 +25,14 @@ const FILE: usize = 65_536;
 // The longest case that a stream announces, by a length of 16 bits.
 pub const LONGEST: usize = 65_535;
 
-// What the equation route answers, with fresh memory.
+// What the equation route answers, with fresh memory. The programs do not print what it costs.
 pub fn by_equation(case: &[u8]) -> Tallied
     ensures { (route_answer result.answer ≡ outcome_of equation case.now program_memory program_limit) × (result.tally ≡ tally_of case.now) }
 {
     let mut file = [0u8; FILE];
     let mut work = [0u8; CELLS];
     let mut marks = [0u64; WORDS];
-    routes::equation(case, &mut file, &mut work, &mut marks, LIMIT)
+    routes::equation(case, &mut file, &mut work, &mut marks, LIMIT).run
 }
 
 // What direct answers, with fresh memory.

@@ -11,6 +11,9 @@ use lib.Seq.{take-append_seam}
 use Rattle.std.specs.Prelude.{Result, Ok, Err}
 use Rattle.sets.specs.Refusals.{Outcome, first_of, refused, outcome_by, report_of}
 use Rattle.sets.proofs.Refusals.{refusing}
+use Rattle.solver.specs.declared.Sizes.{Sizes}
+use Rattle.solver.specs.File.{sizes_of, blocks_at}
+use Rattle.solver.proofs.Reading.{layout_facts}
 use Rattle.solver.specs.Outcome.{report, solve_refusal, solve_outcome, solve_marks, solve_work, Answered}
 use Rattle.cases.specs.Case.{case_of}
 use Rattle.cases.specs.Conditions.{Accepted}
@@ -18,9 +21,10 @@ use Rattle.cases.specs.declared.Tally.{Tally}
 use Rattle.cases.specs.Tally.{tally_of}
 use Rattle.translate.specs.Translating.{file, file_after, translate_refusal, written_number, written_length, Translated}
 use Rattle.translate.specs.declared.Cause.{Cause}
-use Rattle.translate.proofs.Promises.{writes, read_back}
+use Rattle.translate.proofs.Promises.{well_formed, writes, read_back}
 use Rattle.translate.proofs.Translations.{some_number, unrefused, lacks_room}
 use Rattle.routes.specs.Route.{equation, Lent, run_of, route_conditions, route_outcome, marks_after, work_after, EquationRan}
+use Rattle.routes.specs.Price.{price, run_price}
 use Rattle.routes.proofs.RouteLaws.{translate_then_solve, translate_never_14}
 use Rattle.routes.proofs.DirectAnswers.{ran_refused}
 
@@ -82,6 +86,14 @@ module _ {b : List ℕ} (l : Lent) {file' : List ℕ} {number long : ℕ} (t : T
 
     pub written_fits : k ≤ length file'
     written_fits = rw (written_length_lem, (writes t zero_number).0) (simp length-append (omega arith))
+
+    -- It has a header, whose number of cells is the one that is paid for.
+    pub has_header : blocks_at ≤ length (take k file')
+    has_header = let r = layout_facts (file b) (well_formed b accepted).layout in rw written_file (omega (arith, r.places.ends))
+
+    pub priced : (o : Outcome) {cents : ℕ} {sizes : Sizes} → sizes ≡ sizes_of (take k file') → cents ≡ price o sizes.cells limit → cents ≡ run_price b limit o
+    unfolding run_price
+    priced o s e = rw (s, written_file) at e
 
     -- solve's report on it is the route's
     same_report : report (file b) ≡ report_of (case_of b).initial (run_of equation (case_of b)).0 (run_of equation (case_of b)).1

@@ -1,6 +1,7 @@
 -- Laws of the crate's definitions. `Promises` says what the whole promises.
 pub mod Promises
 pub mod RouteLaws
+pub mod Prices
 pub mod EquationAnswers
 pub mod Refusing
 pub mod Outcomes

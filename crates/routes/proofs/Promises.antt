@@ -41,6 +41,8 @@ use Rattle.translate.specs.Bytes.{file_of}
 use Rattle.translate.specs.Translating.{file, translate_refusal, file_after}
 use Rattle.translate.proofs.Translations.{unrefused}
 use Rattle.routes.specs.Route.{Route, direct, equation, Lent, OwnRounds, run_of, exceeds, run_conditions, route_conditions, Enough, work_after, RanBy, Ran, EquationRan}
+use Rattle.routes.specs.Price.{round_price, solved_price, run_price}
+use Rattle.routes.proofs.Prices.{solved_costs, spent_costs, unpaid}
 use Rattle.routes.proofs.RouteLaws.{translate_then_solve, case_refused, case_accepted, number_ran, reported, written, refused_with, kept, given, spent_over, spent_accepted, spent_number, gives_number}
 use Rattle.routes.proofs.DirectAnswers.{ran_first}
 use Rattle.routes.proofs.Members.{means_same, run_same, ran_same}
@@ -296,6 +298,46 @@ module _ {b : List ℕ} {l : Lent} {limit : ℕ} {o : Outcome} {t : Tally} {file
 
   pub work_spent : Spent o → Scratch (sizes_of (file b)).cells l.work work'
   work_spent = e.work_14
+
+  -- ---- The price, of the cents that are answered beside
+
+  module _ {cents : ℕ} (cost : cents ≡ run_price b limit o) where
+    -- A solved run costs by its rounds and the cells of the equation file, a spent one by its limit, and any other refusal nothing.
+    pub cents_solved : GivesMarks o → cents ≡ solved_price o.rounds (sizes_of (file b)).cells
+    unfolding run_price
+    cents_solved g = cost ∙ solved_costs o _ limit g
+
+    pub cents_spent : Spent o → cents ≡ round_price limit
+    unfolding run_price
+    cents_spent s = cost ∙ spent_costs o _ limit s
+
+    pub cents_none : ¬ GivesMarks o → ¬ Spent o → cents ≡ 0
+    unfolding run_price
+    cents_none d n = cost ∙ unpaid o _ limit d n
+
+    -- The same by the own rounds of an accepted case with enough memory: whether they are within the limit decides.
+    module _ (accepted : Accepted b) (enough : Enough equation (case_of b) l) (r : ℕ) (own : OwnRounds equation (case_of b) r) where
+      pub cents_within : r ≤ limit → cents ≡ solved_price r (sizes_of (file b)).cells
+      cents_within h =
+          let g = (gives_iff b accepted e.ran enough r own).1 h in
+          cents_solved g ∙ rw (own_one b accepted equation r own, reported e.ran.by g)
+
+      pub cents_beyond : limit < r → cents ≡ round_price limit
+      cents_beyond h = cents_spent ((spent_iff b accepted e.ran enough r own).1 h)
+
+    -- What is solved costs the same at whatever limit and with whatever memory it is solved again,
+    pub same_price : {l' : Lent} {limit' : ℕ} {o' : Outcome} {t' : Tally} {file'' work'' marks'' : List ℕ} {cents' : ℕ}
+        → EquationRan b l' limit' o' t' file'' work'' marks'' → cents' ≡ run_price b limit' o' → GivesMarks o → GivesMarks o' → cents' ≡ cents
+    unfolding run_price
+    same_price {limit' = limit'} {o' = o'} e' cost' g g' =
+        cost' ∙ solved_costs o' _ limit' g' ∙ rw (reported e'.ran.by g' ∙ sym (reported e.ran.by g)) (sym (cents_solved g))
+
+    -- and so it does at each larger limit: a larger limit never makes a solved run dearer.
+    pub larger_price : {l' : Lent} {more : ℕ} {o' : Outcome} {t' : Tally} {file'' work'' marks'' : List ℕ} {cents' : ℕ}
+        → EquationRan b l' more o' t' file'' work'' marks'' → cents' ≡ run_price b more o' → Enough equation (case_of b) l' → limit ≤ more → GivesMarks o
+        → cents' ≡ cents
+    larger_price e' cost' enough h g =
+        same_price e' cost' g (ap (λ (x : Outcome). x.refusal) (larger e.ran e'.ran enough h g).0 ∙ g)
 
   -- The number is translate's, or where that is 0 solve's on the file.
   pub in_turn : o.refusal

@@ -2,3 +2,4 @@
 pub mod Paper
 pub mod Further
 pub mod Together
+pub mod Prices

@@ -6,6 +6,7 @@ mod evaluate;
 mod evaluator;
 mod modal;
 mod outcome;
+mod price;
 mod tables;
 
 ghost use Rattle.std.specs.Prelude.{◌≡◌};
@@ -13,12 +14,14 @@ ghost use Rattle.sets.specs.Refusals.{refused as refused_outcome};
 ghost use Rattle.cases.specs.Opening.{case_number};
 ghost use Rattle.cases.specs.Tally.{no_tally};
 ghost use Rattle.routes.specs.Route.{route_answer, direct as direct_route, lent, marks_only, run_conditions, RanBy, Ran, EquationRan};
+ghost use Rattle.routes.specs.Price.{run_price};
 ghost use Rattle.routes.specs.internal.Given.{case_given};
 
 use cases::{OpenCase, TRANSITIONS, Tally, first_appearances};
 pub use direct_case::DirectCase;
 use evaluate::evaluate_root;
 pub use outcome::solving_answer;
+use price::price;
 use sets::WORDS;
 pub use solver::Report;
 use translate::write_case;
@@ -39,6 +42,13 @@ pub type Answer = Result<Report, Cause>;
 pub struct Tallied {
     pub answer: Answer,
     pub tally: Tally,
+}
+
+// A run of the equation route: its answer and tally, and what it costs, in cents.
+#[derive(Clone, Copy)]
+pub struct Priced {
+    pub run: Tallied,
+    pub cents: u64,
 }
 
 // The numbers of an answer: the refusal number (0 if none), the verdict as 1 or 0, the count and the rounds; the last three are 0 after a
@@ -105,28 +115,37 @@ pub fn direct(case: &[u8], marks: &mut [u64], limit: u64) -> Tallied
 }
 
 // The equation route on an accepted case. First appearances are found once, for the file and for the tally. Without a file the buffer was too
-// short, for the case is accepted. The memory is lent slice by slice, as C lends it.
+// short, for the case is accepted. The cells that are paid for are those that the file's header counts. The memory is lent slice by slice, as C lends it.
 fn equation_opened(
     case: OpenCase<'_>,
     file: &mut [u8],
     work: &mut [u8],
     marks: &mut [u64],
     limit: u64,
-) -> Tallied
-    ensures { EquationRan case.entry.laid.bytes.now (lent file.old work.old marks.old) limit (route_answer result.answer) result.tally
+) -> Priced
+    ensures ran { EquationRan case.entry.laid.bytes.now (lent file.old work.old marks.old) limit (route_answer result.run.answer) result.run.tally
         file.new work.new marks.new }
+    ensures price { result.cents ≡ run_price case.entry.laid.bytes.now limit (route_answer result.run.answer) }
 {
     let mut first = [false; TRANSITIONS];
     let tally = first_appearances(&case, &mut first);
     let written = write_case(&case, &first, file);
     let Ok(length) = written else {
-        return Tallied {
-            answer: Err(Cause::Run(solver::Cause::Memory)),
-            tally,
+        return Priced {
+            run: Tallied {
+                answer: Err(Cause::Run(solver::Cause::Memory)),
+                tally,
+            },
+            cents: 0,
         };
     };
-    let answer = solving_answer(solver::solve(&file[..length], work, marks, limit));
-    Tallied { answer, tally }
+    let equations = &file[..length];
+    let cells = solver::sizes_of(equations).cells;
+    let answer = solving_answer(solver::solve(equations, work, marks, limit));
+    Priced {
+        run: Tallied { answer, tally },
+        cents: price(answer, cells, limit),
+    }
 }
 
 // Translates a case and solves its equation file. Is lent bytes for the file, a working byte for each cell, and the words of a set for
@@ -137,12 +156,16 @@ pub fn equation(
     work: &mut [u8],
     marks: &mut [u64],
     limit: u64,
-) -> Tallied
-    ensures { EquationRan case.now (lent file.old work.old marks.old) limit (route_answer result.answer) result.tally
+) -> Priced
+    ensures ran { EquationRan case.now (lent file.old work.old marks.old) limit (route_answer result.run.answer) result.run.tally
         file.new work.new marks.new }
+    ensures price { result.cents ≡ run_price case.now limit (route_answer result.run.answer) }
 {
     match cases::open(case) {
         Ok(opened) => equation_opened(opened, file, work, marks, limit),
-        Err(cause) => unopened(cause),
+        Err(cause) => Priced {
+            run: unopened(cause),
+            cents: 0,
+        },
     }
 }

@@ -14,7 +14,7 @@ ghost use Rattle.solver.specs.internal.Working.{AllSolved, Reported};
 
 use conditions::open_file;
 use file::EquationFile;
-pub use file::HEADER;
+pub use file::{HEADER, sizes_of};
 use sets::{Set, WORDS};
 
 pub const BLOCKS: usize = 6;

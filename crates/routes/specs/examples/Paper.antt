@@ -52,8 +52,8 @@ paper =
     ∷ (p8, program_limit, reported 1 1 6, reported 1 1 6, tally 0 0)
     ∷ []
 
--- what a route answers, with all that this computes with
-unfoldable pub answer : Route → Example → Outcome
+-- what a route answers on a case at a limit, with all that this computes with
+unfoldable pub outcome_at : Route → List ℕ → ℕ → Outcome
 unfolding route_outcome outcome_by route_conditions run_conditions route_too_short route_exceeds run_of worked repeated update
     same size numbers_from every for_some accepts nodes u16 header_size label_records label_table alike_labels alike same_names occurrences names_of transition_table action_table formula_table trees action_at formula_at case_of
     same_transition copies copies_before keep distinct case_conditions first_of layout_conditions model_conditions formula_conditions
@@ -61,7 +61,12 @@ unfolding route_outcome outcome_by route_conditions run_conditions route_too_sho
     too_deep whole_formulas exactly span file_of numbers system_of bytes cell_numbers block_numbers all_operands operands_of cells_from
     blocks_from cell_of targets whole raise binds_first binder_nodes index_in block_in solve_too_short run solved evaluate work_out value u32
     blocks operands entries entry_cell cells
-answer R x = outcome_of R x.0 program_memory x.1
+outcome_at R b limit = outcome_of R b program_memory limit
+
+-- on an example
+unfoldable pub answer : Route → Example → Outcome
+unfolding outcome_at
+answer R x = outcome_at R x.0 x.1
 
 -- the tally of an example, with all that this computes with
 unfoldable pub tally_in : Example → Tally

@@ -1,0 +1,32 @@
+-- What a run of the equation route costs, in cents. Each rule is a line, in the order in which the paper applies them.
+use Rattle.std.specs.Prelude.{List, ℕ, ◌+◌, ◌*◌, cond, eqb, leb, max}
+use Rattle.std.specs.Int.{div_ceil}
+use Rattle.sets.specs.Refusals.{Outcome, by_refusal}
+use Rattle.solver.specs.File.{sizes_of}
+use Rattle.translate.specs.Translating.{file}
+
+-- 2 for each started 1,000 rounds. A quotient rounded up is how many are started, by `started` (proofs/Prices.antt).
+abbrev pub round_price : ℕ → ℕ
+round_price rounds = 2 * div_ceil rounds 1_000
+
+-- 1 for each started 500 cells
+abbrev pub cell_price : ℕ → ℕ
+cell_price cells = div_ceil cells 500
+
+-- A solved run pays for its rounds and its cells; one of at most 100 cells is free, its sum is 0; at last the minimum, 5.
+unfoldable pub solved_price : ℕ → ℕ → ℕ
+solved_price rounds cells =
+    let used : ℕ = round_price rounds + cell_price cells in
+    let owed : ℕ = cond (leb cells 100) 0 used in
+    max 5 owed
+
+-- A spent run pays for its limit and nothing else. Any other refusal costs nothing.
+unfoldable pub refused_price : ℕ → ℕ → ℕ
+refused_price number limit = cond (eqb number 14) (round_price limit) 0
+
+unfoldable pub price : Outcome → ℕ → ℕ → ℕ
+price o cells limit = by_refusal o.refusal (solved_price o.rounds cells) (refused_price o.refusal limit)
+
+-- of a run with outcome o, over a case of these bytes: the cells are those of the case's equation file
+unfoldable pub run_price : List ℕ → ℕ → Outcome → ℕ
+run_price b limit o = price o (sizes_of (file b)).cells limit

@@ -1,7 +1,7 @@
 //! The calls of the proved library.
 
 use crate::plain::editor::Transition;
-use crate::plain::routes::Answer;
+use crate::plain::routes::{Answer, Priced};
 use crate::plain::solver::Report;
 
 /// What translate and solve answer: the refusal number (0 if none), the verdict as 1 or 0, the count of marked states, the rounds, and the
@@ -65,8 +65,22 @@ impl From<Answer> for RouteNumbers {
     }
 }
 
+/// What the equation route answers: the numbers of a route, and what the run costs in cents.
+#[repr(C)]
+#[derive(Clone, Copy, Debug, PartialEq)]
+pub struct EquationNumbers {
+    pub run: RouteNumbers,
+    pub cents: u64,
+}
+
+impl From<Priced> for EquationNumbers {
+    fn from(Priced { answer, cents }: Priced) -> EquationNumbers {
+        EquationNumbers { run: answer.into(), cents }
+    }
+}
+
 mod c {
-    use super::{Numbers, RouteNumbers};
+    use super::{EquationNumbers, Numbers, RouteNumbers};
 
     extern "C" {
         pub fn bithrowy_translate(case: *const u8, n: usize, file: *mut u8, m: usize) -> Numbers;
@@ -90,7 +104,7 @@ mod c {
             marks: *mut u64,
             j: usize,
             limit: u64,
-        ) -> RouteNumbers;
+        ) -> EquationNumbers;
         pub fn bithrowy_add(model: *mut u8, m: usize, source: u64, label: u64, target: u64) -> u64;
         pub fn bithrowy_drop(model: *mut u8, m: usize, source: u64, label: u64, target: u64) -> u64;
         pub fn bithrowy_want(model: *const u8, m: usize, marks: *mut u64, k: usize, limit: u64) -> RouteNumbers;
@@ -122,7 +136,7 @@ pub fn direct(case: &[u8], marks: &mut [u64], limit: u64) -> RouteNumbers {
     unsafe { c::bithrowy_direct(case.as_ptr(), case.len(), marks.as_mut_ptr(), marks.len(), limit) }
 }
 
-pub fn equation(case: &[u8], file: &mut [u8], work: &mut [u8], marks: &mut [u64], limit: u64) -> RouteNumbers {
+pub fn equation(case: &[u8], file: &mut [u8], work: &mut [u8], marks: &mut [u64], limit: u64) -> EquationNumbers {
     // SAFETY: as in `translate`.
     unsafe {
         c::bithrowy_equation(

@@ -7,7 +7,7 @@ mod library;
 mod plain;
 
 use inputs::Input;
-use library::{Numbers, RouteNumbers};
+use library::{EquationNumbers, Numbers, RouteNumbers};
 use std::fmt::Debug;
 use std::fs::{self, File};
 use std::hint::black_box;
@@ -51,11 +51,12 @@ enum Side {
 
 const SIDES: [Side; 2] = [Side::Proved, Side::Plain];
 
-/// What a call answers: a route over a case six numbers, the others five.
+/// What a call answers: direct six numbers, the equation route those and its price, the others five.
 #[derive(Clone, Copy, Debug, PartialEq)]
 enum Answer {
     Five(Numbers),
     Six(RouteNumbers),
+    Seven(EquationNumbers),
 }
 
 #[inline(never)]
@@ -68,8 +69,8 @@ fn run(call: Call, side: Side, case: &[u8], equations: &[u8], lent: &mut Lent) -
         (Call::Solve, Side::Plain) => Answer::Five(plain::solver::solve(equations, work, marks, LIMIT).into()),
         (Call::Translate, Side::Proved) => Answer::Five(library::translate(case, file)),
         (Call::Translate, Side::Plain) => Answer::Five(plain::translate::translate(case, file).into()),
-        (Call::Equation, Side::Proved) => Answer::Six(library::equation(case, file, work, marks, LIMIT)),
-        (Call::Equation, Side::Plain) => Answer::Six(plain::routes::equation(case, file, work, marks, LIMIT).into()),
+        (Call::Equation, Side::Proved) => Answer::Seven(library::equation(case, file, work, marks, LIMIT)),
+        (Call::Equation, Side::Plain) => Answer::Seven(plain::routes::equation(case, file, work, marks, LIMIT).into()),
     }
 }
 

@@ -69,6 +69,21 @@ impl RouteNumbers {
     }
 }
 
+/// The seven numbers that the equation route answers: those of a route, and what the run costs.
+#[repr(C)]
+#[derive(Clone, Copy, Debug, Default, PartialEq, Eq)]
+pub struct EquationNumbers {
+    pub run: RouteNumbers,
+    pub cents: u64,
+}
+
+impl EquationNumbers {
+    /// The answer on a case that is not accepted, which costs nothing.
+    pub fn refused(refusal: u64) -> EquationNumbers {
+        EquationNumbers { run: RouteNumbers::refused(refusal), cents: 0 }
+    }
+}
+
 /// How many mark words a call needs.
 pub const MARK_WORDS: usize = 4;
 
@@ -85,7 +100,8 @@ pub trait Calls {
     fn translate(&self, case: &[u8], file: &mut [u8]) -> Numbers;
     fn solve(&self, file: &[u8], work: &mut [u8], marks: &mut [u64], limit: u64) -> Numbers;
     fn direct(&self, case: &[u8], marks: &mut [u64], limit: u64) -> RouteNumbers;
-    fn equation(&self, case: &[u8], file: &mut [u8], work: &mut [u8], marks: &mut [u64], limit: u64) -> RouteNumbers;
+    fn equation(&self, case: &[u8], file: &mut [u8], work: &mut [u8], marks: &mut [u64], limit: u64)
+        -> EquationNumbers;
 }
 
 /// The calls of an editor. A model is lent bytes; the numbers of a transition have 64 bits; a call answers its refusal

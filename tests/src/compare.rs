@@ -1,10 +1,11 @@
 //! Compares calls with the reference: the numbers answered, the whole of each lent place, and the guards around it.
 
-use crate::calls::{mark_words, Calls, Numbers, Recorded, RouteNumbers, MARK_WORDS};
+use crate::calls::{mark_words, Calls, EquationNumbers, Numbers, Recorded, RouteNumbers, MARK_WORDS};
 use crate::formats::Case;
 use crate::lent::{Lent, Work};
 use crate::meaning;
 use crate::names::{self, brought_up, BROUGHT_UP};
+use crate::price;
 use crate::random::Random;
 use crate::reader::{read_case, read_equations};
 use crate::rounds::{self, Solved};
@@ -122,6 +123,21 @@ impl CaseTruth {
             CaseTruth::Refused(_) => Recorded::default(),
             CaseTruth::Accepted { direct, .. } => direct.recorded,
         }
+    }
+
+    /// The cells of the equation file; a refused case has none.
+    fn cells(&self) -> u64 {
+        match self {
+            CaseTruth::Accepted { solve: FileTruth::Accepted { cells, .. }, .. } => *cells as u64,
+            _ => 0,
+        }
+    }
+
+    /// The numbers of the equation route with what a run gives.
+    fn priced(&self, answer: Numbers, limit: u64) -> EquationNumbers {
+        let Numbers { refusal, rounds, .. } = answer;
+        let cents = price::cents(price::Run { refusal, rounds, cells: self.cells(), limit });
+        EquationNumbers { run: RouteNumbers::with(answer, self.recorded()), cents }
     }
 }
 
@@ -461,7 +477,7 @@ impl Comparison<'_> {
         let mut work = Lent::bytes(work_size, &mut self.random);
         let mut marks = Lent::words(marks_size, &mut self.random);
         let answer = self.calls.equation(&input, file.lend(), work.lend(), marks.lend(), limit);
-        same(answer, RouteNumbers::with(expected.numbers, truth.recorded()))
+        same(answer, truth.priced(expected.numbers, limit))
             .and_then(|()| file.holds(written, "file bytes"))
             .and_then(|()| work.holds_work(&expected.work))
             .and_then(|()| marks.holds(&expected.marks, "mark words"))

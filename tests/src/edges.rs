@@ -38,7 +38,7 @@ pub fn check(calls: &dyn Calls) -> Result<u64, String> {
 
 fn held_to(calls: &dyn Calls, case: &Case, holding: &[usize]) -> Check {
     let (equation, direct) = both_left(calls, &case.bytes());
-    for (answer, marks) in [equation, direct] {
+    for (answer, marks) in [(equation.0.run, equation.1), direct] {
         let marked: Vec<usize> = (0..64 * MARK_WORDS).filter(|s| marks[s / 64] >> (s % 64) & 1 == 1).collect();
         if answer.refusal != 0 || answer.count != holding.len() as u64 || marked != holding {
             return Err(format!("{} states: {answer:?}, marked {marked:?}, instead of {holding:?}", case.states));

@@ -1,7 +1,7 @@
 //! Faults in what a call leaves: it answers rightly, and a lent place is spoilt before the caller looks at it. The
 //! comparison must notice each of them.
 
-use crate::calls::{Calls, Numbers, RouteNumbers};
+use crate::calls::{Calls, EquationNumbers, Numbers, RouteNumbers};
 use std::cell::Cell;
 use std::ops::Not;
 
@@ -134,12 +134,19 @@ impl Calls for Faulty<'_> {
         answer
     }
 
-    fn equation(&self, case: &[u8], file: &mut [u8], work: &mut [u8], marks: &mut [u64], limit: u64) -> RouteNumbers {
+    fn equation(
+        &self,
+        case: &[u8],
+        file: &mut [u8],
+        work: &mut [u8],
+        marks: &mut [u64],
+        limit: u64,
+    ) -> EquationNumbers {
         let (lent_file, lent_work, lent_marks) = (file.to_vec(), work.to_vec(), marks.to_vec());
         let answer = self.calls.equation(case, file, work, marks, limit);
-        self.spoil(answer.refusal, (Call::Equation, Place::File), &lent_file, file);
-        self.spoil(answer.refusal, (Call::Equation, Place::Work), &lent_work, work);
-        self.spoil(answer.refusal, (Call::Equation, Place::Marks), &lent_marks, marks);
+        self.spoil(answer.run.refusal, (Call::Equation, Place::File), &lent_file, file);
+        self.spoil(answer.run.refusal, (Call::Equation, Place::Work), &lent_work, work);
+        self.spoil(answer.run.refusal, (Call::Equation, Place::Marks), &lent_marks, marks);
         answer
     }
 }

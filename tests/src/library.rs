@@ -1,6 +1,6 @@
 //! The built library, through its C entry points.
 
-use bithrowy_tests::calls::{Calls, Edits, Numbers, RouteNumbers};
+use bithrowy_tests::calls::{Calls, Edits, EquationNumbers, Numbers, RouteNumbers};
 use bithrowy_tests::formats::Transition;
 
 extern "C" {
@@ -25,7 +25,7 @@ extern "C" {
         marks: *mut u64,
         j: usize,
         limit: u64,
-    ) -> RouteNumbers;
+    ) -> EquationNumbers;
     fn bithrowy_open(case: *const u8, n: usize, model: *mut u8, m: usize) -> u64;
     fn bithrowy_add(model: *mut u8, m: usize, source: u64, label: u64, target: u64) -> u64;
     fn bithrowy_drop(model: *mut u8, m: usize, source: u64, label: u64, target: u64) -> u64;
@@ -49,7 +49,14 @@ impl Calls for Library {
         unsafe { bithrowy_direct(case.as_ptr(), case.len(), marks.as_mut_ptr(), marks.len(), limit) }
     }
 
-    fn equation(&self, case: &[u8], file: &mut [u8], work: &mut [u8], marks: &mut [u64], limit: u64) -> RouteNumbers {
+    fn equation(
+        &self,
+        case: &[u8],
+        file: &mut [u8],
+        work: &mut [u8],
+        marks: &mut [u64],
+        limit: u64,
+    ) -> EquationNumbers {
         let (f, w, m) = (file.len(), work.len(), marks.len());
         let (file, work, marks) = (file.as_mut_ptr(), work.as_mut_ptr(), marks.as_mut_ptr());
         unsafe { bithrowy_equation(case.as_ptr(), case.len(), file, f, work, w, marks, m, limit) }

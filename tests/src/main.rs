@@ -15,7 +15,8 @@ use bithrowy_tests::reader::{read_case, CASE_CONDITIONS};
 use bithrowy_tests::rules::Broken;
 use bithrowy_tests::slips::{Reference, Slip};
 use bithrowy_tests::{
-    case_rules, copies, damage, edges, laws, lent, listing, paper, program, rules, shrink, stream, tables, worked,
+    case_rules, copies, damage, edges, laws, lent, listing, paper, price, priced, program, rules, shrink, stream,
+    tables, worked,
 };
 use library::Library;
 use std::path::Path;
@@ -219,6 +220,9 @@ fn main() {
     let start = Instant::now();
     report("paper, reference", start, paper::check(&Reference(None)));
     report("paper, library", start, paper::check(&Library));
+    report("prices worked out by hand", Instant::now(), price::check());
+    report("cases with prices worked out by hand, reference", Instant::now(), priced::check(&Reference(None)));
+    report("cases with prices worked out by hand, library", Instant::now(), priced::check(&Library));
     report("marks at the edges of words, reference", Instant::now(), edges::check(&Reference(None)));
     report("marks at the edges of words, library", Instant::now(), edges::check(&Library));
     assert!(
@@ -230,6 +234,8 @@ fn main() {
     each_rule(seed, Kind::Equations, "equation files, each rule of 11 and 12 and pairs");
     cases(seed);
     report("changes of names that change nothing, library", Instant::now(), laws::check(&Library, seed));
+    report("larger limits for solved runs, library", Instant::now(), laws::larger_limits(&Library, seed));
+    known_prices(seed);
     all_sizes(seed);
     tables_of_copies(seed);
     damaged_cases(seed);
@@ -296,6 +302,16 @@ fn cases(seed: u64) {
     group.assert_many_searched();
     group.assert_many_copied();
     group.assert_both_versions();
+    group.end();
+}
+
+/// Cases with prices worked out by hand, at limits and lent sizes around the needed ones.
+fn known_prices(seed: u64) {
+    let mut group = Group { budget: LARGE_BUDGET, ..Group::new("cases with known prices", Kind::Case) };
+    for priced in priced::all() {
+        group.compare(seed, &priced.case.bytes());
+    }
+    assert_eq!((group.tally.refused[0], group.tally.equations.capped), (group.tally.files(), 0), "all are solved");
     group.end();
 }
 

@@ -1,7 +1,7 @@
 //! The paper's runs P1 to P8, as version 1 and as version 2, and the examples of its table of refusals, with the values
 //! given there.
 
-use crate::calls::{Calls, Numbers, RouteNumbers, MARK_WORDS};
+use crate::calls::{Calls, EquationNumbers, Numbers, RouteNumbers, MARK_WORDS};
 use crate::compare::Check;
 use crate::damage::with_number;
 use crate::formats::*;
@@ -18,20 +18,24 @@ type Line = [u64; 4];
 /// Records in the table, distinct ones.
 type Pair = [u64; 2];
 
-/// A run with the answers of the equation route and of direct, and the marked states, all below 64, as bits.
+/// A run with the answers of the equation route, with its price, and of direct, and the marked states, all below 64, as
+/// bits.
 #[derive(Clone)]
 pub struct Run {
     pub name: &'static str,
     pub case: Case,
-    pub equation: RouteNumbers,
+    pub equation: EquationNumbers,
     pub direct: RouteNumbers,
     pub marks: u64,
 }
 
 impl Run {
+    /// Every run here is solved or refused for its case. A refused one costs 0. Those that are solved have at most 14
+    /// cells, so they are free, and the minimum makes that 5.
     pub fn new(name: &'static str, case: Case, equation: Line, direct: Line, recorded: Pair, marks: u64) -> Run {
-        let (equation, direct) = (answer(equation, recorded), answer(direct, recorded));
-        Run { name, case, equation, direct, marks }
+        let (run, direct) = (answer(equation, recorded), answer(direct, recorded));
+        let cents = if run.refusal == 0 { 5 } else { 0 };
+        Run { name, case, equation: EquationNumbers { run, cents }, direct, marks }
     }
 
     /// The run's name and version.
@@ -141,13 +145,13 @@ fn answer([refusal, verdict, count, rounds]: Line, [records, distinct]: Pair) ->
 }
 
 /// An answer, and the mark words that are left.
-type Left = (RouteNumbers, [u64; MARK_WORDS]);
+type Left<A> = (A, [u64; MARK_WORDS]);
 
 /// Mark words before a call.
 const UNTOUCHED: [u64; MARK_WORDS] = [9; MARK_WORDS];
 
 /// What the equation route and direct answer and leave, with the program's limit and buffers.
-pub fn both_left(calls: &dyn Calls, bytes: &[u8]) -> (Left, Left) {
+pub fn both_left(calls: &dyn Calls, bytes: &[u8]) -> (Left<EquationNumbers>, Left<RouteNumbers>) {
     let (mut file, mut work) = (vec![0; FILE_BUFFER], vec![0; CELLS]);
     let (mut first, mut second) = (UNTOUCHED, UNTOUCHED);
     let equation = calls.equation(bytes, &mut file, &mut work, &mut first, LIMIT);
@@ -156,7 +160,7 @@ pub fn both_left(calls: &dyn Calls, bytes: &[u8]) -> (Left, Left) {
 }
 
 /// The answers alone.
-pub fn both_routes(calls: &dyn Calls, bytes: &[u8]) -> (RouteNumbers, RouteNumbers) {
+pub fn both_routes(calls: &dyn Calls, bytes: &[u8]) -> (EquationNumbers, RouteNumbers) {
     let ((equation, _), (direct, _)) = both_left(calls, bytes);
     (equation, direct)
 }
@@ -185,12 +189,12 @@ pub fn check(calls: &dyn Calls) -> Result<u64, String> {
     let mut held = Held(0);
     for run in [runs(), named_runs(), worked::runs()].concat() {
         let bytes = run.case.bytes();
-        let marks = if run.equation.refusal == 0 { [run.marks, 0, 0, 0] } else { UNTOUCHED };
+        let marks = if run.equation.run.refusal == 0 { [run.marks, 0, 0, 0] } else { UNTOUCHED };
         held.to(&run.title(), both_left(calls, &bytes), ((run.equation, marks), (run.direct, marks)))?;
     }
     for (number, bytes) in [refused_cases(1), refused_cases(2), refused_names()].concat() {
-        let refused = RouteNumbers::refused(number);
-        held.to("a refused case", both_routes(calls, &bytes), (refused, refused))?;
+        let refused = (EquationNumbers::refused(number), RouteNumbers::refused(number));
+        held.to("a refused case", both_routes(calls, &bytes), refused)?;
         held.to("translate of a refused case", calls.translate(&bytes, &mut []), Numbers::refused(number))?;
     }
     check_files(calls, &mut held)?;
@@ -226,17 +230,26 @@ fn check_files(calls: &dyn Calls, held: &mut Held) -> Check {
 
 /// P1 with too small a limit and with memory that is too short: the numbers of its records are answered all the same.
 fn check_refused_runs(calls: &dyn Calls, p1: &[u8], held: &mut Held) -> Check {
-    let (mut file, mut work, mut marks) = ([0; 160], [9; 9], [9; 4]);
+    let (mut work, mut marks) = ([9; 9], [9; 4]);
     let refused = |refusal| answer([refusal, 0, 0, 0], [3, 2]);
-    let spent = calls.equation(p1, &mut file, &mut work, &mut marks, 3);
-    held.to("P1 with limit 3, equations", spent, refused(14))?;
-    held.to("P1's equation file after 14", file.to_vec(), p1_file())?;
-    held.to("P1 with limit 3, direct", calls.direct(p1, &mut marks, 3), refused(14))?;
-    let short = calls.equation(p1, &mut [0; 159], &mut work, &mut marks, 4);
-    held.to("P1 with a file buffer of 159 bytes", short, refused(13))?;
-    let short = calls.equation(p1, &mut file, &mut work[..8], &mut marks, 4);
-    held.to("P1 with 8 working bytes", short, refused(13))?;
-    held.to("P1 with marks of 3 words", calls.direct(p1, &mut marks[..3], 4), refused(13))?;
+    // P1 needs 4 rounds. Where it is spent it pays a started thousand of the limit, and nothing for limit 0.
+    for (limit, cents) in [(3, 2), (0, 0)] {
+        let mut file = [0; 160];
+        let spent = calls.equation(p1, &mut file, &mut work, &mut marks, limit);
+        held.to("P1 with limit 3 or 0, equations", spent, EquationNumbers { run: refused(14), cents })?;
+        held.to("P1's equation file after 14", file.to_vec(), p1_file())?;
+        held.to("P1 with limit 3 or 0, direct", calls.direct(p1, &mut marks, limit), refused(14))?;
+    }
+    // Whether 13 comes before the file is written or after, it costs nothing.
+    let short = EquationNumbers { run: refused(13), cents: 0 };
+    for (file_size, work_size, mark_size) in [(159, 9, 4), (160, 8, 4), (160, 9, 3)] {
+        let mut file = vec![0; file_size];
+        let (work, marks) = (&mut work[..work_size], &mut marks[..mark_size]);
+        held.to("P1 with short memory", calls.equation(p1, &mut file, work, marks, 4), short)?;
+        let left = if file_size < 160 { vec![0; file_size] } else { p1_file() };
+        held.to("P1's equation file after 13", file, left)?;
+    }
+    held.to("P1 with marks of 3 words, direct", calls.direct(p1, &mut marks[..3], 4), refused(13))?;
     held.to("marks after 13 and 14", marks, [9; 4])
 }
 

@@ -1,12 +1,13 @@
 //! Wrong calls planted in the comparison, which must notice each of them: the paper's slips, slips in the numbers of
-//! records, in the names of labels and in the count, and faults in what the library leaves.
+//! records, in the names of labels, in the count and in the price, and faults in what the library leaves.
 
 use crate::library::Library;
-use crate::{Kind, BUDGET};
+use crate::{Kind, BUDGET, LARGE_BUDGET};
 use bithrowy_tests::calls::Calls;
 use bithrowy_tests::compare::{Comparison, Sizes, Truth};
 use bithrowy_tests::faults::{Call, Fault, Faulty, FAULTS};
 use bithrowy_tests::generate;
+use bithrowy_tests::priced;
 use bithrowy_tests::random::Random;
 use bithrowy_tests::shrink;
 use bithrowy_tests::slips::{Reference, Slip, SLIPS};
@@ -26,34 +27,61 @@ struct Made {
 /// How a file is made.
 type Make = fn(&mut Random) -> Vec<u8>;
 
-/// Generated files of a kind.
+/// Is a slip noticed in some files? None if it is rare, so that it depends on the seed.
+type Notice = fn(Slip) -> Option<bool>;
+
+/// Files of a kind.
 struct Files {
     name: &'static str,
     kind: Kind,
+    budget: u64,
     all: Vec<Made>,
-    /// Is a slip noticed in some of them?
-    notice: fn(Slip) -> bool,
+    notice: Notice,
 }
 
 impl Files {
-    fn new(name: &'static str, kind: Kind, seed: u64, make: Make, notice: fn(Slip) -> bool) -> Files {
-        let made = |seed: u64| {
-            let bytes = make(&mut Random::new(seed));
-            let truth = kind.truth(&mut comparison(&Library, seed), &bytes).expect("the reference agrees with itself");
-            Made { seed, bytes, truth }
-        };
-        Files { name, kind, all: (seed..seed + FILES).map(made).collect(), notice }
+    /// Files made by chance from seeds one after another.
+    fn new(name: &'static str, kind: Kind, seed: u64, make: Make, notice: Notice) -> Files {
+        let made = (seed..seed + FILES).map(|seed| (seed, make(&mut Random::new(seed)))).collect();
+        Files { name, kind, budget: BUDGET, all: Vec::new(), notice }.with(made)
+    }
+
+    /// The cases whose prices are worked out by hand.
+    fn priced(seed: u64) -> Files {
+        let made = priced::all().iter().map(|priced| (seed, priced.case.bytes())).collect();
+        let name = "cases with known prices";
+        let notice: Notice = |slip| Some(slip.in_price());
+        Files { name, kind: Kind::Case, budget: LARGE_BUDGET, all: Vec::new(), notice }.with(made)
+    }
+
+    /// With these files, and what the reference says of each.
+    fn with(mut self, made: Vec<(u64, Vec<u8>)>) -> Files {
+        for (seed, bytes) in made {
+            let truth = self.kind.truth(&mut self.comparison(&Library, seed), &bytes);
+            self.all.push(Made { seed, bytes, truth: truth.expect("the reference agrees with itself") });
+        }
+        self
+    }
+
+    fn comparison<'a>(&self, calls: &'a dyn Calls, seed: u64) -> Comparison<'a> {
+        Comparison::new(calls, Sizes::Some, self.budget, seed)
     }
 
     /// The files on which the comparison notices wrong calls.
     fn noticed(&self, calls: &dyn Calls) -> Vec<&Made> {
-        let notices = |made: &&Made| comparison(calls, made.seed).held_to(&made.bytes, &made.truth).is_err();
+        let notices = |made: &&Made| self.comparison(calls, made.seed).held_to(&made.bytes, &made.truth).is_err();
         self.all.iter().filter(notices).collect()
+    }
+
+    /// So many files notice a slip, or the reference without one. Is that as it should be?
+    fn assert_notice(&self, slip: Option<Slip>, noticed: usize) {
+        let expected = slip.map_or(Some(false), self.notice);
+        assert!(expected.is_none_or(|some| some == (noticed > 0)), "{slip:?} in {noticed} {}", self.name);
     }
 
     /// Does it on any file, whatever the reference says of it?
     fn notices(&self, calls: &dyn Calls, seed: u64, bytes: &[u8]) -> bool {
-        self.kind.compare(&mut comparison(calls, seed), bytes).is_err()
+        self.kind.compare(&mut self.comparison(calls, seed), bytes).is_err()
     }
 
     /// Wrong calls by name, and in how many files they are noticed.
@@ -62,24 +90,24 @@ impl Files {
     }
 }
 
-fn comparison(calls: &dyn Calls, seed: u64) -> Comparison<'_> {
-    Comparison::new(calls, Sizes::Some, BUDGET, seed)
-}
-
 /// Plants the slips and the faults.
 pub fn check(seed: u64) {
     let (case, file): (Make, Make) =
         (|random| Kind::Case.generated(random), |random| Kind::Equations.generated(random));
-    let cases = Files::new("cases", Kind::Case, seed, case, |slip| !slip.in_wrong_records());
-    let equations = Files::new("equation files", Kind::Equations, seed, file, Slip::in_solver);
-    let misnamed = Files::new("cases with wrong records", Kind::Case, seed, generate::misnamed, Slip::in_wrong_records);
+    let of_cases: Notice = |slip| (!slip.is_rare()).then_some(!slip.in_wrong_records());
+    let (of_files, of_misnamed): (Notice, Notice) =
+        (|slip| Some(slip.in_solver()), |slip| Some(slip.in_wrong_records()));
+    let cases = Files::new("cases", Kind::Case, seed, case, of_cases);
+    let equations = Files::new("equation files", Kind::Equations, seed, file, of_files);
+    let misnamed = Files::new("cases with wrong records", Kind::Case, seed, generate::misnamed, of_misnamed);
     slips(&[&cases, &equations, &misnamed]);
+    prices(&Files::priced(seed));
     for fault in FAULTS {
         faults(fault, &cases, &equations, &misnamed);
     }
 }
 
-/// The comparison passes the reference itself, notices each slip, and a noticed file is made smaller.
+/// The comparison passes the reference itself, notices each slip but for rare ones, and a noticed file is made smaller.
 fn slips(kinds: &[&Files]) {
     let start = Instant::now();
     let mut counts = Vec::new();
@@ -87,7 +115,7 @@ fn slips(kinds: &[&Files]) {
         let calls = Reference(slip);
         for files in kinds {
             let noticed = files.noticed(&calls);
-            assert_eq!(!noticed.is_empty(), slip.is_some_and(files.notice), "{slip:?}, {}", files.name);
+            files.assert_notice(slip, noticed.len());
             if let Some(Made { seed, bytes, .. }) = noticed.first() {
                 let mut notices = |bytes: &[u8]| files.notices(&calls, *seed, bytes);
                 let small = shrink::smallest(bytes, files.kind.smaller(), &mut notices);
@@ -98,6 +126,22 @@ fn slips(kinds: &[&Files]) {
         }
     }
     println!("slips, noticed of {FILES}: {}; {:.1} s", counts.join(", "), start.elapsed().as_secs_f64());
+}
+
+/// The comparison passes the reference itself on cases whose prices are worked out by hand, and notices each slip of the
+/// price there, rare ones too; and so do the prices alone. A smaller case has other counts, so none is made smaller.
+fn prices(files: &Files) {
+    let start = Instant::now();
+    let mut counts = Vec::new();
+    for slip in [None].into_iter().chain(SLIPS.into_iter().filter(|slip| slip.in_price()).map(Some)) {
+        let calls = Reference(slip);
+        let noticed = files.noticed(&calls).len();
+        files.assert_notice(slip, noticed);
+        assert_eq!(priced::check(&calls).is_err(), slip.is_some(), "{slip:?}, known prices");
+        counts.extend(slip.map(|slip| format!("{slip:?} in {noticed}")));
+    }
+    let (count, time) = (files.all.len(), start.elapsed().as_secs_f64());
+    println!("slips of the price, noticed of {count} {}: {}; {time:.1} s", files.name, counts.join(", "));
 }
 
 /// Each time that a fault spoils a lent place the comparison notices it, and in each call it does so in some files.

@@ -1,14 +1,15 @@
-//! The paper's "Slips seen in such programs", and slips in the numbers of records, in the names of labels and in the count,
-//! as wrong versions of the calls. The comparison must notice each of them.
+//! The paper's "Slips seen in such programs", and slips in the numbers of records, in the names of labels, in the count and
+//! in the price, as wrong versions of the calls. The comparison must notice each of them.
 
-use crate::calls::{mark_words, Calls, Numbers, Recorded, RouteNumbers, MARK_WORDS};
+use crate::calls::{mark_words, Calls, EquationNumbers, Numbers, Recorded, RouteNumbers, MARK_WORDS};
 use crate::formats::*;
 use crate::meaning::{accepted_by_node, cell_values};
-use crate::misread;
 use crate::names::alike;
+use crate::price::Run;
 use crate::reader::{read_equations, read_in_order};
 use crate::rounds::{self, Counter, Solved, Spent};
 use crate::tables;
+use crate::{mispriced, misread};
 
 #[derive(Clone, Copy, Debug, PartialEq, Eq)]
 pub enum Slip {
@@ -50,9 +51,37 @@ pub enum Slip {
     TallyAfterNames,
     /// The first of the mark words left out of the count.
     WordUncounted,
+    /// The minimum looked at before the free rule.
+    MinimumBeforeFree,
+    /// 1,000 rounds of a solved run paid as two started thousands.
+    ThousandAsTwo,
+    /// The same of a limit: 0 paid as a started thousand.
+    LimitAsTwo,
+    /// 500 cells paid as two started parts.
+    FiveHundredAsTwo,
+    /// No solved run free.
+    NothingFree,
+    /// A solved run free below 100 cells only.
+    HundredNotFree,
+    /// A solved run free above 100 cells too, below 200.
+    MoreFree,
+    /// A spent run priced by the rounds of its answer, which are 0.
+    SpentByRounds,
+    /// A spent run with the minimum.
+    SpentWithMinimum,
+    /// A spent run that pays its cells too.
+    SpentPaysCells,
+    /// A spent run of at most 100 cells free.
+    SpentFree,
+    /// 13 priced as if the run were solved, if the equation file was not written.
+    ShortFilePriced,
+    /// The same, if it was.
+    ShortMemoryPriced,
+    /// The cells counted without the added nu's row.
+    AddedRowUnpaid,
 }
 
-pub const SLIPS: [Slip; 19] = [
+pub const SLIPS: [Slip; 33] = [
     Slip::CopiesKept,
     Slip::LabelsMerged,
     Slip::InnerKept,
@@ -72,6 +101,20 @@ pub const SLIPS: [Slip; 19] = [
     Slip::BehindUnchecked,
     Slip::TallyAfterNames,
     Slip::WordUncounted,
+    Slip::MinimumBeforeFree,
+    Slip::ThousandAsTwo,
+    Slip::LimitAsTwo,
+    Slip::FiveHundredAsTwo,
+    Slip::NothingFree,
+    Slip::HundredNotFree,
+    Slip::MoreFree,
+    Slip::SpentByRounds,
+    Slip::SpentWithMinimum,
+    Slip::SpentPaysCells,
+    Slip::SpentFree,
+    Slip::ShortFilePriced,
+    Slip::ShortMemoryPriced,
+    Slip::AddedRowUnpaid,
 ];
 
 impl Slip {
@@ -84,6 +127,17 @@ impl Slip {
     /// Is it in the solver? The others are in what comes before it, or in what the routes answer beside it.
     pub fn in_solver(self) -> bool {
         matches!(self, Slip::InnerKept | Slip::WordUncounted)
+    }
+
+    /// Is it in the price, and in nothing else? Those are the last.
+    pub fn in_price(self) -> bool {
+        self as usize >= Slip::MinimumBeforeFree as usize
+    }
+
+    /// Does it show only at counts that hardly any case made by chance has?
+    pub fn is_rare(self) -> bool {
+        use Slip::{AddedRowUnpaid, FiveHundredAsTwo, HundredNotFree, MoreFree, NothingFree, ThousandAsTwo};
+        matches!(self, ThousandAsTwo | FiveHundredAsTwo | NothingFree | HundredNotFree | MoreFree | AddedRowUnpaid)
     }
 }
 
@@ -163,6 +217,15 @@ impl Reference {
             Some(Slip::LostWhenSpent) if answer.refusal == 14 => Recorded::default(),
             _ => Recorded { records, distinct },
         }
+    }
+
+    /// The numbers of the equation route on an accepted case, whose file was written or not.
+    fn priced(&self, case: &Case, answer: Numbers, written: bool, limit: u64) -> EquationNumbers {
+        let added = !case.root_binds() && self.0 != Some(Slip::AddedRowUnpaid);
+        let cells = (case.states * (case.formula.len() + added as usize)) as u64;
+        let run = Run { refusal: answer.refusal, rounds: answer.rounds, cells, limit };
+        let cents = mispriced::cents(self.0, run, written);
+        EquationNumbers { run: RouteNumbers::with(answer, self.recorded(case, answer)), cents }
     }
 
     /// What a route answers on a case that is not accepted.
@@ -358,15 +421,22 @@ impl Calls for Reference {
         }
     }
 
-    fn equation(&self, bytes: &[u8], file: &mut [u8], work: &mut [u8], marks: &mut [u64], limit: u64) -> RouteNumbers {
+    fn equation(
+        &self,
+        bytes: &[u8],
+        file: &mut [u8],
+        work: &mut [u8],
+        marks: &mut [u64],
+        limit: u64,
+    ) -> EquationNumbers {
         let translated = self.translate(bytes, file);
         match misread::read(self.0, bytes) {
-            Err(number) => self.refused(bytes, number),
+            Err(number) => EquationNumbers { run: self.refused(bytes, number), cents: 0 },
             Ok(case) => {
                 let length = translated.length as usize;
                 let written = translated.refusal == 0;
                 let answer = if written { self.solve(&file[..length], work, marks, limit) } else { translated };
-                RouteNumbers::with(answer, self.recorded(&case, answer))
+                self.priced(&case, answer, written, limit)
             }
         }
     }

@@ -1,6 +1,6 @@
 //! The cases that the program `runs` is held to, and the line that each must give.
 
-use crate::calls::RouteNumbers;
+use crate::calls::{EquationNumbers, RouteNumbers};
 use crate::formats::*;
 use crate::meaning;
 use crate::paper::{both_routes, named_runs, refused_cases, refused_names, runs, Run};
@@ -14,7 +14,7 @@ use std::path::Path;
 type Triple = (usize, usize, usize);
 
 /// A path 0, 1, .. with one label.
-fn path(states: usize) -> Vec<Triple> {
+pub fn path(states: usize) -> Vec<Triple> {
     (0..states - 1).map(|s| (s, 0, s + 1)).collect()
 }
 
@@ -42,7 +42,7 @@ fn alternating(first_is_mu: bool, depth: usize) -> String {
 }
 
 /// So many binders side by side, each over the path's end.
-fn beside(count: usize, sign: &str, body: &str) -> String {
+pub fn beside(count: usize, sign: &str, body: &str) -> String {
     let one = format!("{sign} X {body} ");
     "and ".repeat(count - 1) + &one.repeat(count)
 }
@@ -161,12 +161,12 @@ fn further_named() -> Vec<Case> {
 
 /// The answers of the equation route and of direct by the reference; the parity game must agree, and so must another count
 /// of the distinct records.
-pub fn reference_answers(bytes: &[u8]) -> (RouteNumbers, RouteNumbers) {
+pub fn reference_answers(bytes: &[u8]) -> (EquationNumbers, RouteNumbers) {
     let (equation, direct) = both_routes(&Reference(None), bytes);
     if let Ok(case) = read_case(bytes) {
         let set = meaning::states_by_game(&case);
         let count = set.iter().filter(|&&marked| marked).count() as u64;
-        for answer in [equation, direct] {
+        for answer in [equation.run, direct] {
             assert_eq!(answer.recorded(), tables::recorded(&case.transitions), "first appearances and equal ones");
             if answer.refusal == 0 {
                 assert_eq!((answer.verdict, answer.count), (set[case.initial] as u64, count), "rounds and game");
@@ -176,9 +176,10 @@ pub fn reference_answers(bytes: &[u8]) -> (RouteNumbers, RouteNumbers) {
     (equation, direct)
 }
 
-/// The lines E, D and T of a case by the reference, as the programs print them. Both routes give the numbers of T.
+/// The lines E, D and T of a case by the reference, as the programs print them: without the price. Both routes give the
+/// numbers of T.
 pub fn reference_lines(bytes: &[u8]) -> [String; 3] {
-    let (equation, direct) = reference_answers(bytes);
+    let (EquationNumbers { run: equation, .. }, direct) = reference_answers(bytes);
     assert_eq!(equation.recorded(), direct.recorded(), "both routes");
     let route = |letter: &str, x: RouteNumbers| line(letter, &[x.refusal, x.verdict, x.count, x.rounds]);
     [route("E", equation), route("D", direct), line("T", &[direct.records, direct.distinct])]

@@ -2,6 +2,7 @@
 
 pub mod cases;
 pub mod editor;
+pub mod price;
 pub mod program;
 pub mod routes;
 pub mod sets;

@@ -28,7 +28,7 @@ pub fn twosides() -> io::Result<()> {
     let mut file = [0u8; FILE];
     let mut work = [0u8; solver::CELLS];
     let mut marks = [0u64; sets::WORDS];
-    line('E', &routes::equation(case, &mut file, &mut work, &mut marks, LIMIT));
+    line('E', &routes::equation(case, &mut file, &mut work, &mut marks, LIMIT).answer);
     let direct = routes::direct(case, &mut marks, LIMIT);
     line('D', &direct);
     println!("T {} {}", direct.records, direct.distinct);

@@ -1,6 +1,7 @@
 //! The two routes from a case to its marks.
 
 use super::cases::{self, action_masks, is_binder, node_at, transition_at, Header, NODES};
+use super::price;
 use super::sets::{self, Set, WORDS};
 use super::solver::{self, Report, BLOCKS};
 use super::translate::{self, First};
@@ -18,6 +19,12 @@ impl Answer {
     fn refused(cause: u8) -> Answer {
         Answer { outcome: Err(cause), records: 0, distinct: 0 }
     }
+}
+
+/// What the equation route answers: a route's answer, and what the run costs in cents.
+pub struct Priced {
+    pub answer: Answer,
+    pub cents: u64,
 }
 
 /// What evaluation reads.
@@ -125,13 +132,15 @@ fn evaluated(case: &[u8], h: &Header, marks: &mut [u64], limit: u64) -> Result<R
 }
 
 /// Translates a case and solves its equation file.
-pub fn equation(case: &[u8], file: &mut [u8], work: &mut [u8], marks: &mut [u64], limit: u64) -> Answer {
+pub fn equation(case: &[u8], file: &mut [u8], work: &mut [u8], marks: &mut [u64], limit: u64) -> Priced {
     if let Some(cause) = cases::refusal(case) {
-        return Answer::refused(cause);
+        return Priced { answer: Answer::refused(cause), cents: 0 };
     }
     let h = cases::header(case);
     let first = First::of(&case[h.first..], h.transitions);
     let written = translate::write(case, &h, &first, file);
+    let cells = if written.is_ok() { solver::cells_of(file) } else { 0 };
     let outcome = written.and_then(|length| solver::solve(&file[..length], work, marks, limit));
-    Answer { outcome, records: h.transitions, distinct: first.count }
+    let cents = price::cents(&outcome, cells, limit);
+    Priced { answer: Answer { outcome, records: h.transitions, distinct: first.count }, cents }
 }

@@ -41,6 +41,11 @@ fn number_at(bytes: &[u8], at: usize) -> usize {
     u32::from_le_bytes([number[0], number[1], number[2], number[3]]) as usize
 }
 
+/// How many cells the header of an equation file says.
+pub fn cells_of(bytes: &[u8]) -> usize {
+    number_at(bytes, 12)
+}
+
 impl File<'_> {
     fn cells_from(&self) -> usize {
         HEADER + 8 * self.blocks
@@ -179,7 +184,7 @@ fn open(bytes: &[u8]) -> Result<File<'_>, u8> {
         bytes,
         states: number_at(bytes, 4),
         blocks: number_at(bytes, 8),
-        cells: number_at(bytes, 12),
+        cells: cells_of(bytes),
         operands: number_at(bytes, 16),
         initial: number_at(bytes, 20),
     };

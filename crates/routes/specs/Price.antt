@@ -13,20 +13,21 @@ round_price rounds = 2 * div_ceil rounds 1_000
 abbrev pub cell_price : ℕ → ℕ
 cell_price cells = div_ceil cells 500
 
--- A solved run pays for its rounds and its cells; one of at most 100 cells is free, its sum is 0; at last the minimum, 5.
+-- A solved run: the sum for its rounds and its cells; one of at most 100 cells is free, so its sum is 0; the minimum of 5 is applied last.
 unfoldable pub solved_price : ℕ → ℕ → ℕ
 solved_price rounds cells =
     let used : ℕ = round_price rounds + cell_price cells in
     let owed : ℕ = cond (leb cells 100) 0 used in
     max 5 owed
 
--- A spent run pays for its limit and nothing else. Any other refusal costs nothing.
+-- A spent run (14) pays for its limit, as for so many rounds, and for nothing else. Any other refusal costs nothing.
 unfoldable pub refused_price : ℕ → ℕ → ℕ
 refused_price number limit = cond (eqb number 14) (round_price limit) 0
 
+-- of an outcome, over so many cells and with this limit
 unfoldable pub price : Outcome → ℕ → ℕ → ℕ
 price o cells limit = by_refusal o.refusal (solved_price o.rounds cells) (refused_price o.refusal limit)
 
--- of a run with outcome o, over a case of these bytes: the cells are those of the case's equation file
+-- of a run over the case of these bytes with outcome o: the cells are those of the case's equation file
 unfoldable pub run_price : List ℕ → ℕ → Outcome → ℕ
 run_price b limit o = price o (sizes_of (file b)).cells limit

@@ -266,7 +266,7 @@ impl Editing<'_> {
         let direct = self.calls.direct(&case, &mut first, limit);
         same((direct, first), (want, own)).map_err(|text| format!("direct: {text}"))?;
         let (mut file, mut work) = (vec![0; FILE_BUFFER], vec![0; CELLS]);
-        let equation = self.calls.equation(&case, &mut file, &mut work, &mut second, ROUTE_LIMIT);
+        let equation = self.calls.equation(&case, &mut file, &mut work, &mut second, ROUTE_LIMIT).run;
         same(equation.recorded(), want.recorded()).map_err(|text| format!("equation route: {text}"))?;
         if (want.refusal, equation.refusal) != (0, 0) {
             return Ok(());

@@ -8,7 +8,7 @@ use borrow.Author.Tests.{ne_eqb}
 use Rattle.std.specs.Int.{div_ceil}
 use Rattle.std.proofs.lemmas.Grind.{div_ceil_times}
 use Rattle.sets.specs.Refusals.{Outcome, GivesMarks, Spent}
-use Rattle.routes.specs.Price.{round_price, solved_price, refused_price, price}
+use Rattle.routes.specs.Price.{round_price, solved_price, price}
 
 -- What is started: m times k is as much as x, or more, exactly if m is the quotient rounded up, or more.
 pub started : (x k m : ℕ) → 0 < k → div_ceil x k ≤ m ↔ x ≤ m * k
@@ -25,11 +25,11 @@ module _ (o : Outcome) (cells limit : ℕ) where
   solved_costs g = rw g refl
 
   pub spent_costs : Spent o → price o cells limit ≡ round_price limit
-  unfolding price refused_price
+  unfolding price
   spent_costs s = rw s refl
 
   pub unpaid : ¬ GivesMarks o → ¬ Spent o → price o cells limit ≡ 0
-  unfolding price refused_price
+  unfolding price
   unpaid g s = go o.refusal refl
     where
       go : (k : ℕ) → o.refusal ≡ k → price o cells limit ≡ 0

@@ -325,19 +325,27 @@ module _ {b : List ℕ} {l : Lent} {limit : ℕ} {o : Outcome} {t : Tally} {file
       pub cents_beyond : limit < r → cents ≡ round_price limit
       cents_beyond h = cents_spent ((spent_iff b accepted e.ran enough r own).1 h)
 
-    -- What is solved costs the same at whatever limit and with whatever memory it is solved again,
-    pub same_price : {l' : Lent} {limit' : ℕ} {o' : Outcome} {t' : Tally} {file'' work'' marks'' : List ℕ} {cents' : ℕ}
-        → EquationRan b l' limit' o' t' file'' work'' marks'' → cents' ≡ run_price b limit' o' → GivesMarks o → GivesMarks o' → cents' ≡ cents
-    unfolding run_price
-    same_price {limit' = limit'} {o' = o'} e' cost' g g' =
-        cost' ∙ solved_costs o' _ limit' g' ∙ rw (reported e'.ran.by g' ∙ sym (reported e.ran.by g)) (sym (cents_solved g))
+    -- Beside another run over the case, with its own memory and limit:
+    module _ {l' : Lent} {limit' : ℕ} {o' : Outcome} {t' : Tally} {file'' work'' marks'' : List ℕ} {cents' : ℕ}
+        (e' : EquationRan b l' limit' o' t' file'' work'' marks'') (cost' : cents' ≡ run_price b limit' o') where
+      -- what is solved in both costs the same,
+      pub same_price : GivesMarks o → GivesMarks o' → cents' ≡ cents
+      unfolding run_price
+      same_price g g' = cost' ∙ solved_costs o' _ limit' g' ∙ rw (reported e'.ran.by g' ∙ sym (reported e.ran.by g)) (sym (cents_solved g))
 
-    -- and so it does at each larger limit: a larger limit never makes a solved run dearer.
-    pub larger_price : {l' : Lent} {more : ℕ} {o' : Outcome} {t' : Tally} {file'' work'' marks'' : List ℕ} {cents' : ℕ}
-        → EquationRan b l' more o' t' file'' work'' marks'' → cents' ≡ run_price b more o' → Enough equation (case_of b) l' → limit ≤ more → GivesMarks o
-        → cents' ≡ cents
-    larger_price e' cost' enough h g =
-        same_price e' cost' g (ap (λ (x : Outcome). x.refusal) (larger e.ran e'.ran enough h g).0 ∙ g)
+      -- and so it does at each larger limit, with memory that is enough.
+      pub larger_price : Enough equation (case_of b) l' → limit ≤ limit' → GivesMarks o → cents' ≡ cents
+      larger_price enough h g = same_price g (ap (λ (x : Outcome). x.refusal) (larger e.ran e'.ran enough h g).0 ∙ g)
+
+      -- A larger limit never makes a solved run dearer, whatever memory is lent.
+      pub never_dearer : limit ≤ limit' → GivesMarks o → cents' ≤ cents
+      unfolding run_price
+      never_dearer h g = by_cases (ℕ_discrete o'.refusal 0) (λ g'. omega (arith, same_price g g')) (λ d. omega (arith, cost' ∙ unpaid o' _ limit' d unspent))
+        where
+          unspent : ¬ Spent o'
+          unspent s =
+              let low = (given equation b l limit (sym (number_ran e.ran.by) ∙ g)).2 in
+              omega (arith, low, h, spent_over equation b l' limit' (sym (number_ran e'.ran.by) ∙ s))
 
   -- The number is translate's, or where that is 0 solve's on the file.
   pub in_turn : o.refusal

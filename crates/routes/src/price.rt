@@ -12,7 +12,7 @@ fn round_price(rounds: u64) -> u64
     2 * rounds.div_ceil(1_000)
 }
 
-// The price of a solved run: for its rounds, and 1 for each started 500 cells; free at 100 cells or fewer; at last at least 5.
+// The price of a solved run. It pays for its rounds, and 1 for each started 500 cells. One of at most 100 cells is free. The minimum of 5 is applied last.
 #[tactic(auto, unfolding(crate::specs::Price::solved_price))]
 fn solved_price(rounds: u64, cells: u64) -> u64
     ensures { result ≡ solved_price rounds cells }
@@ -23,7 +23,7 @@ fn solved_price(rounds: u64, cells: u64) -> u64
 }
 
 // The price of an answer. A spent run pays for its limit; any other refusal costs nothing.
-#[tactic(auto, unfolding(crate::specs::Price::price, crate::specs::Price::refused_price, crate::specs::Route::route_answer, crate::specs::Route::route_number, solver::specs::Outcome::solve_number, cases::specs::Opening::case_number))]
+#[tactic(auto, unfolding(crate::specs::Price::price, crate::specs::Route::route_answer, crate::specs::Route::route_number, solver::specs::Outcome::solve_number, cases::specs::Opening::case_number))]
 pub fn price(answer: Answer, cells: usize, limit: u64) -> u64
     ensures { result ≡ price (route_answer answer) cells limit }
 {

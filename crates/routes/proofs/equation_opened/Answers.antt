@@ -4,7 +4,7 @@ use native.Mathlib.Omega.{arith}
 use lib.Seq.{length-take-le}
 use Rattle.solver.specs.Outcome.{solve_number}
 use Rattle.routes.specs.Route.{lent, route_number, route_answer}
-use Rattle.routes.specs.Price.{refused_price, price, run_price}
+use Rattle.routes.specs.Price.{price, run_price}
 use Rattle.routes.proofs.DirectAnswers.{memory_is}
 use Rattle.routes.proofs.EquationAnswers.{file_number, file_long, short_refused, written_fits, has_header, priced, route_solved}
 use Rattle.routes.proofs.equation_opened.Goals as goal
@@ -14,7 +14,7 @@ returns-in_default-clause-ran c =
     short_refused (lent _ _ _) c.write_case-written.ensures _ c.in_default.is refl c.args.case.accepted memory_is c.first_appearances-tally.ensures.tally
 
 pub returns-in_default-clause-price : goal.returns-in_default-clause-price
-unfolding run_price price refused_price route_answer route_number solve_number
+unfolding run_price price route_answer route_number solve_number
 returns-in_default-clause-price c = refl
 
 pub slice_bounds-equations-end : goal.slice_bounds-equations-end

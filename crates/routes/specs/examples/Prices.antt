@@ -3,7 +3,7 @@ use Rattle.std.specs.Prelude.{◌≡◌, refl, List, [], ◌∷◌, map, ℕ}
 use Rattle.sets.specs.Refusals.{refused}
 use Rattle.translate.specs.examples.Translations.{p1}
 use Rattle.routes.specs.Route.{equation, program_limit}
-use Rattle.routes.specs.Price.{solved_price, refused_price, price, run_price}
+use Rattle.routes.specs.Price.{solved_price, price, run_price}
 use Rattle.routes.specs.examples.Paper.{Example, reported, paper, outcome_at}
 
 -- Solved runs: the rounds, the cells and the cents. P1 has 9 cells.
@@ -36,7 +36,7 @@ solved =
 pub spent : List (ℕ × ℕ)
 spent = (0, 0) ∷ (1, 2) ∷ (1_000, 2) ∷ (1_001, 4) ∷ (18_446_744_073_709_551_615, 36_893_488_147_419_104) ∷ []
 
--- the other refusal numbers, those of the route and all others that the paper has
+-- the other refusal numbers: those of the route, and those of other calls so far
 pub others : List ℕ
 others = 1 ∷ 2 ∷ 3 ∷ 4 ∷ 5 ∷ 6 ∷ 7 ∷ 8 ∷ 9 ∷ 10 ∷ 11 ∷ 12 ∷ 13 ∷ 15 ∷ 16 ∷ 17 ∷ []
 
@@ -45,7 +45,7 @@ pub come_out : (map (λ (x : ℕ × ℕ × ℕ). price (reported 1 3 x.0) x.1 0)
     × (map (λ (x : ℕ × ℕ). price (refused 14) 9 x.0) spent ≡ map (λ (x : ℕ × ℕ). x.1) spent)
     × (map (λ (x : ℕ × ℕ). price (refused 14) 16_640 x.0) spent ≡ map (λ (x : ℕ × ℕ). x.1) spent)
     × (map (λ k. price (refused k) 16_640 1_000) others ≡ map (λ k. 0) others)
-unfolding solved spent others reported price solved_price refused_price
+unfolding solved spent others reported price solved_price
 come_out = (refl, refl, refl, refl)
 
 -- what the equation route costs on a case at a limit, with the memory that the program lends
@@ -55,10 +55,10 @@ cents_at b limit = run_price b limit (outcome_at equation b limit)
 
 -- P1 to P8 have at most 100 cells. P1 costs 5, and 2 where it is spent at limit 3; P7 is refused.
 pub paper_costs : map (λ (x : Example). cents_at x.0 x.1) paper ≡ 5 ∷ 2 ∷ 5 ∷ 5 ∷ 5 ∷ 5 ∷ 5 ∷ 0 ∷ 5 ∷ []
-unfolding cents_at paper price solved_price refused_price
+unfolding cents_at paper price solved_price
 paper_costs = refl
 
 -- P1 by its limit: spent at 0, which costs nothing, and at 1 to 3; solved at 4, and at the same price at larger ones
 pub p1_costs : map (cents_at p1) (0 ∷ 1 ∷ 2 ∷ 3 ∷ 4 ∷ 5 ∷ program_limit ∷ []) ≡ 0 ∷ 2 ∷ 2 ∷ 2 ∷ 5 ∷ 5 ∷ 5 ∷ []
-unfolding cents_at p1 price solved_price refused_price
+unfolding cents_at p1 price solved_price
 p1_costs = refl

@@ -13,7 +13,7 @@ round_price rounds = 2 * div_ceil rounds 1_000
 abbrev pub cell_price : ℕ → ℕ
 cell_price cells = div_ceil cells 500
 
--- A solved run has a sum for its rounds and its cells; that of at most 100 cells is free, so its sum is 0; the minimum of 5 is applied last.
+-- A solved run has a sum for its rounds and its cells. A run of at most 100 cells is free: its sum is 0. The minimum of 5 is applied last.
 unfoldable pub solved_price : ℕ → ℕ → ℕ
 solved_price rounds cells =
     let cents : ℕ = round_price rounds + cell_price cells in

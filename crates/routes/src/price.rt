@@ -12,7 +12,7 @@ fn round_price(rounds: u64) -> u64
     2 * rounds.div_ceil(1_000)
 }
 
-// The price of a solved run. It pays for its rounds, and 1 for each started 500 cells. One of at most 100 cells is free. The minimum of 5 is applied last.
+// The price of a solved run. The run pays for its rounds, and 1 for each started 500 cells. One of at most 100 cells is free. The minimum of 5 is applied last.
 #[tactic(auto, unfolding(crate::specs::Price::solved_price))]
 fn solved_price(rounds: u64, cells: u64) -> u64
     ensures { result ≡ solved_price rounds cells }

@@ -12,7 +12,7 @@ use borrow.Author.Tests.{eq-eqb, ne_eqb, not-false}
 use lib.Dec.{T, eqb, leb, ltb→lt, leb→le, eqb→eq}
 use lib.ListN.{length, drop}
 use Rattle.sets.specs.Lists.{numbers_from, every}
-use Rattle.sets.proofs.Lists.{and_left, and_right, all_true, all_mono, length_table, table_at}
+use Rattle.sets.proofs.Lists.{and_left, and_right, all_true, all_mono, length_table, table_at, implies_antisym}
 use Rattle.cases.specs.Action.{Action, accepts}
 use Rattle.cases.specs.Formula.{Formula}
 use Rattle.cases.specs.Prefix.{Node, arity_in, action_arities, whole_formulas, leaf, top_or, trees, place_action, action_at, formula_at}
@@ -65,16 +65,9 @@ names_by_permutation xs ys = (
   λ p. (same_names_lem xs ys).1 (λ k. sym (counted k xs) ∙ ap from_ℕ ((perm_iff_count ℕ_discrete {l₁ = xs} {l₂ = ys}).0 p k) ∙ counted k ys),
 )
 
--- tests that hold together are equal
-together : (a b : Bool) → (T a → T b) → (T b → T a) → a ≡ b
-together true true f g = refl
-together true false f g = absurd (f tt)
-together false true f g = absurd (g tt)
-together false false f g = refl
-
 -- So the order of names does not matter,
 pub names_permuted : (xs xs' ys ys' : List ℕ) → Perm xs xs' → Perm ys ys' → same_names xs ys ≡ same_names xs' ys'
-names_permuted xs xs' ys ys' p q = together (same_names xs ys) (same_names xs' ys')
+names_permuted xs xs' ys ys' p q = implies_antisym (same_names xs ys) (same_names xs' ys')
     (λ h. (names_by_permutation xs' ys').1 (Perm.trans (Perm.symm p) (Perm.trans ((names_by_permutation xs ys).0 h) q)))
     (λ h. (names_by_permutation xs ys).1 (Perm.trans p (Perm.trans ((names_by_permutation xs' ys').0 h) (Perm.symm q))))
 
@@ -161,7 +154,7 @@ pub different_case : (b b' : List ℕ) → Accepted b → SameTables b b' → ve
     → case_of b ≡ case_of b'
 unfolding alike
 different_case b b' accepted tables two one d = case_same b b' accepted tables (λ j x h k.
-    rw (eq-eqb (version b) 2 two, ne_eqb (version b') 2 (λ e. omega arith)) (together _ (eqb j x)
+    rw (eq-eqb (version b) 2 two, ne_eqb (version b') 2 (λ e. omega arith)) (implies_antisym _ (eqb j x)
     (λ s. let e = d j x h k s in rw (eq-eqb j x e) tt)
     (λ s. rw (← eqb→eq j x s) (names_self (label_names (label_table b) j)))))
 

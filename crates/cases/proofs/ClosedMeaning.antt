@@ -6,7 +6,7 @@ use Prim.Native.Nat.{ℕ}
 use lib.Dec.{T, eqb, eqb→eq}
 use Rattle.sets.specs.Lists.{for_some}
 use Rattle.sets.specs.States.{States, Valuation, Sized}
-use Rattle.sets.proofs.Lists.{and_left, and_right}
+use Rattle.sets.proofs.Lists.{or_either, and_left, and_right}
 use Rattle.cases.specs.Action.{Action}
 use Rattle.cases.specs.Formula.{Formula, False, True, And, Or, Box, Diamond, Variable, Fix}
 use Rattle.cases.specs.internal.Scope.{free}
@@ -19,19 +19,15 @@ use Rattle.cases.proofs.TableTrees.{held}
 use Rattle.cases.proofs.Scopes.{scoped, formula_scoped}
 use Rattle.cases.proofs.MeaningLaws.{means_unique, means_scope}
 
-either : (a b : Bool) (P : Type 0) → (T a → P) → (T b → P) → T (a || b) → P
-either true b P f g t = f tt
-either false b P f g t = g t
-
 -- a free variable is one of those that are bound around
 free_around : (around : List ℕ) (a : Formula) → T (scoped around a) → (i : ℕ) → T (free i a) → T (for_some (eqb i) around)
 unfolding scoped free for_some
 free_around around False h i t = absurd t
 free_around around True h i t = absurd t
 free_around around (And a b) h i t =
-    either (free i a) (free i b) _ (free_around around a (and_left (scoped around a) _ h) i) (free_around around b (and_right (scoped around a) _ h) i) t
+    or_either (free i a) (free i b) (free_around around a (and_left (scoped around a) _ h) i) (free_around around b (and_right (scoped around a) _ h) i) t
 free_around around (Or a b) h i t =
-    either (free i a) (free i b) _ (free_around around a (and_left (scoped around a) _ h) i) (free_around around b (and_right (scoped around a) _ h) i) t
+    or_either (free i a) (free i b) (free_around around a (and_left (scoped around a) _ h) i) (free_around around b (and_right (scoped around a) _ h) i) t
 free_around around (Box α a) h i t = free_around around a h i t
 free_around around (Diamond α a) h i t = free_around around a h i t
 free_around around (Variable j) h i t = subst (λ (k : ℕ). T (for_some (eqb k) around)) (sym (eqb→eq i j t)) h

@@ -7,7 +7,7 @@ pub mod Counting
 pub mod Scopes
 pub mod Copies
 pub mod Distinct
-pub mod Links
+pub mod LinkLaws
 pub mod FirstAppearances
 pub mod LabelLaws
 pub mod Masks
@@ -21,3 +21,6 @@ pub mod ClosedMeaning
 pub mod Accepting
 pub mod AlikeLaws
 pub mod Tallies
+pub mod Reaching
+pub mod Searching
+pub mod ReachedMeaning

@@ -1,5 +1,5 @@
 -- The transition table of an accepted case: its records, their sources, and its tally.
-use mathlib.Core.Path.{◌≡◌}
+use mathlib.Core.Path.{◌≡◌, ap, ◌∙◌}
 use mathlib.Core.Bool.{Bool, true, false, ◌&&◌}
 use mathlib.Core.List.{List, Perm}
 use Prim.Native.Nat.{ℕ, ◌-◌, ◌<◌}
@@ -11,7 +11,7 @@ use Rattle.sets.specs.Lists.{every}
 use Rattle.sets.specs.Words.{state_limit}
 use Rattle.sets.proofs.Refusals.{refusing}
 use Rattle.sets.proofs.Lists.{and_left, and_right, all_at, length_table, table_at}
-use Rattle.cases.specs.File.{Transition, header_of, transition_table, transition_in}
+use Rattle.cases.specs.File.{Header, Transition, header_of, transition_table, transition_in}
 use Rattle.cases.specs.Case.{case_of, distinct}
 use Rattle.cases.specs.Conditions.{transition_ok, bad_model, case_refusal, Accepted}
 use Rattle.cases.specs.Tally.{tallied, no_tally, tally_of}
@@ -64,9 +64,16 @@ module _ (b : List ℕ) (accepted : Accepted b) where
       record { few = l.counts.few_transitions; inside = transitions_inside l; source = sources }
 
   -- Its table: what is found of it is found of the case.
-  module _ {part : List ℕ} {count : ℕ} (is : part ≡ transition_part b) (all : count ≡ m) where
+  module _ {h : Header} (read : h ≡ header_of b) {part : List ℕ} {count : ℕ} (is : part ≡ transition_part b) (many : count ≡ h.transitions) where
+    all : count ≡ m
+    all = many ∙ ap (λ (h : Header). h.transitions) read
+
     pub sourced_table : Sourced part count
     sourced_table = rw (is, all) sourced
+
+    pub table_case : (case_of b).transitions ≡ transitions_in part count
+    unfolding case_of transition_table transitions_in
+    table_case = rw (is, all)
 
     pub tally_case : {k : ℕ} → k ≡ length (distinct (transitions_in part count)) → record { records = count; distinct = k } ≡ tally_of b
     unfolding tally_of tallied case_of transition_table transitions_in

@@ -9,6 +9,7 @@ pub mod Conditions
 pub mod Tally
 pub mod Opening
 pub mod Meaning
+pub mod Reach
 pub mod computed
 pub mod internal
 pub mod examples

@@ -4,5 +4,6 @@ pub mod Masks
 pub mod Checks
 pub mod Names
 pub mod Links
+pub mod Search
 pub mod Tables
 pub mod Scope

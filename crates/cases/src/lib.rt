@@ -6,6 +6,7 @@ mod conditions;
 mod file;
 mod kinds;
 mod labels;
+mod reach;
 mod tables;
 mod transitions;
 
@@ -13,8 +14,9 @@ pub use actions::action_masks;
 pub use conditions::{check_layout, open, transition_holds};
 pub use file::{case_end, number_at};
 pub use kinds::{ActionKind, FormulaKind};
+pub use reach::reachable;
 pub use tables::{LabelRecords, LaidCase, Nodes, OpenCase, Table, Transitions};
-pub use transitions::{Flagged, first_appearances};
+pub use transitions::{Flagged, Links, first_appearances, links_of};
 
 pub const LABELS: usize = 64;
 

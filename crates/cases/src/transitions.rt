@@ -4,7 +4,7 @@ ghost use Rattle.cases.specs.File.{transition_limit};
 ghost use Rattle.cases.specs.Case.{copies_before, distinct};
 ghost use Rattle.cases.specs.Tally.{tally_of};
 ghost use Rattle.cases.specs.internal.Checks.{transition_part, transitions_in};
-ghost use Rattle.cases.specs.internal.Links.{Sourced, Linked, FirstFlags};
+ghost use Rattle.cases.specs.internal.Links.{Linked, FirstFlags};
 
 use crate::{OpenCase, TRANSITIONS, Tally, Transitions};
 use sets::STATES;
@@ -13,16 +13,17 @@ use sets::STATES;
 // source. TRANSITIONS stands where there is none. It is no Option, since a walk to a record ends there, and so no link is read that is none.
 // The links are places in two arrays of fixed size, since there is no heap.
 #[derive(Drop)]
-struct Links {
-    first: [u16; STATES],
-    after: [u16; TRANSITIONS],
+pub struct Links {
+    pub first: [u16; STATES],
+    pub after: [u16; TRANSITIONS],
 }
 
-// From the last record down, each becomes the first of its source. It writes two arrays at places that it reads, so no chain would be plainer.
-fn links_of(table: &Transitions<'_>) -> Links
-    requires { Sourced table.now.part.now table.now.count }
-    ensures { Linked table.now.part.now table.now.count result.first result.after }
+// Links the records of an accepted case. From the last record down, each becomes the first of its source. It writes two arrays at places that it
+// reads, so no chain would be plainer.
+pub fn links_of(case: &OpenCase<'_>) -> Links
+    ensures { Linked (transition_part case.now.laid.bytes.now) case.now.laid.header.transitions result.first result.after }
 {
+    let table = case.laid.transitions();
     let mut links = Links {
         first: [TRANSITIONS as u16; STATES],
         after: [TRANSITIONS as u16; TRANSITIONS],
@@ -55,29 +56,28 @@ fn copies_before(table: &Transitions<'_>, links: &Links, i: usize) -> usize
 
 // Flags those records of a table that are the first of their kind, and answers how many they are. The flags are summed, since `filter` and `count`
 // were tried and compiled to a slower loop, which branches at each flag.
-fn flag_appearances(table: &Transitions<'_>, first: &mut [bool]) -> usize
-    requires { Sourced table.now.part.now table.now.count × (table.now.count ≤ length first.old) }
+fn flag_appearances(table: &Transitions<'_>, links: &Links, first: &mut [bool]) -> usize
+    requires { Linked table.now.part.now table.now.count links.now.first links.now.after × (table.now.count ≤ length first.old) }
     ensures { FirstFlags table.now.part.now table.now.count first.new × (result ≡ length (distinct (transitions_in table.now.part.now table.now.count))) }
 {
-    let links = links_of(table);
     let flags = &mut first[..table.count];
     for (i, flag) in flags.iter_mut().enumerate() {
-        *flag = copies_before(table, &links, i) == 0;
+        *flag = copies_before(table, links, i) == 0;
     }
     flags.iter().map(|flag| usize::from(*flag)).sum()
 }
 
 // Flags the records of an accepted case that are the first of their kind, and tells how many records there are and how many of them are
 // distinct.
-pub fn first_appearances(case: &OpenCase<'_>, first: &mut [bool]) -> Tally
-    requires { transition_limit ≤ length first.old }
+pub fn first_appearances(case: &OpenCase<'_>, links: &Links, first: &mut [bool]) -> Tally
+    requires { Linked (transition_part case.now.laid.bytes.now) case.now.laid.header.transitions links.now.first links.now.after × (transition_limit ≤ length first.old) }
     ensures flags { FirstFlags (transition_part case.now.laid.bytes.now) case.now.laid.header.transitions first.new }
     ensures tally { result ≡ tally_of case.now.laid.bytes.now }
 {
     let table = case.laid.transitions();
     Tally {
         records: table.count,
-        distinct: flag_appearances(&table, first),
+        distinct: flag_appearances(&table, links, first),
     }
 }
 

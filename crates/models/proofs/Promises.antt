@@ -8,7 +8,7 @@ use lib.ListN.{length}
 use Rattle.sets.specs.Lists.{every}
 use Rattle.sets.specs.States.{States, Valuation}
 use Rattle.sets.specs.Words.{Marks}
-use Rattle.sets.specs.Refusals.{Conditions, numbers_of, first_of, NoneHolds, FirstHolds, Outcome, GivesMarks, Spent, report_of}
+use Rattle.sets.specs.Refusals.{Conditions, numbers_of, first_of, NoneHolds, FirstHolds, Outcome, GivesMarks, Spent}
 use Rattle.sets.proofs.Refusals.{refusing, answered_member, answered_first, answered_none}
 use Rattle.cases.specs.declared.Tally.{Tally}
 use Rattle.cases.specs.declared.Transition.{Transition}
@@ -16,9 +16,10 @@ use Rattle.cases.specs.File.{transition_table, case_within, transition_limit}
 use Rattle.cases.specs.Case.{case_of, SameTransitionSet}
 use Rattle.cases.specs.Conditions.{layout_conditions, model_conditions, formula_conditions, case_conditions, Accepted}
 use Rattle.cases.specs.Meaning.{MeansIn}
+use Rattle.cases.specs.Reach.{ReachableStates}
 use Rattle.cases.specs.Tally.{tallied}
 use Rattle.cases.proofs.Distinct.{few_nodup, distinct_mem, distinct_all}
-use Rattle.routes.specs.Route.{direct, marks_only, OwnRounds, Enough, Ran}
+use Rattle.routes.specs.Route.{direct, marks_only, OwnRounds, Enough, Ran, run_report}
 use Rattle.routes.proofs.Promises.{spent_iff, gives_iff, reports, marks_mean, marks_kept, tally_table, same_answers}
 use Rattle.records.specs.Replaced.{with_transitions}
 use Rattle.records.proofs.ReadBack.{accepted_with, case_with_lem}
@@ -132,7 +133,8 @@ module _ (b model : List ℕ) {m m' : List ℕ} {es : List Event} (opened : Edit
   pub wanted_kept : ¬ GivesMarks o → marks' ≡ marks
   wanted_kept = marks_kept wanted_direct
 
-  -- With enough mark words it is spent exactly if direct's own rounds exceed the limit; otherwise they are reported, with verdict and count of the meaning.
+  -- With enough mark words it is spent exactly if direct's own rounds exceed the limit; otherwise they are reported, with the verdict of the meaning and the
+  -- count of those of its states that can be reached by the set's transitions.
   module _ (enough : Enough direct (edited_case b es) (marks_only marks)) (r : ℕ) (own : OwnRounds direct (edited_case b es) r) where
     pub wanted_spent : Spent o ↔ limit < r
     wanted_spent = spent_iff _ (history_accepted b model opened happened) wanted_direct (rw same enough) r (rw same own)
@@ -140,8 +142,10 @@ module _ (b model : List ℕ) {m m' : List ℕ} {es : List Event} (opened : Edit
     pub wanted_gives : GivesMarks o ↔ r ≤ limit
     wanted_gives = gives_iff _ (history_accepted b model opened happened) wanted_direct (rw same enough) r (rw same own)
 
-    pub wanted_reports : r ≤ limit → (ρ : Valuation) (v : States) → MeansIn (edited_case b es) ρ v → o ≡ report_of (case_of b).initial v r
-    wanted_reports h ρ v means = rw same at (reports _ (history_accepted b model opened happened) wanted_direct (rw same enough) r (rw same own) h ρ v (rw same means))
+    pub wanted_reports : r ≤ limit → (ρ : Valuation) (v w : States) → MeansIn (edited_case b es) ρ v → ReachableStates (edited_case b es) w
+        → o ≡ run_report (edited_case b es) v w r
+    wanted_reports h ρ v w means reached =
+        rw same at (reports _ (history_accepted b model opened happened) wanted_direct (rw same enough) r (rw same own) h ρ v w (rw same means) (rw same reached))
 
   -- Both numbers of the tally are the size of the set.
   pub wanted_tally : y ≡ record { records = length (held_by b es); distinct = length (held_by b es) }

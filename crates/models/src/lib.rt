@@ -9,7 +9,7 @@ ghost use Rattle.models.specs.Model.{cause_number, change_number, Edited, open_c
 ghost use Rattle.models.specs.internal.Looking.{look_conditions, FoundIn, RefusedBy};
 
 use cases::{
-    Header, LaidCase, TRANSITIONS, Transition, case_end, check_layout, first_appearances,
+    Header, LaidCase, TRANSITIONS, Transition, case_end, check_layout, first_appearances, links_of,
     transition_holds,
 };
 use records::{find, insert, remove, write_distinct};
@@ -71,7 +71,7 @@ pub fn open(case: &[u8], model: &mut [u8]) -> Change
         return Err(Cause::Memory);
     }
     let mut first = [false; TRANSITIONS];
-    first_appearances(&opened, &mut first);
+    first_appearances(&opened, &links_of(&opened), &mut first);
     write_distinct(&opened.laid, &first, model);
     Ok(())
 }

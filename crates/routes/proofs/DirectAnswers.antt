@@ -1,6 +1,6 @@
 -- What a run promises with each answer, by its conditions; and what direct answers from the parts of a case.
 use mathlib.Core.Path.{◌≡◌, refl, sym, ap, ◌∙◌}
-use mathlib.Core.Bool.{false}
+use mathlib.Core.Bool.{Bool, false, ◌&&◌}
 use mathlib.Core.List.{List, ◌++◌}
 use Prim.Native.Nat.{ℕ, ◌<◌, ◌≤◌}
 use native.Mathlib.Omega.{arith}
@@ -8,20 +8,25 @@ use borrow.Author.Tests.{lt-ltb, le-ltb}
 use lib.ListN.{length, drop, length-replicate}
 use Rattle.std.specs.Prelude.{Result, Ok, Err, Option, None}
 use Rattle.std.specs.Option.{ok_or}
-use Rattle.sets.specs.States.{all_empty}
-use Rattle.sets.specs.Words.{words, word_count}
-use Rattle.sets.specs.Refusals.{Conditions, first_of, refused, outcome_by, Outcome, report_of}
+use Rattle.sets.specs.States.{States, has, all_empty}
+use Rattle.sets.specs.Words.{words, word_count, state_limit, marked as marked_in}
+use Rattle.sets.specs.internal.Size.{SizeIs}
+use Rattle.sets.proofs.Lists.{length_table}
+use Rattle.sets.proofs.Words.{marked_words}
+use Rattle.cases.specs.Meaning.{intersection}
+use Rattle.sets.specs.Refusals.{Conditions, first_of, refused, outcome_by, Outcome}
 use Rattle.sets.proofs.Refusals.{refusing, reports, refuses}
 use Rattle.cases.specs.Case.{Case}
+use Rattle.cases.specs.computed.Reached.{reachable}
+use Rattle.cases.proofs.Reaching.{reachable_sized}
 use Rattle.solver.specs.declared.Cause.{Cause}
 use Rattle.solver.specs.declared.Cause.TheVariants.{Memory, Spent}
-use Rattle.solver.specs.Outcome.{solve_number, solve_answer}
-use Rattle.solver.specs.internal.Working.{Reported}
+use Rattle.solver.specs.Outcome.{solve_number}
 use Rattle.routes.specs.declared.Cause.TheVariants.{Run}
 use Rattle.solver.specs.declared.Report.{Report}
 use Rattle.routes.specs.declared.evaluate.Value.{Value}
-use Rattle.routes.specs.Route.{route_number, route_answer, Route, direct, run_of, marks_only, too_short, exceeds, run_conditions, route_outcome, marks_after, RanBy}
-use Rattle.routes.specs.internal.Answering.{RootValue}
+use Rattle.routes.specs.Route.{route_number, route_answer, Route, direct, run_of, marks_only, too_short, exceeds, run_conditions, run_report, route_outcome, marks_after, RanBy}
+use Rattle.routes.specs.internal.Answering.{RootValue, ReportedBy}
 use Rattle.routes.specs.internal.Parts.{case_in}
 use Rattle.routes.specs.internal.Given.{case_given}
 use Rattle.routes.specs.declared.direct_case.DirectCase.{DirectCase}
@@ -41,6 +46,17 @@ pub spent_is : {o : Option Value} {cause : Cause} → Err cause ≡ ok_or o Spen
 unfolding number_in route_answer route_number solve_number
 spent_is is none = ap (λ (r : Result Value Cause). refused (number_in r)) (is ∙ ap (λ (o : Option Value). ok_or o Spent) none)
 
+-- what is read from the words of two sets is what is reported of them
+pub reported_by : {marked reached both : List ℕ} {initial rounds : ℕ} {verdict : Bool} {count : ℕ} → initial < state_limit → verdict ≡ marked_in marked initial
+    → ((n : ℕ) (v w : States) → length v ≡ n → length w ≡ n → marked ≡ words word_count v → reached ≡ words word_count w → both ≡ words word_count (intersection n v w))
+    → SizeIs both count → ReportedBy initial marked reached rounds (record { verdict = verdict; count = count; rounds = rounds })
+unfolding route_answer
+reported_by {initial = initial} low p q size_is = record {
+  are = λ c v w is long long' few e f.
+      let held = p ∙ ap (λ (ws : List ℕ). marked_in ws initial) e ∙ marked_words word_count v initial low in
+      rw (is, held, size_is (intersection c.states v w) (omega (arith, length_table (λ s. has v s && has w s) c.states, few)) (q c.states v w long long' e f));
+}
+
 -- ---- by the conditions
 
 module _ {R : Route} {c : Case} {marks : List ℕ} where
@@ -53,7 +69,7 @@ module _ {R : Route} {c : Case} {marks : List ℕ} where
   }
 
   -- success
-  pub ran_solved : {cs : Conditions} {o : Outcome} {after : List ℕ} → first_of cs ≡ 0 → o ≡ report_of c.initial (run_of R c).0 (run_of R c).1
+  pub ran_solved : {cs : Conditions} {o : Outcome} {after : List ℕ} → first_of cs ≡ 0 → o ≡ run_report c (run_of R c).0 (reachable c) (run_of R c).1
       → after ≡ words word_count (run_of R c).0 ++ drop word_count marks → RanBy cs R c marks o after
   unfolding route_outcome marks_after
   ran_solved {cs} z is a = record { answers = is ∙ sym (reports cs _ z); marks_are = a ∙ sym (rw z) }
@@ -101,9 +117,10 @@ module _ (d : DirectCase) (marks : List ℕ) (limit : ℕ) where
     spent is over = ran_refused is (number_14 c marks limit room over) (λ z. omega arith)
 
     -- success
-    pub solved : {x : Value} → RootValue (run_of direct c) limit x → {report : Report} → Reported x.set d.header.initial x.rounds report
+    pub solved : {x : Value} → RootValue (run_of direct c) limit x → {report : Report} → ReportedBy d.header.initial x.set d.reachable x.rounds report
         → {after : List ℕ} → after ≡ x.set ++ drop word_count marks → RanBy (conditions c marks limit) direct c marks (route_answer (Ok report)) after
-    unfolding case_in route_answer solve_answer
+    unfolding case_in
     solved r f is = ran_solved (number_0 c marks limit room r.within)
-        (f.are (run_of direct c).0 (omega (arith, run_sized c, d.parts.model.few_states)) r.set ∙ ap (report_of c.initial (run_of direct c).0) r.rounds)
+        (f.are c (run_of direct c).0 (reachable c) refl (run_sized c) (reachable_sized c) d.parts.model.few_states r.set d.reached
+        ∙ ap (run_report c (run_of direct c).0 (reachable c)) r.rounds)
         (is ∙ ap (λ (w : List ℕ). w ++ drop word_count marks) r.set)

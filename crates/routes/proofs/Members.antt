@@ -16,7 +16,9 @@ use Rattle.cases.specs.internal.Scope.{Within}
 use Rattle.cases.specs.Meaning.{set_of, box_in, diamond_in, MeansIn}
 use Rattle.cases.proofs.MeaningLaws.{box_mono, diamond_mono, means_members, means_exists, means_unique}
 use Rattle.cases.proofs.Distinct.{mem_within}
-use Rattle.routes.specs.Route.{direct, Lent, run_of, too_short, exceeds, run_conditions, route_outcome, marks_after, RanBy}
+use Rattle.cases.specs.computed.Reached.{reachable}
+use Rattle.cases.proofs.Reaching.{reachable_alike}
+use Rattle.routes.specs.Route.{direct, Lent, run_of, too_short, exceeds, run_conditions, run_report, route_outcome, marks_after, RanBy}
 use Rattle.routes.specs.computed.Worked.{worked}
 
 -- ---- lists with the same members
@@ -66,8 +68,12 @@ module _ {c c' : Case} (same : SameTransitionSet c c') where
   unfolding run_of
   run_same = worked_members c.states c.transitions c'.transitions there back c.formula (all_empty c.states) ∙ rw (same.states, same.formula)
 
-  -- and so it answers and leaves the same.
+  -- and reports the same,
+  report_same : run_report c (run_of direct c).0 (reachable c) (run_of direct c).1 ≡ run_report c' (run_of direct c').0 (reachable c') (run_of direct c').1
+  report_same = rw (run_same, reachable_alike same, same.states, same.initial)
+
+  -- so it answers and leaves the same.
   pub ran_same : (l : Lent) (limit : ℕ) {o : Outcome} {after : List ℕ}
       → RanBy (run_conditions direct c l limit) direct c l.marks o after → RanBy (run_conditions direct c' l limit) direct c' l.marks o after
   unfolding run_conditions too_short exceeds route_outcome marks_after
-  ran_same l limit r = record { answers = rw (run_same, same.initial) at r.answers; marks_are = rw run_same at r.marks_are }
+  ran_same l limit r = record { answers = rw (report_same, run_same) at r.answers; marks_are = rw run_same at r.marks_are }

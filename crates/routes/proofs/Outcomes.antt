@@ -1,19 +1,24 @@
 -- What the routes work out for an accepted case: one set, the formula's meaning, and a number of rounds within a bound.
-use mathlib.Core.Path.{◌≡◌, sym, ap, ◌∙◌}
+use mathlib.Core.Path.{◌≡◌, sym, ap, subst, ◌∙◌}
 use mathlib.Core.Bool.{false}
 use mathlib.Core.List.{List}
-use Prim.Native.Nat.{ℕ, suc, ◌≤◌}
+use Prim.Native.Nat.{ℕ, suc, ◌≤◌, ◌<◌}
+use native.Mathlib.Omega.{arith}
 use native.Mathlib.Nat.{le_trans}
 use lib.ListN.{length, length-replicate}
 use Rattle.sets.specs.States.{States, Valuation, all_empty, Sized}
+use Rattle.sets.specs.Words.{state_limit}
 use Rattle.solver.specs.File.{sizes_of}
 use Rattle.solver.specs.Solution.{powers}
 use Rattle.solver.specs.computed.Solved.{run}
 use Rattle.solver.specs.Outcome.{FileRounds}
 use Rattle.solver.proofs.Starts.{own_solves, own_rounds, own_bound}
+use Rattle.cases.specs.declared.Header.{Header}
+use Rattle.cases.specs.File.{header_of}
 use Rattle.cases.specs.Case.{Case, case_of}
+use Rattle.cases.proofs.Reaching.{accepted_bounded}
 use Rattle.cases.specs.Conditions.{Accepted}
-use Rattle.cases.specs.Meaning.{Means}
+use Rattle.cases.specs.Meaning.{Means, MeansIn}
 use Rattle.cases.specs.computed.Meanings.{meaning}
 use Rattle.cases.proofs.TableTrees.{formula_table_lem}
 use Rattle.cases.proofs.Accepting.{passed}
@@ -27,7 +32,7 @@ use Rattle.routes.proofs.EquationMeaning.{equations_mean}
 use Rattle.routes.proofs.BlockCounts.{blocks_formula}
 
 -- sets of n states that are all empty
-none_sized : (n : ℕ) → Sized n (all_empty n)
+pub none_sized : (n : ℕ) → Sized n (all_empty n)
 none_sized n k = length-replicate n false
 
 module _ (b : List ℕ) where
@@ -46,6 +51,19 @@ module _ (b : List ℕ) where
     unfolding case_of
     one_meaning =
         closed.one_meaning _ _ (formula_table_lem _ _ (passed b accepted).formula) (passed b accepted).variables c.states c.transitions
+
+    -- The words of a set have room for its states,
+    pub few_states : c.states ≤ state_limit
+    unfolding case_of
+    few_states = (passed b accepted).lies.counts.few_states
+
+    -- and for the initial one, which its header tells.
+    pub initial_is : {h : Header} → h ≡ header_of b → c.initial ≡ h.initial
+    unfolding case_of
+    initial_is read = ap (λ (x : Header). x.initial) (sym read)
+
+    pub initial_below : {h : Header} → h ≡ header_of b → h.initial < state_limit
+    initial_below read = omega (arith, few_states, (accepted_bounded b accepted).initial, initial_is read)
 
     -- a route has the rounds that its function works out, and no others
     pub own_exists : (R : Route) → OwnRounds R c (run_of R c).1
@@ -73,6 +91,9 @@ module _ (b : List ℕ) where
 
     pub run_means : (R : Route) (ρ : Valuation) → Sized c.states ρ → (v : States) → Means c.states c.transitions c.formula ρ v → v ≡ (run_of R c).0
     run_means R ρ s v m = means_unique c.states c.transitions c.formula ρ s v m ∙ sym (run_meaning R ρ s)
+
+    pub run_in : (R : Route) (ρ : Valuation) → Sized c.states ρ → MeansIn c ρ (run_of R c).0
+    run_in R ρ s = (s, subst (Means c.states c.transitions c.formula ρ) (sym (run_meaning R ρ s)) (meaning_of ρ s))
 
     -- A route's set has as many states as the case.
     pub run_sized : (R : Route) → length (run_of R c).0 ≡ c.states

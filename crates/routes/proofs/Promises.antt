@@ -2,23 +2,25 @@
 -- bytes; l is what is lent, as it is before the call; o is the outcome of what a call answers, t the tally beside it, and marks', file' and work'
 -- are what it leaves.
 -- Numbers have no bound.
-use mathlib.Core.Path.{◌≡◌, refl, sym, ap, ◌∙◌}
+use mathlib.Core.Path.{◌≡◌, refl, sym, ap, subst, ◌∙◌}
 use mathlib.Core.Logic.{◌↔◌, ◌⊎◌, inl, inr, by_cases}
 use mathlib.Core.List.{List, [], ◌∷◌, ◌++◌, map, Memᴰ, Nodup, Perm}
-use mathlib.Core.Bool.{Bool, true}
+use mathlib.Core.Bool.{Bool, true, false, ◌&&◌}
 use Prim.Native.Nat.{ℕ, suc, ◌≤◌, ◌<◌}
 use native.Mathlib.Omega.{arith}
 use native.Mathlib.Decide.{ℕ_discrete}
 use borrow.Author.Tests.{ltb-true, lt-ltb}
 use lib.Dec.{T}
 use lib.ListN.{length, take, drop}
-use Rattle.sets.specs.Lists.{every}
-use Rattle.sets.specs.States.{States, Valuation, Sized}
-use Rattle.sets.specs.Words.{bit, ones_of, marked_below, Marks, word_count}
-use Rattle.sets.specs.Refusals.{first_of, numbers_of, NoneHolds, FirstHolds, refused, by_refusal, Outcome, GivesMarks, Spent, report_of}
+use Rattle.sets.specs.Lists.{every, numbers_from, keep}
+use Rattle.sets.specs.States.{States, has, size, Extremal, Valuation, Sized, all_empty}
+use Rattle.sets.specs.Words.{bit, words, marked, ones_of, both_words, marked_below, Marks, word_count, state_limit}
+use Rattle.sets.specs.Refusals.{first_of, numbers_of, NoneHolds, FirstHolds, refused, by_refusal, Outcome, GivesMarks, Spent}
 use Rattle.sets.proofs.Refusals.{apart, absent, member, refusing, answered_member, answered_first, answered_none}
 use Rattle.sets.proofs.Words.{take_words, shows}
-use Rattle.sets.proofs.Ones.{marks_size}
+use Rattle.sets.proofs.Ones.{marks_size, both_size, same_size}
+use Rattle.sets.proofs.Lists.{length_table, and_left, and_right, and_both, implies_antisym}
+use Rattle.sets.proofs.Order.{size_some, size_subset}
 use Rattle.solver.specs.Cells.{Values}
 use Rattle.solver.specs.File.{sizes_of, cells}
 use Rattle.solver.specs.Solution.{powers, StandardSolution}
@@ -28,25 +30,28 @@ use Rattle.translate.proofs.Promises.{well_formed}
 use Rattle.cases.specs.File.{version, header_of, label_table}
 use Rattle.cases.specs.Labels.{same_names, label_names}
 use Rattle.cases.specs.Case.{Case, case_of, SameTables, SameTransitionSet}
-use Rattle.cases.proofs.Accepting.{passed}
 use Rattle.cases.proofs.AlikeLaws.{different_case, permuted_case}
 use Rattle.cases.specs.declared.Tally.{Tally}
 use Rattle.cases.specs.Tally.{tallied, no_tally}
 use Rattle.cases.proofs.Tallies.{tally_accepted, tally_refused, tallied_order}
 use Rattle.cases.proofs.Distinct.{length_distinct, distinct_all}
 use Rattle.cases.specs.Conditions.{layout_conditions, model_conditions, formula_conditions, case_conditions, case_refusal, Accepted}
-use Rattle.cases.specs.Meaning.{MeansIn}
+use Rattle.cases.specs.Meaning.{intersection, MeansIn}
+use Rattle.cases.specs.Reach.{here, Reachable, ReachableStates, Closed, SameFromReachable}
+use Rattle.cases.specs.computed.Reached.{reachable}
+use Rattle.cases.proofs.Reaching.{Bounded, has_below, set_of_has, has_set_of, found_reached, reached_found, reached_below, still_reached, reached_before, reachable_least, reachable_states, reachable_one, accepted_bounded}
+use Rattle.cases.proofs.ReachedMeaning.{means_agrees}
 use Rattle.cases.proofs.MeaningLaws.{means_sized}
 use Rattle.translate.specs.Bytes.{file_of}
 use Rattle.translate.specs.Translating.{file, translate_refusal, file_after}
 use Rattle.translate.proofs.Translations.{unrefused}
-use Rattle.routes.specs.Route.{Route, direct, equation, Lent, OwnRounds, run_of, exceeds, run_conditions, route_conditions, Enough, work_after, RanBy, Ran, EquationRan}
+use Rattle.routes.specs.Route.{Route, direct, equation, Lent, OwnRounds, run_of, exceeds, run_conditions, route_conditions, Enough, run_report, work_after, RanBy, Ran, EquationRan}
 use Rattle.routes.specs.Price.{round_price, solved_price, run_price}
 use Rattle.routes.proofs.Prices.{solved_costs, spent_costs, unpaid}
 use Rattle.routes.proofs.RouteLaws.{translate_then_solve, case_refused, case_accepted, number_ran, reported, written, refused_with, kept, given, spent_over, spent_accepted, spent_number, gives_number}
 use Rattle.routes.proofs.DirectAnswers.{ran_first}
 use Rattle.routes.proofs.Members.{means_same, run_same, ran_same}
-use Rattle.routes.proofs.Outcomes.{meaning_of, one_meaning, own_exists, own_one, runs_alike, run_means, run_sized, run_bound}
+use Rattle.routes.proofs.Outcomes.{none_sized, few_states, run_in, meaning_of, one_meaning, own_exists, own_one, runs_alike, run_means, run_sized, run_bound}
 
 -- ---- Demand 3, of an accepted case with enough memory
 module _ (b : List ℕ) (accepted : Accepted b) where
@@ -56,6 +61,22 @@ module _ (b : List ℕ) (accepted : Accepted b) where
 
   pub meaning_unique : (ρ σ : Valuation) (v w : States) → MeansIn (case_of b) ρ v → MeansIn (case_of b) σ w → v ≡ w
   meaning_unique ρ σ v w x y = one_meaning b accepted ρ σ x.0 y.0 v w x.1 y.1
+
+  -- There is a set of the states that can be reached, and no other; it is the least set that holds the initial state and is closed under transitions.
+  reaches : Bounded (case_of b)
+  reaches = accepted_bounded b accepted
+
+  reached_exist : ReachableStates (case_of b) (reachable (case_of b))
+  reached_exist = reachable_states (case_of b) reaches
+
+  pub reachable_exists : (w : States) × ReachableStates (case_of b) w
+  reachable_exists = (reachable (case_of b), reached_exist)
+
+  pub reachable_unique : (w w' : States) → ReachableStates (case_of b) w → ReachableStates (case_of b) w' → w ≡ w'
+  reachable_unique w w' r r' = reachable_one (case_of b) reaches w r ∙ sym (reachable_one (case_of b) reaches w' r')
+
+  pub reachable_first : (w : States) → ReachableStates (case_of b) w → Extremal (case_of b).states false (Closed (case_of b)) w
+  reachable_first w r = subst (Extremal (case_of b).states false (Closed (case_of b))) (sym (reachable_one (case_of b) reaches w r)) (reachable_least (case_of b) reaches)
 
   -- A route has own rounds, and one number of them.
   pub rounds_exist : (R : Route) → (r : ℕ) × OwnRounds R (case_of b) r
@@ -75,18 +96,29 @@ module _ (b : List ℕ) (accepted : Accepted b) where
     pub spent_iff : Spent o ↔ limit < r
     spent_iff = rw (own_one b accepted R r own, number_ran ran.by) (spent_number R b l limit accepted enough)
 
-    -- (b) Otherwise it gives marks, and reports exactly those rounds, with verdict and count of the formula's meaning.
+    -- (b) Otherwise it gives marks, and reports exactly those rounds, with the verdict of the formula's meaning v, and with the count of those of its
+    -- states that can be reached, of which w is the set.
     pub gives_iff : GivesMarks o ↔ r ≤ limit
     gives_iff = rw (own_one b accepted R r own, number_ran ran.by) (gives_number R b l limit accepted enough)
 
-    pub reports : r ≤ limit → (ρ : Valuation) (v : States) → MeansIn (case_of b) ρ v → o ≡ report_of (case_of b).initial v r
-    reports h ρ v m = rw (run_means b accepted R ρ m.0 v m.1, own_one b accepted R r own) (reported ran.by (gives_iff.1 h))
+    pub reports : r ≤ limit → (ρ : Valuation) (v w : States) → MeansIn (case_of b) ρ v → ReachableStates (case_of b) w → o ≡ run_report (case_of b) v w r
+    reports h ρ v w m reached =
+        rw (run_means b accepted R ρ m.0 v m.1, reachable_one (case_of b) (accepted_bounded b accepted) w reached, own_one b accepted R r own)
+        (reported ran.by (gives_iff.1 h))
+
+-- a bit that is 1
+one_bit : (x : Bool) → bit x ≡ 1 → T x
+one_bit true e = tt
+one_bit false e = absurd (omega arith)
 
 -- (c) Where a route gives marks, a state is marked exactly if it lies in the formula's meaning, no bit from n up is 1, and the words behind
 -- are as lent.
 module _ {R : Route} {b : List ℕ} {l : Lent} {limit : ℕ} {o : Outcome} {t : Tally} {marks' : List ℕ} (ran : Ran R b l limit o t marks') where
   accepted_run : GivesMarks o → Accepted b
   accepted_run g = (given R b l limit (sym (number_ran ran.by) ∙ g)).0
+
+  shown : GivesMarks o → Marks (case_of b).states (run_of R (case_of b)).0 l.marks marks'
+  shown g = shows (run_of R (case_of b)).0 l.marks marks' (written ran.by g) (run_sized b (accepted_run g) R)
 
   pub marks_mean : GivesMarks o → (ρ : Valuation) (v : States) → MeansIn (case_of b) ρ v → Marks (case_of b).states v l.marks marks'
   marks_mean g ρ v m =
@@ -119,11 +151,12 @@ module _ {R : Route} {b : List ℕ} {l : Lent} {limit : ℕ} {o : Outcome} {t : 
 
   -- ---- Demand 1, of any bytes
 
-  -- One answer: the report of a set and of rounds, or one number of the conditions, with zeros for verdict, count and rounds.
-  pub one_answer : ((v : States) × (r : ℕ) × (o ≡ report_of (case_of b).initial v r))
+  -- One answer: the report of a set, of the states that can be reached and of rounds, or one number of the conditions, with zeros for verdict, count
+  -- and rounds.
+  pub one_answer : ((v w : States) × (r : ℕ) × ReachableStates (case_of b) w × (o ≡ run_report (case_of b) v w r))
       ⊎ ((k : ℕ) × Memᴰ k (numbers_of (route_conditions R b l limit)) × (o ≡ refused k))
   one_answer = by_cases (ℕ_discrete o.refusal 0)
-      (λ g. inl ((run_of R (case_of b)).0, (run_of R (case_of b)).1, reported ran.by g))
+      (λ g. inl ((run_of R (case_of b)).0, reachable (case_of b), (run_of R (case_of b)).1, reached_exist b (accepted_run g), reported ran.by g))
       (λ d. inr (_, answered_member _ (number_ran ran.by) d, refused_with ran.by d ∙ ap refused (sym (number_ran ran.by))))
 
   -- The number is that of the first condition that holds, of the case's own, then 13, then 14; a report says that none does.
@@ -149,15 +182,54 @@ module _ {R : Route} {b : List ℕ} {l : Lent} {limit : ℕ} {o : Outcome} {t : 
   pub marks_kept : ¬ GivesMarks o → marks' ≡ l.marks
   marks_kept = kept ran.by
 
-  -- ---- The count, a word at a time
+  -- ---- The count
 
-  -- The count is the sum of the ones of the set's words in the marks, and the number of states below n whose bit is 1.
-  pub count_ones : GivesMarks o → (o.count ≡ ones_of (take word_count marks')) × (o.count ≡ marked_below marks' (case_of b).states)
-  unfolding case_of
-  count_ones g =
-      let ok = accepted_run g in
-      rw (reported ran.by g)
-      (marks_size (passed b ok).lies.counts.few_states (shows (run_of R (case_of b)).0 l.marks marks' (written ran.by g) (run_sized b ok R)))
+  module _ (g : GivesMarks o) (w : States) (reached : ReachableStates (case_of b) w) where
+    abbrev n : ℕ
+    n = (case_of b).states
+
+    abbrev held : States
+    held = (run_of R (case_of b)).0
+
+    held_long : length held ≡ n
+    held_long = run_sized b (accepted_run g) R
+
+    abbrev both : States
+    both = intersection n held w
+
+    both_long : length both ≡ n
+    both_long = length_table (λ s. has held s && has w s) n
+
+    shown_size : marked_below marks' n ≡ size held
+    shown_size = sym (marks_size (few_states b (accepted_run g)) (shown g)).1
+
+    counted : o.count ≡ size both
+    counted = rw (reported ran.by g, reachable_one (case_of b) (accepted_bounded b (accepted_run g)) w reached)
+
+    -- The count is the number of states below n whose bit is 1 and which can be reached. A word at a time it is the sum of the ones of the set's words in
+    -- the marks, where the bits of states that cannot be reached are cleared.
+    pub count_ones : (o.count ≡ ones_of (both_words (take word_count marks') (words word_count w)))
+        × (o.count ≡ length (keep (λ s. marked marks' s && has w s) (numbers_from 0 (case_of b).states)))
+    count_ones = rw counted (both_size (few_states b (accepted_run g)) (shown g) w reached.sized)
+
+    -- No more are counted than are marked, and as many if every state can be reached.
+    pub count_marked : o.count ≤ marked_below marks' (case_of b).states
+    count_marked = rw (counted, shown_size) (size_subset both held (both_long ∙ sym held_long) (λ s t. and_left (has held s) (has w s) (has_set_of n _ s t).1))
+
+    pub count_all : ((s : ℕ) → s < (case_of b).states → Reachable (case_of b) s) → o.count ≡ marked_below marks' (case_of b).states
+    count_all h = omega (arith, count_marked, counted, shown_size, size_subset held both (held_long ∙ sym both_long) in_both)
+      where
+        in_both : (s : ℕ) → T (has held s) → T (has both s)
+        in_both s t =
+            let low : s < n = omega (arith, held_long, has_below held s t) in
+            set_of_has n (λ s. has held s && has w s) s low (and_both (has held s) (has w s) t ((reached.exactly s).1 (h s low)))
+
+    -- The initial state is counted where it is marked: a run with a true verdict counts at least one state.
+    pub verdict_counted : o.verdict ≡ 1 → 1 ≤ o.count
+    verdict_counted v =
+        let low : (case_of b).initial < n = (accepted_bounded b (accepted_run g)).initial in
+        let t : T (has held (case_of b).initial) = one_bit _ (sym (ap (λ (o : Outcome). o.verdict) (reported ran.by g)) ∙ v) in
+        rw counted (size_some both (case_of b).initial (set_of_has n (λ s. has held s && has w s) (case_of b).initial low (and_both _ _ t ((reached.exactly _).1 here))))
 
 -- ---- How many records were copies, of any bytes
 
@@ -244,6 +316,58 @@ module _ (b b' : List ℕ) (same : SameTransitionSet (case_of b) (case_of b')) w
         let one = ran_same same l limit (by_run ran accepted) in
         let two = by_run ran' accepted' in
         (one.answers ∙ sym two.answers, one.marks_are ∙ sym two.marks_are)
+
+-- ---- Which states can be reached
+
+-- a state of the first sets is one of the second, if it is where the second of each has it
+counted_in : (n n' : ℕ) (v w v' w' : States) → ((s : ℕ) → T (has w s) → (T (has w' s) × (s < n')) × (T (has v s) → T (has v' s)))
+    → (s : ℕ) → T (has (intersection n v w) s) → T (has (intersection n' v' w') s)
+counted_in n n' v w v' w' h s t =
+    let b = (has_set_of n (λ s. has v s && has w s) s t).1 in
+    let ((there, low), held) = h s (and_right (has v s) (has w s) b) in
+    set_of_has n' (λ s. has v' s && has w' s) s low (and_both (has v' s) (has w' s) (held (and_left (has v s) (has w s) b)) there)
+
+-- Two accepted cases with the same states, initial state and formula, and the same transitions from the states that can be reached: what other states
+-- do does not matter. Runs that give marks, by either route, at whatever limits and lent memory, mark the same of the states that can be reached, and are
+-- alike in verdict and count. Their rounds, and the marks of other states, may differ.
+module _ {R R' : Route} {b b' : List ℕ} {l l' : Lent} {limit limit' : ℕ} {o o' : Outcome} {t t' : Tally} {marks' marks'' : List ℕ} (ran : Ran R b l limit o t marks')
+    (ran' : Ran R' b' l' limit' o' t' marks'') (same : SameFromReachable (case_of b) (case_of b')) (g : GivesMarks o) (g' : GivesMarks o') where
+  abbrev c : Case
+  c = case_of b
+
+  abbrev c' : Case
+  c' = case_of b'
+
+  bounded : Bounded c
+  bounded = accepted_bounded b (accepted_run ran g)
+
+  bounded' : Bounded c'
+  bounded' = accepted_bounded b' (accepted_run ran' g')
+
+  held_alike : (s : ℕ) → Reachable c s → has (run_of R c).0 s ≡ has (run_of R' c').0 s
+  held_alike =
+      let none = none_sized c.states in
+      means_agrees same bounded (all_empty c.states) (run_of R c).0 (run_of R' c').0 (run_in b (accepted_run ran g) R (all_empty c.states) none)
+      (run_in b' (accepted_run ran' g') R' (all_empty c.states) (subst (λ (n : ℕ). Sized n (all_empty c.states)) same.states none))
+
+  pub reachable_marks : (s : ℕ) → Reachable c s → marked marks' s ≡ marked marks'' s
+  reachable_marks s r =
+      let low : s < state_limit = omega (arith, reached_below c bounded r, few_states b (accepted_run ran g)) in
+      (shown ran g).shown s low ∙ held_alike s r ∙ sym ((shown ran' g').shown s low)
+
+  pub reachable_verdict : o.verdict ≡ o'.verdict
+  reachable_verdict = rw (reported ran.by g, reported ran'.by g', held_alike c.initial here, same.initial)
+
+  pub reachable_count : o.count ≡ o'.count
+  reachable_count =
+      let v = (run_of R c).0 in
+      let v' = (run_of R' c').0 in
+      rw (reported ran.by g, reported ran'.by g')
+      (same_size _ _ (λ s. implies_antisym _ _
+      (counted_in c.states c'.states v (reachable c) v' (reachable c') (λ s t. let r = found_reached c s t in
+      ((reached_found c' bounded' (still_reached same r), reached_below c' bounded' (still_reached same r)), subst T (held_alike s r))) s)
+      (counted_in c'.states c.states v' (reachable c') v (reachable c) (λ s t. let r = reached_before same (found_reached c' s t) in
+      ((reached_found c bounded r, reached_below c bounded r), subst T (sym (held_alike s r)))) s)))
 
 -- ---- Events that fire together
 

@@ -11,17 +11,18 @@ use lib.Dec.{ltb}
 use lib.ListN.{length, drop}
 use Rattle.sets.specs.Lists.{every}
 use Rattle.sets.specs.Words.{words, word_count}
-use Rattle.sets.specs.Refusals.{Conditions, first_of, Outcome, refused, by_refusal, GivesMarks, report_of}
+use Rattle.sets.specs.Refusals.{Conditions, first_of, Outcome, refused, by_refusal, GivesMarks}
 use Rattle.sets.proofs.Refusals.{apart, reached, none_reached, none_of_first, one_of_first, refusing, reports, refuses, number_is}
 use Rattle.solver.specs.Outcome.{solve_conditions, solve_refusal, solve_exceeds, solve_too_short}
 use Rattle.solver.proofs.Promises.{formed_accepted}
 use Rattle.cases.specs.Case.{Case, case_of}
+use Rattle.cases.specs.computed.Reached.{reachable}
 use Rattle.cases.specs.Conditions.{layout_conditions, model_conditions, formula_conditions, case_conditions, case_refusal, Accepted}
 use Rattle.cases.proofs.Accepting.{case_numbered}
 use Rattle.translate.specs.Translating.{file, translate_conditions, translate_refusal}
 use Rattle.translate.proofs.Promises.{well_formed}
 use Rattle.translate.proofs.Translations.{unrefused, lacks_room, own_number}
-use Rattle.routes.specs.Route.{Route, equation, Lent, run_of, too_short, exceeds, run_conditions, route_conditions, Enough, route_outcome, marks_after, RanBy}
+use Rattle.routes.specs.Route.{Route, equation, Lent, run_of, too_short, exceeds, run_conditions, route_conditions, Enough, run_report, route_outcome, marks_after, RanBy}
 
 -- ---- whatever keeps the contract, by its conditions
 module _ {cs : Conditions} {R : Route} {c : Case} {marks : List ℕ} {o : Outcome} {after : List ℕ} (ran : RanBy cs R c marks o after) where
@@ -31,7 +32,7 @@ module _ {cs : Conditions} {R : Route} {c : Case} {marks : List ℕ} {o : Outcom
   number_ran = ap (λ (o : Outcome). o.refusal) ran.answers ∙ number_is cs _ refl
 
   -- with 0 the report is answered, and the marks are written
-  pub reported : GivesMarks o → o ≡ report_of c.initial (run_of R c).0 (run_of R c).1
+  pub reported : GivesMarks o → o ≡ run_report c (run_of R c).0 (reachable c) (run_of R c).1
   unfolding route_outcome
   reported g = ran.answers ∙ reports cs _ (sym number_ran ∙ g)
 

@@ -1,14 +1,16 @@
 -- The two routes: what each works out, its own rounds, what it answers, and what it leaves in lent memory; and what the programs lend.
 use Rattle.std.specs.Prelude.{◌≡◌, Bool, false, ◌||◌, List, [], ◌∷◌, ◌++◌, map, ℕ, ltb, length, drop, replicate, Result, Ok, Err}
-use Rattle.sets.specs.States.{States, all_empty}
+use Rattle.sets.specs.States.{States, has, size, all_empty}
 use Rattle.sets.specs.Words.{words, bit, word_count}
 use Rattle.sets.specs.computed.Iteration.{Worked}
-use Rattle.sets.specs.Refusals.{Conditions, first_of, Outcome, Spent, refused, report_of, by_refusal, outcome_by}
+use Rattle.sets.specs.Refusals.{Conditions, first_of, Outcome, Spent, refused, by_refusal, outcome_by}
 use Rattle.solver.specs.computed.Solved.{evaluate, run}
 use Rattle.solver.specs.File.{sizes_of, cells, cell_limit}
 use Rattle.solver.specs.declared.Report.{Report}
 use Rattle.solver.specs.Outcome.{Scratch, solve_number, FileRounds, solve_too_short}
 use Rattle.cases.specs.Case.{Case, case_of}
+use Rattle.cases.specs.Meaning.{intersection}
+use Rattle.cases.specs.computed.Reached.{reachable}
 use Rattle.cases.specs.Tally.{tally_of}
 use Rattle.cases.specs.declared.Tally.{Tally}
 use Rattle.translate.specs.Bytes.{file_of}
@@ -90,9 +92,14 @@ Enough R c l = too_short R c l ≡ false
 
 -- ---- what is answered and left, by the conditions
 
+-- The report of a run that marks the states v of a case, where w are those that can be reached: whether the initial state is marked, how many states
+-- are marked and can be reached, and the rounds.
+abbrev pub run_report : Case → States → States → ℕ → Outcome
+run_report c v w rounds = record { refusal = 0; verdict = bit (has v c.initial); count = size (intersection c.states v w); rounds = rounds }
+
 -- the report, or the number of the first condition that holds
 unfoldable pub route_outcome : Conditions → Route → Case → Outcome
-route_outcome cs R c = outcome_by cs (report_of c.initial (run_of R c).0 (run_of R c).1)
+route_outcome cs R c = outcome_by cs (run_report c (run_of R c).0 (reachable c) (run_of R c).1)
 
 -- of any bytes
 abbrev pub outcome_of : Route → List ℕ → Lent → ℕ → Outcome

@@ -9,20 +9,22 @@ mod outcome;
 mod price;
 mod tables;
 
-ghost use Rattle.std.specs.Prelude.{◌≡◌};
+ghost use Rattle.std.specs.Prelude.{◌≡◌, ◌<◌};
+ghost use Rattle.sets.specs.Words.{state_limit};
 ghost use Rattle.sets.specs.Refusals.{refused as refused_outcome};
 ghost use Rattle.cases.specs.Opening.{case_number};
 ghost use Rattle.cases.specs.Tally.{no_tally};
 ghost use Rattle.routes.specs.Route.{route_answer, direct as direct_route, lent, marks_only, run_conditions, RanBy, Ran, EquationRan};
 ghost use Rattle.routes.specs.Price.{run_price};
 ghost use Rattle.routes.specs.internal.Given.{case_given};
+ghost use Rattle.routes.specs.internal.Answering.{ReportedBy};
 
-use cases::{OpenCase, TRANSITIONS, Tally, first_appearances};
+use cases::{OpenCase, TRANSITIONS, Tally, first_appearances, links_of, reachable};
 pub use direct_case::DirectCase;
 use evaluate::evaluate_root;
 pub use outcome::solving_answer;
 use price::price;
-use sets::WORDS;
+use sets::{Set, WORDS};
 pub use solver::Report;
 use translate::write_case;
 
@@ -61,6 +63,18 @@ pub struct Numbers {
     pub rounds: u64,
 }
 
+// The report of a run that marks these states: whether the initial state is marked, how many states are marked and can be reached, and the rounds.
+fn run_report(initial: usize, marked: &Set, reachable: &Set, rounds: u64) -> Report
+    requires { initial < state_limit }
+    ensures { ReportedBy initial marked.now reachable.now rounds result }
+{
+    Report {
+        verdict: sets::test(marked, initial),
+        count: sets::count(&sets::intersection(*marked, *reachable)),
+        rounds,
+    }
+}
+
 // Direct on a case and its tables.
 pub fn direct_parts(case: &DirectCase<'_>, marks: &mut [u64], limit: u64) -> Answer
     ensures { RanBy (run_conditions direct_route (case_given case.now) (marks_only marks.old) limit)
@@ -71,21 +85,28 @@ pub fn direct_parts(case: &DirectCase<'_>, marks: &mut [u64], limit: u64) -> Ans
     }
     let value = evaluate_root(case, limit).ok_or(solver::Cause::Spent)?;
     sets::store(marks, value.set);
-    Ok(Report::of_set(&value.set, case.header.initial, value.rounds))
+    Ok(run_report(
+        case.header.initial,
+        &value.set,
+        &case.reachable,
+        value.rounds,
+    ))
 }
 
 // Direct on an accepted case.
 fn direct_opened(case: &OpenCase<'_>, marks: &mut [u64], limit: u64) -> Tallied
     ensures { Ran direct_route case.now.laid.bytes.now (marks_only marks.old) limit (route_answer result.answer) result.tally marks.new }
 {
+    let links = links_of(case);
     let mut first = [false; TRANSITIONS];
-    let tally = first_appearances(case, &mut first);
+    let tally = first_appearances(case, &links, &mut first);
     let given = DirectCase {
         header: case.laid.header,
         labels: case.laid.labels(),
         transitions: case.laid.transitions(),
         actions: case.laid.actions(),
         formula: case.laid.formula(),
+        reachable: reachable(case, &links),
     };
     let answer = direct_parts(&given, marks, limit);
     Tallied { answer, tally }
@@ -127,8 +148,9 @@ fn equation_opened(
         file.new work.new marks.new }
     ensures price { result.cents ≡ run_price case.entry.laid.bytes.now limit (route_answer result.run.answer) }
 {
+    let links = links_of(&case);
     let mut first = [false; TRANSITIONS];
-    let tally = first_appearances(&case, &mut first);
+    let tally = first_appearances(&case, &links, &mut first);
     let written = write_case(&case, &first, file);
     let Ok(length) = written else {
         return Priced {
@@ -141,7 +163,15 @@ fn equation_opened(
     };
     let equations = &file[..length];
     let cells = solver::sizes_of(equations).cells;
-    let answer = solving_answer(solver::solve(equations, work, marks, limit));
+    let answer = match solver::solve(equations, work, marks, limit) {
+        Ok(solved) => Ok(run_report(
+            case.laid.header.initial,
+            &sets::load(marks),
+            &reachable(&case, &links),
+            solved.rounds,
+        )),
+        Err(cause) => Err(Cause::Run(cause)),
+    };
     Priced {
         run: Tallied { answer, tally },
         cents: price(answer, cells, limit),

@@ -28,6 +28,30 @@ repeated_again : (m : ℕ) (f : States → Worked) (v : States) → same (f v).0
 unfolding repeated
 repeated_again m f v e = rw (e, repeated)
 
+-- What each turn keeps, the loop keeps.
+pub repeated_keeps : (P : States → Type 0) (f : States → Worked) → ((v : States) → P v → P (f v).0) → (m : ℕ) (v : States) → P v → P (repeated m f v).0
+unfolding repeated
+repeated_keeps P f h zero v p = p
+repeated_keeps P f h (suc m) v p = go (same (f v).0 v) refl (repeated_keeps P f h m (f v).0 (h v p))
+  where
+    go : (b : Bool) → same (f v).0 v ≡ b → P (repeated m f (f v).0).0 → P (repeated (suc m) f v).0
+    go true e k = rw (repeated_stop m f v e) p
+    go false e k = rw (repeated_again m f v e) k
+
+-- Two loops keep a relation that their turns keep, though one may stop before the other.
+pub repeated_related : (E : States → States → Type 0) (f g : States → Worked) → ((v w : States) → E v w → E (f v).0 (g w).0)
+    → (m : ℕ) (v w : States) → E v w → E (repeated m f v).0 (repeated m g w).0
+unfolding repeated
+repeated_related E f g h zero v w e = e
+repeated_related E f g h (suc m) v w e = go (same (f v).0 v) (same (g w).0 w) refl refl (repeated_related E f g h m (f v).0 (g w).0 (h v w e))
+  where
+    go : (x y : Bool) → same (f v).0 v ≡ x → same (g w).0 w ≡ y → E (repeated m f (f v).0).0 (repeated m g (g w).0).0
+        → E (repeated (suc m) f v).0 (repeated (suc m) g w).0
+    go true y p q k = rw (repeated_stop m f v p) (repeated_keeps (E v) g (λ u r. subst (λ (z : States). E z (g u).0) (same_eq (f v).0 v p) (h v u r)) (suc m) w e)
+    go false true p q k =
+        rw (repeated_stop m g w q) (repeated_keeps (λ u. E u w) f (λ u r. subst (E (f u).0) (same_eq (g w).0 w q) (h u w r)) (suc m) v e)
+    go false false p q k = rw (repeated_again m f v p, repeated_again m g w q) k
+
 -- The loop has one outcome, where each turn has.
 pub loop_one : {A : Type 0} {F : Step A} → ((v : States) (a b : A) (x y : States) (r q : ℕ) → F v a x r → F v b y q → (a ≡ b) × (x ≡ y) × (r ≡ q))
     → {v : States} {a b : A} {p q : ℕ} → Loop F v a p → Loop F v b q → (a ≡ b) × (p ≡ q)

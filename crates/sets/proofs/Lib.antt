@@ -1,5 +1,6 @@
 -- Laws of the crate's definitions.
 pub mod Lists
+pub mod Members
 pub mod Order
 pub mod FixedPoint
 pub mod Turns

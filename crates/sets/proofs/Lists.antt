@@ -66,6 +66,11 @@ pub or_right : (a b : Bool) → T b → T (a || b)
 or_right true b t = tt
 or_right false b t = t
 
+-- what follows from each of two follows from an or
+pub or_either : {A : Type 0} (a b : Bool) → (T a → A) → (T b → A) → T (a || b) → A
+or_either true b f g t = f tt
+or_either false b f g t = g t
+
 -- an and is true if and only if both are
 pub and_left : (a b : Bool) → T (a && b) → T a
 and_left true b t = tt
@@ -148,6 +153,13 @@ pub record Kept (R : Bool → Bool → Type 0) : Type 0 where
 -- one truth value implies another
 abbrev pub Implies : Bool → Bool → Type 0
 Implies a b = T a → T b
+
+-- those that imply each other are equal
+pub implies_antisym : (a b : Bool) → Implies a b → Implies b a → a ≡ b
+implies_antisym true true f g = refl
+implies_antisym true false f g = absurd (f tt)
+implies_antisym false true f g = absurd (g tt)
+implies_antisym false false f g = refl
 
 -- equality is kept
 pub kept_equal : Kept (◌≡◌ {A = Bool})

@@ -1,7 +1,7 @@
 -- The ones of a set's words are as many as the states that the words have room for: for any number of words and of states.
 use mathlib.Core.Path.{◌≡◌, refl, sym, ap, ◌∙◌}
 use mathlib.Core.Logic.{by_cases}
-use mathlib.Core.Bool.{Bool, true, false, cond}
+use mathlib.Core.Bool.{Bool, true, false, cond, ◌&&◌}
 use mathlib.Core.List.{List, [], ◌∷◌, map}
 use Prim.Native.Nat.{ℕ, zero, suc, ◌+◌, ◌*◌, ◌/◌, ◌%◌, ◌^◌, ◌<◌, ◌≤◌}
 use native.Mathlib.Nat.{zero-div}
@@ -13,8 +13,10 @@ use lib.Count.{ones, ones_step}
 use Rattle.std.proofs.lemmas.Nat.{ones-le}
 use Rattle.sets.specs.Lists.{numbers_from, keep, sum}
 use Rattle.sets.specs.States.{States, has, size}
-use Rattle.sets.specs.Words.{words, number_of_bits, bit, marked, ones_of, marked_below, Marks, word_count, state_limit}
+use Rattle.sets.specs.Words.{words, number_of_bits, bit, marked, ones_of, both_words, marked_below, Marks, word_count, state_limit}
 use Rattle.sets.proofs.Lists.{length_table, table_at}
+use Rattle.std.specs.Prelude.{bit_and}
+use Rattle.sets.proofs.Masks.{bitwise_and, words_combined}
 use Rattle.sets.proofs.Words.{half, odd, words_length, marked_words, take_words}
 
 -- ---- one word, then all
@@ -65,7 +67,7 @@ kept_size p (x ∷ xs) = go (p x) (kept_size p xs)
     go false e = omega arith
 
 -- Two lists that have the same states have equally many, also if one is longer.
-same_size : (v w : States) → ((s : ℕ) → has v s ≡ has w s) → size v ≡ size w
+pub same_size : (v w : States) → ((s : ℕ) → has v s ≡ has w s) → size v ≡ size w
 unfolding size
 same_size [] [] e = refl
 same_size [] (c ∷ w) e = rw (← e 0) (omega (arith, same_size [] w (λ s. e (suc s))))
@@ -73,7 +75,7 @@ same_size (b ∷ v) [] e = rw (e 0) (omega (arith, same_size v [] (λ s. e (suc 
 same_size (b ∷ v) (c ∷ w) e = rw (e 0) (ap (λ (m : ℕ). bit c + m) (same_size v w (λ s. e (suc s))))
 
 -- As many numbers below n have p as a set of at most n states has states, if p says which are in it.
-below_size : (p : ℕ → Bool) (n : ℕ) (v : States) → length v ≤ n → ((s : ℕ) → s < n → p s ≡ has v s) → length (keep p (numbers_from 0 n)) ≡ size v
+pub below_size : (p : ℕ → Bool) (n : ℕ) (v : States) → length v ≤ n → ((s : ℕ) → s < n → p s ≡ has v s) → length (keep p (numbers_from 0 n)) ≡ size v
 below_size p n v l is =
     kept_size p (numbers_from 0 n)
     ∙ same_size (map p (numbers_from 0 n)) v λ s.
@@ -107,3 +109,19 @@ marks_size {n} {v} {lent} {after} few m = (
   rw (m.are, take_words word_count v (drop word_count lent)) (sym (ones_size word_count v (omega (arith, m.sized)))),
   sym (below_size (marked after) n v (omega (arith, m.sized)) (λ s h. m.shown s (omega arith))),
 )
+
+-- Of marks that show a set of n states, and of the words of another one: the ones of both are the states of both, and these are the states below n
+-- whose bit is 1 and that the other set has.
+pub both_size : {n : ℕ} {v : States} {lent after : List ℕ} → n ≤ state_limit → Marks n v lent after → (w : States) → length w ≡ n
+    → (size (map (λ s. has v s && has w s) (numbers_from 0 n)) ≡ ones_of (both_words (take word_count after) (words word_count w)))
+    × (size (map (λ s. has v s && has w s) (numbers_from 0 n)) ≡ length (keep (λ s. marked after s && has w s) (numbers_from 0 n)))
+both_size {n} {v} {lent} {after} few m w sized =
+    let both : States = map (λ s. has v s && has w s) (numbers_from 0 n) in
+    let word = λ (j : ℕ). bit_and (get_or (words word_count v) j 0) (get_or (words word_count w) j 0) in
+    let long : length both ≡ n = length_table (λ s. has v s && has w s) n in
+    let are : map word (numbers_from 0 word_count) ≡ words word_count both =
+    words_combined bitwise_and word_count n v w m.sized sized (map word (numbers_from 0 word_count)) (length_table word word_count) (λ j h. table_at word word_count j 0 h) in (
+      rw (m.are, take_words word_count v (drop word_count lent), are) (sym (ones_size word_count both (omega (arith, long)))),
+      sym (below_size (λ s. marked after s && has w s) n both (omega (arith, long))
+          (λ s h. ap (λ (b : Bool). b && has w s) (m.shown s (omega arith)) ∙ sym (table_at (λ s. has v s && has w s) n s false h))),
+    )

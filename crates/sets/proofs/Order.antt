@@ -53,11 +53,18 @@ bit_eq true false e = absurd (omega arith)
 bit_eq false true e = absurd (omega arith)
 bit_eq false false e = refl
 
--- A set has at most as many states as its length, and no fewer than a set that it includes.
+-- A set has at most as many states as its length, one if it has any, and no fewer than a set that it includes.
 pub size_length : (x : States) → size x ≤ length x
 unfolding size
 size_length [] = omega arith
 size_length (a ∷ x) = omega (arith, size_length x, bit_le a true (λ t. tt))
+
+pub size_some : (x : States) (s : ℕ) → T (has x s) → 1 ≤ size x
+unfolding size
+size_some [] s t = absurd t
+size_some (true ∷ x) zero t = omega arith
+size_some (false ∷ x) zero t = absurd t
+size_some (a ∷ x) (suc s) t = omega (arith, size_some x s t)
 
 pub size_subset : (x y : States) → length x ≡ length y → Subset x y → size x ≤ size y
 unfolding size
@@ -113,7 +120,7 @@ full (suc n) (x ∷ u) e zero t = tt
 full (suc n) (x ∷ u) e (suc s) t = full n u (omega arith) s t
 
 -- the empty set has no state
-empty : (n s : ℕ) → T (has (replicate n false) s) → ⊥
+pub empty : (n s : ℕ) → T (has (replicate n false) s) → ⊥
 empty zero s t = t
 empty (suc n) zero t = t
 empty (suc n) (suc s) t = empty n s t

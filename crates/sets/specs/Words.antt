@@ -1,5 +1,5 @@
 -- The words that hold a set: state s is bit s mod 64 of word s / 64, and bits from n up are zero; and how many states words mark.
-use Rattle.std.specs.Prelude.{◌≡◌, Bool, false, cond, List, [], ◌∷◌, ◌++◌, map, ℕ, zero, suc, ◌+◌, ◌*◌, ◌/◌, ◌%◌, ◌^◌, ◌<◌, ◌≤◌, length, get_or, take, drop, eqb}
+use Rattle.std.specs.Prelude.{◌≡◌, Bool, false, cond, List, [], ◌∷◌, ◌++◌, map, ℕ, zero, suc, ◌+◌, ◌*◌, ◌/◌, ◌%◌, ◌^◌, ◌<◌, ◌≤◌, length, get_or, take, drop, eqb, bit_and}
 use Rattle.std.specs.Int.Count.{ones}
 use Rattle.sets.specs.Lists.{numbers_from, keep, sum}
 use Rattle.sets.specs.States.{States, has}
@@ -22,6 +22,10 @@ marked_below ws n = length (keep (marked ws) (numbers_from 0 n))
 -- how many bits of the words are 1: the sum of the ones of each word
 abbrev pub ones_of : List ℕ → ℕ
 ones_of ws = sum (map ones ws)
+
+-- the words of which each has the bits that are 1 in the words of both lists
+abbrev pub both_words : List ℕ → List ℕ → List ℕ
+both_words ws us = map (λ j. bit_and (get_or ws j 0) (get_or us j 0)) (numbers_from 0 word_count)
 
 -- a truth value as a bit
 abbrev pub bit : Bool → ℕ

@@ -135,8 +135,7 @@ pub fn store(marks: &mut [u64], row: Set)
     *marks.first_chunk_mut().unwrap() = row;
 }
 
-// The set in the first words, by the library's method; as with `store`, written out it would be no plainer. Only the wrong programs that leave the marks as they were
-// call it.
+// The set in the first words, by the library's method; as with `store`, written out it would be no plainer.
 pub fn load(marks: &[u64]) -> Set
     requires { word_count ≤ length marks.now }
     ensures { result ≡ take word_count marks.now }

@@ -99,7 +99,7 @@ pub struct Report {
 
 impl Report {
     // The report of a set of states: whether the initial state is in it, and how many there are.
-    pub fn of_set(set: &Set, initial: usize, rounds: u64) -> Report
+    fn of_set(set: &Set, initial: usize, rounds: u64) -> Report
         requires { initial < state_limit }
         ensures { Reported set.now initial rounds result }
     {

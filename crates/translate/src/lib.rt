@@ -23,7 +23,7 @@ ghost use Rattle.translate.specs.Translating.{translate_number, written_number, 
 
 use blocks::block_count;
 use bytes::put;
-use cases::{Flagged, OpenCase, TRANSITIONS, first_appearances};
+use cases::{Flagged, OpenCase, TRANSITIONS, first_appearances, links_of};
 use formula::{WholeFormula, added_before};
 use solver::HEADER;
 use sources::Equations;
@@ -150,6 +150,6 @@ pub fn translate(case: &[u8], out: &mut [u8]) -> Written
 {
     let opened = cases::open(case)?;
     let mut first = [false; TRANSITIONS];
-    first_appearances(&opened, &mut first);
+    first_appearances(&opened, &links_of(&opened), &mut first);
     write_case(&opened, &first, out)
 }

@@ -14,4 +14,4 @@ returns-in_err-value c =
 pub returns : goal.returns
 returns c =
     let some = c.in_ok-value.ensures in
-    solved c.args.case.now _ _ c.if-marks-lt-WORDS.false (rw some.ok_part at c.evaluate_root.ensures) c.of_set.ensures c.store.ensures
+    solved c.args.case.now _ _ c.if-marks-lt-WORDS.false (rw some.ok_part at c.evaluate_root.ensures) c.run_report.ensures c.store.ensures

@@ -1,12 +1,16 @@
 -- Further cases, worked out by hand: what both routes answer.
-use Rattle.std.specs.Prelude.{◌≡◌, refl, List, [], ◌∷◌, map}
+use Rattle.std.specs.Prelude.{◌≡◌, refl, List, [], ◌∷◌, map, ℕ}
 use Rattle.sets.specs.Refusals.{refused}
 use Rattle.translate.specs.examples.Translations.{halves, case_file, p1, p4, copied, middle, still}
 use Rattle.routes.specs.Route.{direct, equation, program_limit}
 use Rattle.routes.specs.examples.Paper.{Example, reported, tally, answer, tally_in}
 
+p1_less : List ℕ
+unfolding case_file
+p1_less = case_file 3 2 2 0 1 3 (0 ∷ 0 ∷ 1 ∷ 0 ∷ 0 ∷ 1 ∷ 1 ∷ 0 ∷ 7 ∷ 0 ∷ 4 ∷ 0 ∷ 6 ∷ 0 ∷ [])
+
 pub further : List Example
-unfolding p1 p4 copied middle still case_file halves reported tally
+unfolding p1 p1_less p4 copied middle still case_file halves reported tally
 further =
     -- P1 with a limit that is just enough
     (p1, 4, reported 1 3 4, reported 1 3 4, tally 3 2)
@@ -15,9 +19,13 @@ further =
     -- Binders side by side, mu X X and nu Y Y: their rounds add up in direct. In the equations each of two rounds of the nu before them takes a
     -- round of X, for which Y takes one.
     ∷ (still 5 (2 ∷ 0 ∷ 7 ∷ 0 ∷ 6 ∷ 1 ∷ 8 ∷ 0 ∷ 6 ∷ 3 ∷ []), program_limit, reported 0 0 6, reported 0 0 2, tally 0 0)
-    -- Copies and equal ends under different labels: state 0 has a loop, state 1 no transition. The third and the fifth record are copies.
-    ∷ (copied, program_limit, reported 0 1 2, reported 0 1 2, tally 5 3)
-    -- A box into the middle of an action formula: state 1 has no accepted transition, state 0 a loop.
+    -- P1 without its last transition: all states hold, and state 2 cannot be reached. The sets of the rounds are none, those of 1 and 2, all, all.
+    ∷ (p1_less, program_limit, reported 1 2 3, reported 1 2 3, tally 2 1)
+    -- Copies and equal ends under different labels: the initial state 1 has no transition, and only state 0 is marked, which cannot be reached. The third
+    -- and the fifth record are copies.
+    ∷ (copied, program_limit, reported 0 0 2, reported 0 0 2, tally 5 3)
+    -- A box into the middle of an action formula: state 1 has no accepted transition, state 0 a loop. The transition to state 1, which is marked, has a label
+    -- that is not accepted.
     ∷ (middle, program_limit, reported 0 1 2, reported 0 1 2, tally 4 4)
     ∷ []
 

@@ -17,6 +17,7 @@ use Rattle.cases.specs.Case.{case_of, same_transition, copies, copies_before, di
 use Rattle.cases.specs.Conditions.{too_small, other_version, bad_count, bad_offset, bad_length, bad_model, padded, bad_labels, bad_actions, bad_formula, bound_ok, bad_variable, binder_count, block_total, too_deep, layout_conditions, model_conditions, formula_conditions, case_conditions, case_refusal}
 use Rattle.cases.specs.Tally.{tallied, tally_of}
 use Rattle.cases.specs.declared.Tally.{Tally}
+use Rattle.cases.specs.computed.Reached.{reachable}
 use Rattle.translate.specs.Whole.{raise, binds_first, whole, binder_nodes, index_in, block_in}
 use Rattle.translate.specs.Cells.{targets, cell_of, cells_from, blocks_from}
 use Rattle.translate.specs.Bytes.{system_of, all_operands, block_numbers, cell_numbers, numbers, bytes, file_of}
@@ -54,7 +55,7 @@ paper =
 
 -- what a route answers on a case at a limit, with all that this computes with
 unfoldable pub outcome_at : Route → List ℕ → ℕ → Outcome
-unfolding route_outcome outcome_by route_conditions run_conditions route_too_short route_exceeds run_of worked repeated update
+unfolding route_outcome reachable outcome_by route_conditions run_conditions route_too_short route_exceeds run_of worked repeated update
     same size numbers_from every for_some accepts nodes u16 header_size label_records label_table alike_labels alike same_names occurrences names_of transition_table action_table formula_table trees action_at formula_at case_of
     same_transition copies copies_before keep distinct case_conditions first_of layout_conditions model_conditions formula_conditions
     too_small other_version bad_count bad_offset bad_length bad_model bad_labels padded bad_actions bad_formula bound_ok bad_variable binder_count block_total

@@ -6,7 +6,7 @@ use Rattle.cases.specs.File.{transition_in}
 use Rattle.cases.specs.Case.{same_transition}
 use Rattle.cases.specs.internal.Checks.{transitions_in}
 use Rattle.cases.proofs.Copies.{walk_start, walk_next, walk_end}
-use Rattle.cases.proofs.Links.{first_skips, next_skips}
+use Rattle.cases.proofs.LinkLaws.{first_skips, next_skips}
 use Rattle.cases.proofs.transitions.copies_before.Goals as goal
 use Rattle.cases.proofs.transitions.copies_before.Goals.{then-eq, else-eq}
 

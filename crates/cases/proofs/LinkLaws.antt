@@ -1,5 +1,5 @@
 -- Laws of the records of a part that are linked by their source.
-use mathlib.Core.Path.{◌≡◌, refl, sym, ap, ◌∙◌}
+use mathlib.Core.Path.{◌≡◌, refl, sym, ap, subst, ◌∙◌}
 use mathlib.Core.Logic.{◌⊎◌, inl, inr, by_cases}
 use mathlib.Core.Bool.{cond}
 use mathlib.Core.List.{List}
@@ -71,6 +71,12 @@ pub linked_step : (part : List ℕ) (m i : ℕ) (first after : List ℕ) → Sou
 linked_step part m i first after sourced o h l t e =
     let back : i - 1 + 1 ≡ i = omega arith in
     rw e (linked_next part m (i - 1) first after sourced (omega arith) (rw back l))
+
+-- all are linked
+pub linked_all : {part : List ℕ} {m i : ℕ} {first after : List ℕ} → Sourced part m → LinkedFrom part m i first after → i ≤ 0 → Linked part m first after
+linked_all {part} {m} {i} {first} {after} sourced l h =
+    let none : i ≡ 0 = omega arith in
+    record { sourced = sourced; filled = subst (λ (j : ℕ). LinkedFrom part m j first after) none l }
 
 -- ---- the walk to record i along those with its source
 

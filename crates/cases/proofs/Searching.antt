@@ -26,7 +26,7 @@ use Rattle.cases.specs.Reach.{Closed}
 use Rattle.cases.specs.computed.Reached.{reachable}
 use Rattle.cases.specs.internal.Checks.{transition_part, transitions_in}
 use Rattle.cases.specs.internal.Links.{source_in, first_on, next_from, Linked}
-use Rattle.cases.specs.internal.Search.{target_in, Found, Grown, TargetsBelow, Widened}
+use Rattle.cases.specs.internal.Search.{target_in, FoundStates, Grown, TargetsBelow, Widened}
 use Rattle.cases.specs.declared.reach.Search.{Search}
 use Rattle.cases.proofs.Accepting.{passed}
 use Rattle.cases.proofs.Tallies.{table_case}
@@ -67,13 +67,13 @@ grown_twice g k = record { more = omega (arith, g.more, k.more); same = λ i h. 
 pub grown_none : {a : Search} → Grown a a
 grown_none = record { more = omega arith; same = λ i h. refl }
 
-module _ {search : Search} {v : States} (f : Found search v) {s : ℕ} (inside : s < length v) where
+module _ {search : Search} {v : States} (f : FoundStates search v) {s : ℕ} (inside : s < length v) where
   -- the test says whether the set has it
   tested : marked search.found s ≡ has v s
   tested = rw f.held (marked_words word_count v s (omega (arith, f.few)))
 
   -- again: nothing changes
-  pub found_again : marked search.found s ≡ true → Found search (set v s true) × Grown search search
+  pub found_again : marked search.found s ≡ true → FoundStates search (set v s true) × Grown search search
   found_again e = (rw (more_same v s (sym tested ∙ e)) f, grown_none)
 
   -- for the first time: there is a place for it
@@ -95,7 +95,7 @@ module _ {search : Search} {v : States} (f : Found search v) {s : ℕ} (inside :
       last : get_or (set search.order search.count s) search.count 0 ≡ s
       last = get_or-set_same search.order search.count s 0 (omega (arith, long, place_left))
 
-      pub found_new : Found next (set v s true) × Grown search next
+      pub found_new : FoundStates next (set v s true) × Grown search next
       found_new = (
         record {
           few = omega (arith, f.few, length-set v s true);
@@ -215,7 +215,7 @@ none_size (suc n) = omega (arith, none_size n)
 
 -- at first nothing is found
 pub found_none : (n : ℕ) {found order : List ℕ} → n ≤ state_limit → found ≡ words word_count (start n false)
-    → Found (record { found = found; order = order; count = 0 }) (start n false)
+    → FoundStates (record { found = found; order = order; count = 0 }) (start n false)
 found_none n few e = record {
   few = omega (arith, length-replicate n false);
   held = e;
@@ -226,7 +226,7 @@ found_none n few e = record {
 
 -- What the search keeps: v is found, it lies in each closed set, and the transitions from the first states of the order end in it.
 pub record Searched (c : Case) (part : List ℕ) (m : ℕ) (search : Search) (done : ℕ) (v : States) : Type 0 where
-  pub found : Found search v
+  pub found : FoundStates search v
   pub sized : length v ≡ c.states
   pub initial : T (has v c.initial)
   pub least : (u : States) → Closed c u → Subset v u
@@ -246,7 +246,7 @@ module _ {c : Case} {part : List ℕ} {m : ℕ} (model : Model c part m) where
   abbrev first : States
   first = set (start c.states false) c.initial true
 
-  pub searched_first : {search : Search} → Found search first → Searched c part m search 0 first
+  pub searched_first : {search : Search} → FoundStates search first → Searched c part m search 0 first
   searched_first f = record {
     found = f;
     sized = length-set (start c.states false) c.initial true ∙ length-replicate c.states false;
@@ -279,7 +279,7 @@ module _ {c : Case} {part : List ℕ} {m : ℕ} (model : Model c part m) where
       pub done_below : done < state_limit
       done_below = omega (arith, h, s.found.many, size_length v, s.found.few)
 
-      module _ {search' : Search} {w : States} (found : Found search' w) (grown : Grown search search') (wide : Widened part m m (get_or search.order done 0) v w) where
+      module _ {search' : Search} {w : States} (found : FoundStates search' w) (grown : Grown search search') (wide : Widened part m m (get_or search.order done 0) v w) where
         pub searched_next : Searched c part m search' (done + 1) w
         searched_next = record {
           found = found;

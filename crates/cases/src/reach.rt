@@ -6,7 +6,7 @@ ghost use Rattle.cases.specs.Case.{case_of};
 ghost use Rattle.cases.specs.computed.Reached.{reachable};
 ghost use Rattle.cases.specs.internal.Checks.{transition_part};
 ghost use Rattle.cases.specs.internal.Links.{Linked};
-ghost use Rattle.cases.specs.internal.Search.{Found, Grown, TargetsBelow, Widened};
+ghost use Rattle.cases.specs.internal.Search.{FoundStates, Grown, TargetsBelow, Widened};
 
 use crate::transitions::Links;
 use crate::{OpenCase, Transitions};
@@ -24,8 +24,8 @@ struct Search {
 impl Search {
     // A state is found, maybe again.
     fn find(&mut self, s: usize)
-        requires { (v : States) × Found self.old v × (s < length v) }
-        ensures { (v : States) → Found self.old v → s < length v → Found self.new (set v s true) × Grown self.old self.new }
+        requires { (v : States) × FoundStates self.old v × (s < length v) }
+        ensures { (v : States) → FoundStates self.old v → s < length v → FoundStates self.new (set v s true) × Grown self.old self.new }
     {
         if !sets::test(&self.found, s) {
             sets::put(&mut self.found, s, true);
@@ -37,9 +37,9 @@ impl Search {
     // The targets of all transitions from a state are found. It is a walk along the links, of which it is not known beforehand how long it is.
     fn find_targets(&mut self, table: &Transitions<'_>, links: &Links, s: usize)
         requires { Linked table.now.part.now table.now.count links.now.first links.now.after
-            × (v : States) × Found self.old v × TargetsBelow table.now.part.now table.now.count v × (s < length v) }
-        ensures { (v : States) → Found self.old v → TargetsBelow table.now.part.now table.now.count v
-            → (w : States) × Found self.new w × Grown self.old self.new × Widened table.now.part.now table.now.count table.now.count s v w }
+            × (v : States) × FoundStates self.old v × TargetsBelow table.now.part.now table.now.count v × (s < length v) }
+        ensures { (v : States) → FoundStates self.old v → TargetsBelow table.now.part.now table.now.count v
+            → (w : States) × FoundStates self.new w × Grown self.old self.new × Widened table.now.part.now table.now.count table.now.count s v w }
     {
         let mut j = links.first[s] as usize;
         while j < table.count {

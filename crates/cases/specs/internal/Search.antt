@@ -10,7 +10,7 @@ abbrev pub target_in : List ℕ → ℕ → ℕ
 target_in part j = (transition_in part j).target
 
 -- The states of the set v are found, and stand once each at the first places of the order.
-pub record Found (s : Search) (v : States) : Type 0 where
+pub record FoundStates (s : Search) (v : States) : Type 0 where
   pub few : length v ≤ state_limit
   pub held : s.found ≡ words word_count v
   pub many : s.count ≡ size v

@@ -1,6 +1,8 @@
+use mathlib.Core.Path.{ap}
 use Prim.Native.Nat.{◌<◌}
 use native.Mathlib.Omega.{arith}
 use lib.ListN.{length}
+use Rattle.cases.specs.File.{Transition}
 use Rattle.cases.specs.internal.Search.{target_in}
 use Rattle.cases.proofs.Searching.{next_first, next_after, widen_none, widen_next, widen_all, grown_none, grown_twice}
 use Rattle.cases.proofs.reach.Search.find_targets.Goals as goal
@@ -15,7 +17,7 @@ pub find-requires : goal.find-requires
 find-requires c =
     let (linked, v, found, below, inside) = c.requires in
     let (w, found', grown, wide) = c.loop-j.invariant.1 v found below in
-    (w, found', rw c.at-t.ensures (omega (arith, below c.loop-j.j c.loop-j-test.true, wide.sized)))
+    (w, found', omega (arith, ap (λ (t : Transition). t.target) c.at-t.ensures, below c.loop-j.j c.loop-j-test.true, inside, wide.sized))
 
 pub loop-j-smaller : goal.loop-j-smaller
 loop-j-smaller c =

@@ -1,7 +1,8 @@
 // Reads a case from standard input, as its length, a 16-bit number, low byte first, and then so many bytes, and opens it as a model. Then it
 // reads calls: 1 adds a transition and 2 drops one, three 16-bit numbers, source, label and target; 3 wants the marks, by a limit of 64 bits.
 // Prints a line for each: `open`, `add`, `drop` or `want`, the refusal number (0 if none), and of `want` the verdict, the count of marked
-// states, the rounds, the records and the distinct ones too. Ends after a refused open, at any other call, and where the stream does.
+// states that can be reached, the rounds, the records and the distinct ones too. Ends after a refused open, at any other call, and where the
+// stream does.
 #![tactic(auto)]
 
 use cases::{LARGEST, Transition, Transitions};

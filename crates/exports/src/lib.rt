@@ -28,8 +28,9 @@ pub struct Numbers {
     pub length: u64,
 }
 
-// The refusal number (0 if none), the verdict as 1 or 0, the count of marked states and the rounds, which are 0 after a refusal; then how
-// many records the case's transition table has and how many of them are distinct, which are 0 where the case is refused on opening.
+// The refusal number (0 if none), the verdict as 1 or 0, the count of marked states that can be reached and the rounds, which are 0 after a
+// refusal; then how many records the case's transition table has and how many of them are distinct, which are 0 where the case is refused on
+// opening.
 #[repr(C)]
 #[derive(Clone, Copy)]
 pub struct RouteNumbers {

@@ -1,6 +1,6 @@
 // Reads a case from standard input and prints three lines. E for the equation route and D for direct have the refusal number (0 if none),
-// the verdict as 1 or 0, the count of marked states and the rounds; the last three are 0 on a refusal. T has the records of the transition
-// table and the distinct ones, both 0 where the case itself is refused.
+// the verdict as 1 or 0, the count of marked states that can be reached and the rounds; the last three are 0 on a refusal. T has the records of
+// the transition table and the distinct ones, both 0 where the case itself is refused.
 #![tactic(auto)]
 
 ghost use Rattle.std.specs.Prelude.{◌≡◌, ◌+◌, ◌++◌, codes, length, OnOk};

@@ -10,10 +10,10 @@ use lib.Dec.{T, eqb, eqb→eq, eqb_refl, T_not, not_T}
 use lib.ListN.{length, get_or, take, replicate, length-replicate}
 use Rattle.sets.specs.Lists.{numbers_from, every, for_some}
 use Rattle.sets.specs.States.{States, has, Subset, start, Extremal, Valuation, update, Sized}
-use Rattle.sets.specs.computed.Iteration.{Worked, repeated, same}
+use Rattle.sets.specs.computed.Iteration.{Worked, repeated}
 use Rattle.sets.proofs.Lists.{length_map_range, and_left, and_right, and_both, or_left, or_right, Implies, kept_implies}
 use Rattle.sets.proofs.Order.{before_eq, subset_antisym, extremal_map, extremal_one}
-use Rattle.sets.proofs.FixedPoint.{extremal, fixed_mono}
+use Rattle.sets.proofs.FixedPoint.{repeated_keeps, extremal, fixed_mono}
 use Rattle.sets.proofs.Valuation.{update_sized, update_mono}
 use Rattle.cases.specs.Action.{Action}
 use Rattle.cases.specs.Formula.{Formula, False, True, And, Or, Box, Diamond, Variable, Fix}
@@ -117,17 +117,6 @@ module _ (n : ℕ) (ts : List Transition) where
   abbrev pub body_of : ℕ → Formula → Valuation → States → Worked
   body_of i a ρ v = (meaning n ts a (update ρ i v), 0)
 
--- a loop of steps that keep the number of states keeps it
-repeated_sized : (n : ℕ) (f : States → Worked) → ((v : States) → length v ≡ n → length (f v).0 ≡ n)
-    → (m : ℕ) (v : States) → length v ≡ n → length (repeated m f v).0 ≡ n
-unfolding repeated
-repeated_sized n f h zero v o = o
-repeated_sized n f h (suc m) v o = go (same (f v).0 v) refl (repeated_sized n f h m (f v).0 (h v o))
-  where
-    go : (b : Bool) → same (f v).0 v ≡ b → length (repeated m f (f v).0).0 ≡ n → length (repeated (suc m) f v).0 ≡ n
-    go true e l = rw (e, repeated) o
-    go false e l = rw (e, repeated) l
-
 -- The meaning has n states.
 pub meaning_sized : (n : ℕ) (ts : List Transition) (a : Formula) (ρ : Valuation) → Sized n ρ → length (meaning n ts a ρ) ≡ n
 unfolding meaning
@@ -139,7 +128,7 @@ meaning_sized n ts (Box α a) ρ r = length_map_range _ 0 n
 meaning_sized n ts (Diamond α a) ρ r = length_map_range _ 0 n
 meaning_sized n ts (Variable i) ρ r = r i
 meaning_sized n ts (Fix sign i a) ρ r =
-    repeated_sized n (body_of n ts i a ρ) (λ v o. meaning_sized n ts a (update ρ i v) (update_sized ρ i v r o)) (suc n) (start n sign) (length-replicate n sign)
+    repeated_keeps (λ v. length v ≡ n) (body_of n ts i a ρ) (λ v o. meaning_sized n ts a (update ρ i v) (update_sized ρ i v r o)) (suc n) (start n sign) (length-replicate n sign)
 
 -- ---- the meaning grows
 

@@ -1,7 +1,7 @@
 -- What a formula means in a state depends on the states only that can be reached from it.
 use mathlib.Core.Path.{◌≡◌, refl, sym, ap₂, subst, ◌∙◌}
 use mathlib.Core.Logic.{◌↔◌}
-use mathlib.Core.Bool.{Bool, not, cond, true, false, ◌&&◌, ◌||◌}
+use mathlib.Core.Bool.{Bool, not, true, false, ◌&&◌, ◌||◌}
 use mathlib.Core.List.{List, Mem}
 use Prim.Native.Nat.{ℕ, suc}
 use lib.Dec.{T, eqb, eqb→eq, T_not}
@@ -9,6 +9,7 @@ use Rattle.sets.specs.States.{States, has, start, Valuation, update}
 use Rattle.sets.proofs.Lists.{table_at, or_either, and_left, and_right, and_both, implies_antisym}
 use Rattle.sets.proofs.Members.{member_some, some_member, every_member, member_every}
 use Rattle.sets.proofs.FixedPoint.{repeated_related}
+use Rattle.sets.proofs.Valuation.{update_kept}
 use Rattle.cases.specs.Action.{Action}
 use Rattle.cases.specs.Formula.{Formula, False, True, And, Or, Box, Diamond, Variable, Fix}
 use Rattle.cases.specs.File.{Transition}
@@ -83,15 +84,6 @@ module _ {c c' : Case} (same : SameFromReachable c c') (bounded : Bounded c) whe
   agree_by : (f g : ℕ → Bool) → ((s : ℕ) → Reachable c s → f s ≡ g s) → Agree (set_of n f) (set_of n g)
   agree_by f g h s r = let low = reached_below c bounded r in table_at f n s false low ∙ h s r ∙ sym (table_at g n s false low)
 
-  -- Valuations agree also where a variable gets sets that do.
-  agree_update : (ρ σ : Valuation) → ((i : ℕ) → Agree (ρ i) (σ i)) → (i : ℕ) (v w : States) → Agree v w → (j : ℕ) → Agree (update ρ i v j) (update σ i w j)
-  unfolding update
-  agree_update ρ σ h i v w g j = go (eqb j i)
-    where
-      go : (b : Bool) → Agree (cond b v (ρ j)) (cond b w (σ j))
-      go true = g
-      go false = h j
-
   -- So meanings agree.
   meaning_agrees : (a : Formula) (ρ σ : Valuation) → ((i : ℕ) → Agree (ρ i) (σ i)) → Agree (meaning n ts a ρ) (meaning n us a σ)
   unfolding meaning
@@ -103,7 +95,7 @@ module _ {c c' : Case} (same : SameFromReachable c c') (bounded : Bounded c) whe
   meaning_agrees (Diamond α a) ρ σ h = agree_by _ _ (λ s r. diamond_alike n α s ts us _ _ (alike_from _ _ (meaning_agrees a ρ σ h) s r))
   meaning_agrees (Variable i) ρ σ h = h i
   meaning_agrees (Fix sign i a) ρ σ h =
-      repeated_related Agree (body_of n ts i a ρ) (body_of n us i a σ) (λ v w g. meaning_agrees a (update ρ i v) (update σ i w) (agree_update ρ σ h i v w g))
+      repeated_related Agree (body_of n ts i a ρ) (body_of n us i a σ) (λ v w g. meaning_agrees a (update ρ i v) (update σ i w) (update_kept Agree ρ σ i v w h g))
       (suc n) (start n sign) (start n sign) (λ s r. refl)
 
   -- What the formula means agrees in the states that can be reached.

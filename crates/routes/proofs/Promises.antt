@@ -319,6 +319,18 @@ module _ (b b' : List ℕ) (same : SameTransitionSet (case_of b) (case_of b')) w
 
 -- ---- Which states can be reached
 
+-- Two cases with the same states, initial state and formula, and the same transitions from the states that can be reached in the first: what other
+-- states do does not matter.
+module _ (b b' : List ℕ) (same : SameFromReachable (case_of b) (case_of b')) where
+  -- They can reach the same states.
+  pub same_reachable : (s : ℕ) → Reachable (case_of b) s ↔ Reachable (case_of b') s
+  same_reachable s = (still_reached same, reached_before same)
+
+  -- Where the first is accepted, the formula means the same in each of these.
+  pub reachable_meaning : Accepted b → (ρ : Valuation) (v w : States) → MeansIn (case_of b) ρ v → MeansIn (case_of b') ρ w
+      → (s : ℕ) → Reachable (case_of b) s → has v s ≡ has w s
+  reachable_meaning accepted = means_agrees same (accepted_bounded b accepted)
+
 -- a state of the first sets is one of the second, if it is where the second of each has it
 counted_in : (n n' : ℕ) (v w v' w' : States) → ((s : ℕ) → T (has w s) → (T (has w' s) × (s < n')) × (T (has v s) → T (has v' s)))
     → (s : ℕ) → T (has (intersection n v w) s) → T (has (intersection n' v' w') s)
@@ -327,8 +339,7 @@ counted_in n n' v w v' w' h s t =
     let ((there, low), held) = h s (and_right (has v s) (has w s) b) in
     set_of_has n' (λ s. has v' s && has w' s) s low (and_both (has v' s) (has w' s) (held (and_left (has v s) (has w s) b)) there)
 
--- Two accepted cases with the same states, initial state and formula, and the same transitions from the states that can be reached: what other states
--- do does not matter. Runs that give marks, by either route, at whatever limits and lent memory, mark the same of the states that can be reached, and are
+-- Runs over two such cases that give marks, by either route, at whatever limits and lent memory, mark the same of the states that can be reached, and are
 -- alike in verdict and count. Their rounds, and the marks of other states, may differ.
 module _ {R R' : Route} {b b' : List ℕ} {l l' : Lent} {limit limit' : ℕ} {o o' : Outcome} {t t' : Tally} {marks' marks'' : List ℕ} (ran : Ran R b l limit o t marks')
     (ran' : Ran R' b' l' limit' o' t' marks'') (same : SameFromReachable (case_of b) (case_of b')) (g : GivesMarks o) (g' : GivesMarks o') where
@@ -347,7 +358,7 @@ module _ {R R' : Route} {b b' : List ℕ} {l l' : Lent} {limit limit' : ℕ} {o 
   held_alike : (s : ℕ) → Reachable c s → has (run_of R c).0 s ≡ has (run_of R' c').0 s
   held_alike =
       let none = none_sized c.states in
-      means_agrees same bounded (all_empty c.states) (run_of R c).0 (run_of R' c').0 (run_in b (accepted_run ran g) R (all_empty c.states) none)
+      reachable_meaning b b' same (accepted_run ran g) (all_empty c.states) (run_of R c).0 (run_of R' c').0 (run_in b (accepted_run ran g) R (all_empty c.states) none)
       (run_in b' (accepted_run ran' g') R' (all_empty c.states) (subst (λ (n : ℕ). Sized n (all_empty c.states)) same.states none))
 
   pub reachable_marks : (s : ℕ) → Reachable c s → marked marks' s ≡ marked marks'' s

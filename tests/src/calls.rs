@@ -1,6 +1,7 @@
 //! The calls under test, as a caller sees them: four on files, and four that open and change a model.
 
 use crate::formats::Transition;
+use crate::reach;
 
 /// The five numbers that translate and solve answer; verdict, count and rounds are 0 after a refusal.
 #[repr(C)]
@@ -24,10 +25,15 @@ impl Numbers {
         Numbers { length: length as u64, ..Numbers::default() }
     }
 
-    /// The report on a set of states.
+    /// The report of solve on a set of states, all of which it counts.
     pub fn report(set: &[bool], initial: usize, rounds: u64) -> Numbers {
         let count = set.iter().filter(|&&marked| marked).count() as u64;
         Numbers { refusal: 0, verdict: set[initial] as u64, count, rounds, length: 0 }
+    }
+
+    /// The report of a route over a case, which counts those of the set that are reached.
+    pub fn route_report(set: &[bool], reached: &[bool], initial: usize, rounds: u64) -> Numbers {
+        Numbers { count: reach::count(set, reached), ..Numbers::report(set, initial, rounds) }
     }
 }
 

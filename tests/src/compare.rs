@@ -7,6 +7,7 @@ use crate::meaning;
 use crate::names::{self, brought_up, BROUGHT_UP};
 use crate::price;
 use crate::random::Random;
+use crate::reach;
 use crate::reader::{read_case, read_equations};
 use crate::rounds::{self, Solved};
 use crate::tables;
@@ -44,6 +45,8 @@ pub struct Tally {
     pub direct: Solving,
     /// Accepted cases with recorded copies.
     pub copied: u64,
+    /// Accepted cases with marked states that are not reached, so that they do not count.
+    pub uncounted: u64,
     /// Accepted cases of version 2.
     pub named: u64,
     /// Those of them whose names bring up what `names::BROUGHT_UP` lists.
@@ -64,6 +67,7 @@ impl Tally {
         self.equations.add(other.equations.searched, other.equations.capped);
         self.direct.add(other.direct.searched, other.direct.capped);
         self.copied += other.copied;
+        self.uncounted += other.uncounted;
         self.named += other.named;
         for (mine, theirs) in self.brought_up.iter_mut().zip(other.brought_up) {
             *mine += theirs;
@@ -71,9 +75,10 @@ impl Tally {
     }
 
     /// Counts an accepted case.
-    fn accept(&mut self, case: &Case, recorded: Recorded) {
+    fn accept(&mut self, case: &Case, direct: &DirectTruth) {
         self.refused[0] += 1;
-        self.copied += (recorded.distinct < recorded.records) as u64;
+        self.copied += (direct.recorded.distinct < direct.recorded.records) as u64;
+        self.uncounted += direct.leaves_some_uncounted() as u64;
         self.named += (case.labels.version() == 2) as u64;
         for (count, shown) in self.brought_up.iter_mut().zip(brought_up(case)) {
             *count += shown as u64;
@@ -145,6 +150,8 @@ impl CaseTruth {
 pub struct DirectTruth {
     initial: usize,
     recorded: Recorded,
+    /// The states that are reached.
+    reached: Vec<bool>,
     cap: u64,
     /// The root's set and the rounds, unless these are above the cap.
     solved: Option<(Vec<bool>, u64)>,
@@ -155,13 +162,19 @@ impl DirectTruth {
     pub fn of(case: &Case, budget: u64) -> DirectTruth {
         let work = case.formula.len() * (case.states + case.transitions.len());
         let cap = (budget / work as u64).max(30);
-        let recorded = tables::recorded(&case.transitions);
-        DirectTruth { initial: case.initial, recorded, cap, solved: rounds::direct(case, cap).ok() }
+        let (recorded, reached) = (tables::recorded(&case.transitions), reach::reached(case));
+        DirectTruth { initial: case.initial, recorded, reached, cap, solved: rounds::direct(case, cap).ok() }
     }
 
     /// The states where the formula holds, if they were found.
     pub fn states(&self) -> Option<&Vec<bool>> {
         self.solved.as_ref().map(|(set, _)| set)
+    }
+
+    /// Does the formula hold in states that are not reached?
+    fn leaves_some_uncounted(&self) -> bool {
+        let some = |set: &Vec<bool>| set.iter().zip(&self.reached).any(|(&marked, &reached)| marked && !reached);
+        self.states().is_some_and(some)
     }
 
     fn own_rounds(&self) -> Option<u64> {
@@ -183,7 +196,7 @@ impl DirectTruth {
         let (answer, written) = match &self.solved {
             _ if marks < MARK_WORDS => (Numbers::refused(13), Vec::new()),
             Some((set, rounds)) if *rounds <= limit => {
-                (Numbers::report(set, self.initial, *rounds), mark_words(set).to_vec())
+                (Numbers::route_report(set, &self.reached, self.initial, *rounds), mark_words(set).to_vec())
             }
             solved => {
                 assert!(solved.is_some() || limit <= self.cap);
@@ -204,6 +217,16 @@ struct Outcome {
 impl Outcome {
     fn refused(number: u64) -> Outcome {
         Outcome { numbers: Numbers::refused(number), work: Work::Unchanged, marks: Vec::new() }
+    }
+
+    /// What the equation route must answer and leave where solve does this: the same, and of the marked states it counts
+    /// those that are reached.
+    fn over_case(mut self, reached: &[bool]) -> Outcome {
+        let marked = |s: &usize| self.marks[s / 64] >> (s % 64) & 1 == 1;
+        if self.numbers.refusal == 0 {
+            self.numbers.count = (0..reached.len()).filter(|&s| reached[s]).filter(marked).count() as u64;
+        }
+        self
     }
 }
 
@@ -287,7 +310,7 @@ impl Comparison<'_> {
                 Ok(())
             }
             CaseTruth::Accepted { case, direct, file, solve } => {
-                self.tally.accept(case, direct.recorded);
+                self.tally.accept(case, direct);
                 for size in sizes(file.len()) {
                     self.translate(bytes, truth, size)?;
                 }
@@ -353,8 +376,8 @@ impl Comparison<'_> {
         }
     }
 
-    /// What the reference says of a case. Both ways to find the accepted labels must agree, and so must the rounds'
-    /// set, the parity game and the search.
+    /// What the reference says of a case. Both ways to find the accepted labels must agree, both ways to find the
+    /// reached states, and so must the rounds' set, the parity game and the search.
     pub fn case_truth(&mut self, bytes: &[u8]) -> Result<CaseTruth, String> {
         let case = match read_case(bytes) {
             Ok(case) => case,
@@ -365,6 +388,9 @@ impl Comparison<'_> {
         }
         if !names::agreed(&case) {
             return Err("reference: sorted names and permutations accept different labels".to_string());
+        }
+        if !reach::agreed(&case) {
+            return Err("reference: a matrix and passes over the records reach different states".to_string());
         }
         let equations = tables::equations(&case);
         let file = equations.bytes();
@@ -470,7 +496,9 @@ impl Comparison<'_> {
         let (expected, written) = match truth {
             CaseTruth::Refused(number) => (Outcome::refused(*number), &[][..]),
             CaseTruth::Accepted { file, .. } if file_size < file.len() => (Outcome::refused(13), &[][..]),
-            CaseTruth::Accepted { file, solve, .. } => (solve.solve(work_size, marks_size, limit), &file[..]),
+            CaseTruth::Accepted { direct, file, solve, .. } => {
+                (solve.solve(work_size, marks_size, limit).over_case(&direct.reached), &file[..])
+            }
         };
         let input = bytes.to_vec();
         let mut file = Lent::bytes(file_size, &mut self.random);

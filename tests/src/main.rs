@@ -15,8 +15,8 @@ use bithrowy_tests::reader::{read_case, CASE_CONDITIONS};
 use bithrowy_tests::rules::Broken;
 use bithrowy_tests::slips::{Reference, Slip};
 use bithrowy_tests::{
-    case_rules, copies, damage, edges, laws, lent, listing, paper, price, priced, program, rules, shrink, stream,
-    tables, worked,
+    case_rules, copies, counted, damage, edges, laws, lent, listing, paper, price, priced, program, reach, rules,
+    shrink, stream, tables, worked,
 };
 use library::Library;
 use std::path::Path;
@@ -38,6 +38,8 @@ const SEARCHED_ONE_IN: u64 = 8;
 const CAPPED_ONE_IN: u64 = 100;
 /// Of the accepted cases at least one in so many has recorded copies. Measured: two in three.
 const COPIED_ONE_IN: u64 = 2;
+/// Of the accepted cases at least one in so many has marked states that are not reached. Measured: one in 2.2.
+const UNCOUNTED_ONE_IN: u64 = 5;
 /// Of the accepted cases at least one in so many is of version 1, and one in so many of version 2. Measured: one in two.
 const VERSION_ONE_IN: u64 = 3;
 /// Of the accepted cases of version 2 at least one in so many brings up each thing that names can. Measured: one in 2.8
@@ -165,6 +167,13 @@ impl Group {
         assert!(copied * COPIED_ONE_IN >= accepted, "{}: only {copied} of {accepted} with copies", self.name);
     }
 
+    /// Many of the accepted cases have marked states that are not counted.
+    fn assert_many_uncounted(&self) {
+        let (uncounted, accepted) = (self.tally.uncounted, self.tally.refused[0]);
+        let many = uncounted * UNCOUNTED_ONE_IN >= accepted;
+        assert!(many, "{}: only {uncounted} of {accepted} mark states that are not reached", self.name);
+    }
+
     /// Many of the accepted cases are of each version, and many of version 2 bring up what names can.
     fn assert_both_versions(&self) {
         let (named, accepted) = (self.tally.named, self.tally.refused[0]);
@@ -189,7 +198,8 @@ impl Group {
         let mut accepted: Vec<String> = self.kind.routes(&tally).into_iter().map(text).collect();
         if self.kind == Kind::Case {
             let brought_up = tally.brought_up.iter().zip(BROUGHT_UP).map(|(count, what)| format!("{what}: {count}"));
-            accepted.push(format!("with copies: {}, version 2: {}", tally.copied, tally.named));
+            let Tally { copied, uncounted, named, .. } = tally;
+            accepted.push(format!("with copies: {copied}, some uncounted: {uncounted}, version 2: {named}"));
             accepted.extend(brought_up);
         }
         println!(
@@ -225,10 +235,10 @@ fn main() {
     report("cases with prices worked out by hand, library", Instant::now(), priced::check(&Library));
     report("marks at the edges of words, reference", Instant::now(), edges::check(&Reference(None)));
     report("marks at the edges of words, library", Instant::now(), edges::check(&Library));
-    assert!(
-        edges::check(&Reference(Some(Slip::WordUncounted))).is_err(),
-        "a word left out of the count is noticed there"
-    );
+    for slip in [Slip::WordUncounted, Slip::AllCounted, Slip::OnePass, Slip::AcceptedFollowed] {
+        assert!(edges::check(&Reference(Some(slip))).is_err(), "{slip:?} is noticed there");
+    }
+    report("states that are reached, worked out by hand", Instant::now(), reach::check());
     report("lent places and guards, each element touched", start, lent::check());
     each_rule(seed, Kind::Case, "cases, each rule of 1 to 10 and 15 in both versions, and pairs");
     each_rule(seed, Kind::Equations, "equation files, each rule of 11 and 12 and pairs");
@@ -301,6 +311,7 @@ fn cases(seed: u64) {
     assert!(group.tally.refused[0] >= 20_000, "20,000 accepted cases");
     group.assert_many_searched();
     group.assert_many_copied();
+    group.assert_many_uncounted();
     group.assert_both_versions();
     group.end();
 }
@@ -318,7 +329,7 @@ fn known_prices(seed: u64) {
 /// All combinations of lent sizes around the needed ones.
 fn all_sizes(seed: u64) {
     let mut group = Group { sizes: Sizes::All, ..Group::new("cases, all lent sizes", Kind::Case) };
-    for run in [paper::runs(), paper::named_runs(), worked::runs()].concat() {
+    for run in [paper::runs(), paper::named_runs(), worked::runs(), counted::runs()].concat() {
         group.compare(seed, &run.case.bytes());
     }
     for seed in seed..seed + 150 {
@@ -358,6 +369,7 @@ fn damaged_cases(seed: u64) {
     assert!(each, "a case for each of 1 to 10 and 15");
     group.assert_many_searched();
     group.assert_many_copied();
+    group.assert_many_uncounted();
     group.assert_both_versions();
     group.end();
 }

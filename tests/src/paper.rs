@@ -3,6 +3,7 @@
 
 use crate::calls::{Calls, EquationNumbers, Numbers, RouteNumbers, MARK_WORDS};
 use crate::compare::Check;
+use crate::counted;
 use crate::damage::with_number;
 use crate::formats::*;
 use crate::text::{case, with_own_names};
@@ -30,9 +31,10 @@ pub struct Run {
 }
 
 impl Run {
-    /// Every run here is solved or refused for its case. A refused one costs 0. Those that are solved have at most 14
-    /// cells, so they are free, and the minimum makes that 5.
+    /// Every run is solved or refused for its case. A refused one costs 0. Those that are solved have at most 100 cells, so
+    /// they are free, and the minimum makes that 5.
     pub fn new(name: &'static str, case: Case, equation: Line, direct: Line, recorded: Pair, marks: u64) -> Run {
+        assert!(equation[0] != 0 || case.states * (case.formula.len() + 1) <= 100, "{name}: a free run");
         let (run, direct) = (answer(equation, recorded), answer(direct, recorded));
         let cents = if run.refusal == 0 { 5 } else { 0 };
         Run { name, case, equation: EquationNumbers { run, cents }, direct, marks }
@@ -187,7 +189,7 @@ impl Held {
 /// compared.
 pub fn check(calls: &dyn Calls) -> Result<u64, String> {
     let mut held = Held(0);
-    for run in [runs(), named_runs(), worked::runs()].concat() {
+    for run in [runs(), named_runs(), worked::runs(), counted::runs()].concat() {
         let bytes = run.case.bytes();
         let marks = if run.equation.run.refusal == 0 { [run.marks, 0, 0, 0] } else { UNTOUCHED };
         held.to(&run.title(), both_left(calls, &bytes), ((run.equation, marks), (run.direct, marks)))?;

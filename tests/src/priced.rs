@@ -1,4 +1,5 @@
-//! Cases whose rounds, cells and prices are worked out by hand. In each of them the formula holds in all states.
+//! Cases whose rounds, cells and prices are worked out by hand. In each of them the formula holds in all states, and the
+//! transitions are paths from the initial state.
 
 use crate::calls::{Calls, EquationNumbers, Numbers, Recorded, RouteNumbers, MARK_WORDS};
 use crate::compare::{same, Check};
@@ -145,10 +146,15 @@ type Sizes = [usize; 3];
 const ROOM: Sizes = [EQUATION_HEADER + 8 * BLOCKS + 12 * CELLS + 4 * OPERANDS, CELLS, MARK_WORDS];
 
 impl Priced {
-    /// What a run answers that is refused with this number, or 0, for so many cents. All states are in the set.
+    /// What a run answers that is refused with this number, or 0, for so many cents. All states are in the set. The
+    /// transitions are paths from state 0, which is the initial one, so what is reached are the states before the
+    /// longest one's end, and that.
     fn answer(&self, refusal: u64, cents: u64) -> EquationNumbers {
         let numbers = match refusal {
-            0 => Numbers::report(&vec![true; self.case.states], self.case.initial, self.rounds),
+            0 => Numbers {
+                count: self.case.transitions.iter().map(|t| t.target + 1).max().unwrap_or(1) as u64,
+                ..Numbers::report(&vec![true; self.case.states], self.case.initial, self.rounds)
+            },
             _ => Numbers::refused(refusal),
         };
         // No transition is there twice.

@@ -2,6 +2,7 @@
 //! standard output.
 
 use crate::calls::{Calls, MARK_WORDS};
+use crate::counted;
 use crate::damage::with_number;
 use crate::editing::lists;
 use crate::editing::stream::{of_list, printed, stdin_and_stdout, Stream};
@@ -54,7 +55,7 @@ const SPENT: &str = "more rounds than the limit in the equation route";
 type Inputs = Vec<(&'static str, Vec<u8>)>;
 
 fn cases() -> Inputs {
-    let runs = [runs(), named_runs(), worked::runs()].concat();
+    let runs = [runs(), named_runs(), worked::runs(), counted::runs()].concat();
     let mut all: Inputs = runs.iter().map(|run| (run.name, run.case.bytes())).collect();
     all.extend(numbered_cases());
     all.extend(named_cases());
@@ -235,7 +236,8 @@ fn edit_streams() -> Inputs {
 /// The program `editor` of a folder.
 pub fn editor(folder: &Path) -> Result<u64, String> {
     let p1 = runs()[0].case.bytes();
-    assert_eq!(printed(&each_call(&p1)), "open 0\nadd 0\ndrop 0\nwant 0 1 2 2 2 2\n");
+    // Without the click 0 and 2 have no transition and are marked in the first round; 1 has a loop. Only 0 is reached.
+    assert_eq!(printed(&each_call(&p1)), "open 0\nadd 0\ndrop 0\nwant 0 1 1 2 2 2\n");
     let binary = folder.join("editor");
     let compared = compare(&binary, [cut_streams(), ended_streams(), edit_streams()].concat(), printed)?;
     let (stdin, stdout) = stdin_and_stdout();

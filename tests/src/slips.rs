@@ -1,15 +1,16 @@
-//! The paper's "Slips seen in such programs", and slips in the numbers of records, in the names of labels, in the count and
-//! in the price, as wrong versions of the calls. The comparison must notice each of them.
+//! The paper's "Slips seen in such programs", and slips in the numbers of records, in the names of labels, in the count, in
+//! which states it covers, and in the price, as wrong versions of the calls. The comparison must notice each of them.
 
 use crate::calls::{mark_words, Calls, EquationNumbers, Numbers, Recorded, RouteNumbers, MARK_WORDS};
 use crate::formats::*;
 use crate::meaning::{accepted_by_node, cell_values};
+use crate::misreached::Route;
 use crate::names::alike;
 use crate::price::Run;
 use crate::reader::{read_equations, read_in_order};
 use crate::rounds::{self, Counter, Solved, Spent};
 use crate::tables;
-use crate::{mispriced, misread};
+use crate::{mispriced, misreached, misread};
 
 #[derive(Clone, Copy, Debug, PartialEq, Eq)]
 pub enum Slip {
@@ -51,6 +52,32 @@ pub enum Slip {
     TallyAfterNames,
     /// The first of the mark words left out of the count.
     WordUncounted,
+    /// All marked states counted by the routes, reached or not.
+    AllCounted,
+    /// The same by the equation route alone, which answers the number that solve counts.
+    SolveCountKept,
+    /// The reached states counted, marked or not.
+    MarksUnasked,
+    /// The initial state and every transition's target taken as reached, wherever the transition starts.
+    TargetsReached,
+    /// The initial state left out unless some transition from a reached state enters it.
+    InitialUncounted,
+    /// Only one transition followed from the initial state.
+    OneStep,
+    /// The records passed over once, in their order.
+    OnePass,
+    /// Only those labels followed that some box or diamond of the formula accepts.
+    AcceptedFollowed,
+    /// Silent labels not followed.
+    SilentNotFollowed,
+    /// Transitions followed from target to source.
+    Backwards,
+    /// State 0 taken as the initial one.
+    FromStateZero,
+    /// The verdict tells whether some reached state is marked.
+    VerdictOfReached,
+    /// Only reached states marked.
+    MarksCut,
     /// The minimum looked at before the free rule.
     MinimumBeforeFree,
     /// 1,000 rounds of a solved run paid as two started thousands.
@@ -81,7 +108,7 @@ pub enum Slip {
     AddedRowUnpaid,
 }
 
-pub const SLIPS: [Slip; 33] = [
+pub const SLIPS: [Slip; 46] = [
     Slip::CopiesKept,
     Slip::LabelsMerged,
     Slip::InnerKept,
@@ -101,6 +128,19 @@ pub const SLIPS: [Slip; 33] = [
     Slip::BehindUnchecked,
     Slip::TallyAfterNames,
     Slip::WordUncounted,
+    Slip::AllCounted,
+    Slip::SolveCountKept,
+    Slip::MarksUnasked,
+    Slip::TargetsReached,
+    Slip::InitialUncounted,
+    Slip::OneStep,
+    Slip::OnePass,
+    Slip::AcceptedFollowed,
+    Slip::SilentNotFollowed,
+    Slip::Backwards,
+    Slip::FromStateZero,
+    Slip::VerdictOfReached,
+    Slip::MarksCut,
     Slip::MinimumBeforeFree,
     Slip::ThousandAsTwo,
     Slip::LimitAsTwo,
@@ -129,6 +169,11 @@ impl Slip {
         matches!(self, Slip::InnerKept | Slip::WordUncounted)
     }
 
+    /// Is it in which marked states the routes count, or in what they answer beside that?
+    pub fn in_reach(self) -> bool {
+        (Slip::AllCounted as usize..=Slip::MarksCut as usize).contains(&(self as usize))
+    }
+
     /// Is it in the price, and in nothing else? Those are the last.
     pub fn in_price(self) -> bool {
         self as usize >= Slip::MinimumBeforeFree as usize
@@ -140,6 +185,9 @@ impl Slip {
         matches!(self, ThousandAsTwo | FiveHundredAsTwo | NothingFree | HundredNotFree | MoreFree | AddedRowUnpaid)
     }
 }
+
+/// What is answered and marked of a set after so many rounds.
+type Report<'a> = dyn Fn(&Equations, &[bool], u64) -> (Numbers, [u64; MARK_WORDS]) + 'a;
 
 /// The calls by the reference, with a slip or with none.
 pub struct Reference(pub Option<Slip>);
@@ -183,7 +231,7 @@ impl Reference {
         }
     }
 
-    /// What is reported of a set.
+    /// What solve reports of a set.
     fn reported(&self, set: &[bool], initial: usize, rounds: u64) -> Numbers {
         let mut report = Numbers::report(set, initial, rounds);
         if self.0 == Some(Slip::WordUncounted) {
@@ -200,8 +248,32 @@ impl Reference {
         match self.directly(case, limit) {
             Err(Spent) => Numbers::refused(14),
             Ok((set, rounds)) => {
-                marks[..MARK_WORDS].copy_from_slice(&mark_words(&set));
-                self.reported(&set, case.initial, rounds)
+                marks[..MARK_WORDS].copy_from_slice(&misreached::marked(self.0, case, &set));
+                misreached::reported(self.0, Route::Direct, case, &set, rounds)
+            }
+        }
+    }
+
+    /// Solves an equation file, given what is reported and marked of block 0's set and the rounds.
+    fn solve_with(&self, file: &[u8], work: &mut [u8], marks: &mut [u64], limit: u64, report: &Report) -> Numbers {
+        let equations = match read_equations(file) {
+            Ok(equations) => equations,
+            Err(number) => return Numbers::refused(number),
+        };
+        let cells = equations.cells.len();
+        if work.len() < cells || marks.len() < MARK_WORDS {
+            return Numbers::refused(13);
+        }
+        work[..cells].fill(0);
+        match self.solved(&equations, limit) {
+            Err(Spent) => Numbers::refused(14),
+            Ok(solved) => {
+                for (byte, &value) in work.iter_mut().zip(&solved.cells) {
+                    *byte = value as u8;
+                }
+                let (numbers, words) = report(&equations, &solved.sets[0], solved.rounds);
+                marks[..MARK_WORDS].copy_from_slice(&words);
+                numbers
             }
         }
     }
@@ -390,25 +462,9 @@ impl Calls for Reference {
     }
 
     fn solve(&self, file: &[u8], work: &mut [u8], marks: &mut [u64], limit: u64) -> Numbers {
-        let equations = match read_equations(file) {
-            Ok(equations) => equations,
-            Err(number) => return Numbers::refused(number),
-        };
-        let cells = equations.cells.len();
-        if work.len() < cells || marks.len() < MARK_WORDS {
-            return Numbers::refused(13);
-        }
-        work[..cells].fill(0);
-        match self.solved(&equations, limit) {
-            Err(Spent) => Numbers::refused(14),
-            Ok(solved) => {
-                for (byte, value) in work.iter_mut().zip(solved.cells) {
-                    *byte = value as u8;
-                }
-                marks[..MARK_WORDS].copy_from_slice(&mark_words(&solved.sets[0]));
-                self.reported(&solved.sets[0], equations.initial, solved.rounds)
-            }
-        }
+        self.solve_with(file, work, marks, limit, &|equations, set, rounds| {
+            (self.reported(set, equations.initial, rounds), mark_words(set))
+        })
     }
 
     fn direct(&self, bytes: &[u8], marks: &mut [u64], limit: u64) -> RouteNumbers {
@@ -435,7 +491,14 @@ impl Calls for Reference {
             Ok(case) => {
                 let length = translated.length as usize;
                 let written = translated.refusal == 0;
-                let answer = if written { self.solve(&file[..length], work, marks, limit) } else { translated };
+                let answer = if written {
+                    self.solve_with(&file[..length], work, marks, limit, &|_, set, rounds| {
+                        let report = misreached::reported(self.0, Route::Equation, &case, set, rounds);
+                        (report, misreached::marked(self.0, &case, set))
+                    })
+                } else {
+                    translated
+                };
                 self.priced(&case, answer, written, limit)
             }
         }

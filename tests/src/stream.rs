@@ -1,9 +1,11 @@
 //! The cases that the program `runs` is held to, and the line that each must give.
 
 use crate::calls::{EquationNumbers, RouteNumbers};
+use crate::counted;
 use crate::formats::*;
 use crate::meaning;
 use crate::paper::{both_routes, named_runs, refused_cases, refused_names, runs, Run};
+use crate::reach::{self, backward_chain};
 use crate::reader::read_case;
 use crate::slips::Reference;
 use crate::tables;
@@ -48,7 +50,7 @@ pub fn beside(count: usize, sign: &str, body: &str) -> String {
 }
 
 /// P1 to P8, one damaged case for each of 1 to 10, and further cases; then the same for version 2, with the cases
-/// worked out by hand and damaged ones for 15.
+/// worked out by hand and damaged ones for 15; then cases with marked states that are not reached.
 pub fn cases() -> Vec<Vec<u8>> {
     let of_runs = |runs: Vec<Run>| -> Vec<Vec<u8>> { runs.iter().map(|run| run.case.bytes()).collect() };
     let refused = |cases: Vec<(u64, Vec<u8>)>| -> Vec<Vec<u8>> { cases.into_iter().map(|(_, bytes)| bytes).collect() };
@@ -62,6 +64,8 @@ pub fn cases() -> Vec<Vec<u8>> {
         refused(refused_cases(2)),
         refused(refused_names()),
         written(further_named()),
+        of_runs(counted::runs()),
+        written(far()),
     ]
     .concat()
 }
@@ -159,13 +163,22 @@ fn further_named() -> Vec<Case> {
     all
 }
 
+/// 256 marked states with a chain recorded from its end to its start: all of it, up to a state, and from one on.
+fn far() -> Vec<Case> {
+    let of = |initial: usize, to: usize| {
+        let case = case(STATES, 1, &backward_chain(0, to), "", "true");
+        Case { initial, ..case }
+    };
+    vec![of(0, 255), of(0, 191), of(64, 255), with_own_names(of(63, 128))]
+}
+
 /// The answers of the equation route and of direct by the reference; the parity game must agree, and so must another count
 /// of the distinct records.
 pub fn reference_answers(bytes: &[u8]) -> (EquationNumbers, RouteNumbers) {
     let (equation, direct) = both_routes(&Reference(None), bytes);
     if let Ok(case) = read_case(bytes) {
         let set = meaning::states_by_game(&case);
-        let count = set.iter().filter(|&&marked| marked).count() as u64;
+        let count = reach::count(&set, &reach::reached(&case));
         for answer in [equation.run, direct] {
             assert_eq!(answer.recorded(), tables::recorded(&case.transitions), "first appearances and equal ones");
             if answer.refusal == 0 {

@@ -5,6 +5,7 @@ use super::held::Held;
 use crate::calls::{Calls, MARK_WORDS};
 use crate::formats::*;
 use crate::meaning;
+use crate::reach;
 use crate::reader::read_case;
 use crate::slips::Reference;
 use crate::stream::{line, same_files};
@@ -112,7 +113,7 @@ fn wanted(case: &Case, limit: u64) -> String {
     let x = Reference(None).direct(&case.bytes(), &mut [0; MARK_WORDS], limit);
     if x.refusal == 0 {
         let game = meaning::states_by_game(case);
-        let count = game.iter().filter(|&&marked| marked).count() as u64;
+        let count = reach::count(&game, &reach::reached(case));
         assert_eq!((x.verdict, x.count), (game[case.initial] as u64, count), "rounds and game");
     }
     line("want", &[x.refusal, x.verdict, x.count, x.rounds, x.records, x.distinct]) + "\n"

@@ -34,16 +34,19 @@ fn steps() -> Vec<(Step, Vec<Triple>)> {
         (Drop(click, 0), vec![other, close]),
         (Drop(click, 17), vec![other, close]),
         (Want(4, [0, 1, 3, 4, 2, 2], 7), vec![other, close]),
-        // The last record itself is dropped. Closing and closed have no step left and hold first.
+        // The last record itself is dropped. Closing and closed have no step left and hold first. No path leads to closed
+        // any more: it is marked and not counted.
         (Drop(close, 0), vec![other]),
-        (Want(3, [0, 1, 3, 3, 1, 1], 7), vec![other]),
-        // No step is left: all states hold in the first round, and the second finds nothing new.
+        (Want(3, [0, 1, 2, 3, 1, 1], 7), vec![other]),
+        // No step is left: all states hold in the first round, and the second finds nothing new. Open alone is reached.
         (Drop(other, 0), vec![]),
-        (Want(2, [0, 1, 3, 2, 0, 0], 7), vec![]),
+        (Want(2, [0, 1, 1, 2, 0, 0], 7), vec![]),
         (Want(1, [14, 0, 0, 0, 0, 0], 0), vec![]),
         (Drop(other, 17), vec![]),
-        // Added back in another order.
+        // Added back in another order. The close alone starts in a state that is not reached: open and closed hold first,
+        // then closing, and the third round finds nothing new; open is counted. With the click all three are.
         (Add(close, 0), vec![close]),
+        (Want(3, [0, 1, 1, 3, 1, 1], 7), vec![close]),
         (Add(click, 0), vec![close, click]),
         (Want(4, [0, 1, 3, 4, 2, 2], 7), vec![close, click]),
         // A loop from closing to itself: only closed holds, found in the first round; the second finds nothing new.

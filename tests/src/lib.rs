@@ -28,6 +28,7 @@ pub mod priced;
 pub mod program;
 pub mod random;
 pub mod reach;
+pub mod reach_laws;
 pub mod reader;
 pub mod rounds;
 pub mod rules;

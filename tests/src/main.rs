@@ -7,6 +7,7 @@ mod library;
 mod planted;
 
 use bithrowy_tests::compare::{Check, Comparison, Sizes, Solving, Tally, Truth};
+use bithrowy_tests::editing::slips::Editor;
 use bithrowy_tests::formats::*;
 use bithrowy_tests::generate::{self, Size};
 use bithrowy_tests::names::BROUGHT_UP;
@@ -15,8 +16,8 @@ use bithrowy_tests::reader::{read_case, CASE_CONDITIONS};
 use bithrowy_tests::rules::Broken;
 use bithrowy_tests::slips::{Reference, Slip};
 use bithrowy_tests::{
-    case_rules, copies, counted, damage, edges, laws, lent, listing, paper, price, priced, program, reach, rules,
-    shrink, stream, tables, worked,
+    case_rules, copies, counted, damage, edges, laws, lent, listing, paper, price, priced, program, reach, reach_laws,
+    rules, shrink, stream, tables, worked,
 };
 use library::Library;
 use std::path::Path;
@@ -245,6 +246,7 @@ fn main() {
     cases(seed);
     report("changes of names that change nothing, library", Instant::now(), laws::check(&Library, seed));
     report("larger limits for solved runs, library", Instant::now(), laws::larger_limits(&Library, seed));
+    laws_of_reach(seed);
     known_prices(seed);
     all_sizes(seed);
     tables_of_copies(seed);
@@ -266,6 +268,14 @@ fn main() {
     report("program solvefile", Instant::now(), program::solvefile(&programs));
     report("program editor", Instant::now(), program::editor(&programs));
     println!("all passed; {:.1} s", start.elapsed().as_secs_f64());
+}
+
+/// The laws of what is counted, which nearly all slips in it break.
+fn laws_of_reach(seed: u64) {
+    let (start, rules) = (Instant::now(), Editor(None));
+    report("laws of the count, reference", start, reach_laws::check(&Reference(None), &rules, seed));
+    report("laws of the count, library", Instant::now(), reach_laws::check(&Library, &Library, seed));
+    report("laws of the count, slips", Instant::now(), reach_laws::check_slips(seed));
 }
 
 /// A file for each rule of each condition, and files that break two rules.

@@ -1,5 +1,5 @@
-//! The cases that are timed: three of a catalogue's size, the largest of version 1, a deep alternation, two of version 2, and one with many
-//! marked states and little else.
+//! The cases that are timed: three of a catalogue's size, the largest of version 1, a deep alternation, two of version 2, one with many
+//! marked states and little else, one in which the states are reached one by one, and one in which most are not.
 
 /// An action formula.
 enum Action {
@@ -381,6 +381,29 @@ fn marked() -> Vec<u8> {
     case(256, 1, &[], &True)
 }
 
+/// 256 states, all of them marked and all reached, along a chain that is recorded from its end to its start; from each state seven loops, and
+/// those first: a pass over the records finds one state more.
+fn backwards() -> Vec<u8> {
+    let loops = (0..256).flat_map(|s| (1..8).map(move |x| (s, x, s)));
+    let chain = (0..255).rev().map(|s| (s, 0, s + 1));
+    let transitions: Vec<Transition> = loops.chain(chain).collect();
+    case(256, 8, &transitions, &True)
+}
+
+/// What a recorder left behind: of 256 states 32 are reached, and the others lead to any. From each state eight transitions. Some way leads to
+/// a step under label 7, from all states.
+fn left() -> Vec<u8> {
+    let mut random = Random(0x9e1d_35c2_7b04_f86b);
+    let mut transitions = Vec::new();
+    for i in 0..2048 {
+        let source = i % 256;
+        let among = if source < 32 { 32 } else { 256 };
+        let target = if i < 256 { (source + 1) % among } else { random.below(among) };
+        transitions.push((source, random.below(8), target));
+    }
+    case(256, 8, &transitions, &mu("reach", or(some(label(7), True), some(Action::True, Variable("reach")))))
+}
+
 /// The largest case of version 2: 256 states, 2,048 different transitions, 64 labels, two of them alike each, 128 action nodes and 64 formula
 /// nodes. Eight transitions leave each state, the first record is (0, 0, 1), the last one (255, 0, 7), and none from state 0 has label 63.
 pub fn largest_named() -> Vec<u8> {
@@ -410,5 +433,7 @@ pub fn inputs() -> Vec<Input> {
         Input { name: "together", case: together() },
         Input { name: "crowded", case: crowded() },
         Input { name: "marked", case: marked() },
+        Input { name: "backwards", case: backwards() },
+        Input { name: "left", case: left() },
     ]
 }

@@ -4,6 +4,7 @@ pub mod cases;
 pub mod editor;
 pub mod price;
 pub mod program;
+pub mod reach;
 pub mod routes;
 pub mod sets;
 pub mod solver;

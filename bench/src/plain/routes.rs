@@ -2,6 +2,7 @@
 
 use super::cases::{self, action_masks, is_binder, node_at, transition_at, Header, NODES};
 use super::price;
+use super::reach;
 use super::sets::{self, Set, WORDS};
 use super::solver::{self, Report, BLOCKS};
 use super::translate::{self, First};
@@ -92,8 +93,10 @@ impl Formula<'_> {
     }
 }
 
-fn report_of(h: &Header, set: &Set, rounds: u64) -> Report {
-    Report { verdict: sets::test(set, h.initial), count: sets::count(set), rounds }
+/// How many states of a set are reached in an accepted case.
+fn count_reached(case: &[u8], h: &Header, set: &Set) -> usize {
+    let reached = reach::reached(&case[h.first..], h.transitions, h.states, h.initial);
+    sets::count(&sets::combine(set, &reached, false))
 }
 
 /// Evaluates the formula of a case on sets of states.
@@ -128,7 +131,7 @@ fn evaluated(case: &[u8], h: &Header, marks: &mut [u64], limit: u64) -> Result<R
     let mut rounds = 0;
     let (set, _) = formula.evaluate(&mut [sets::EMPTY; BLOCKS], 0, &mut rounds).map_err(|Spent| 14)?;
     marks[..WORDS].copy_from_slice(&set);
-    Ok(report_of(h, &set, rounds))
+    Ok(Report { verdict: sets::test(&set, h.initial), count: count_reached(case, h, &set), rounds })
 }
 
 /// Translates a case and solves its equation file.
@@ -140,7 +143,11 @@ pub fn equation(case: &[u8], file: &mut [u8], work: &mut [u8], marks: &mut [u64]
     let first = First::of(&case[h.first..], h.transitions);
     let written = translate::write(case, &h, &first, file);
     let cells = if written.is_ok() { solver::cells_of(file) } else { 0 };
-    let outcome = written.and_then(|length| solver::solve(&file[..length], work, marks, limit));
+    let outcome = written.and_then(|length| {
+        let report = solver::solve(&file[..length], work, marks, limit)?;
+        let set = marks[..WORDS].try_into().expect("solve asks for so many words");
+        Ok(Report { count: count_reached(case, &h, set), ..report })
+    });
     let cents = price::cents(&outcome, cells, limit);
     Priced { answer: Answer { outcome, records: h.transitions, distinct: first.count }, cents }
 }

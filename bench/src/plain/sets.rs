@@ -35,6 +35,14 @@ pub fn add(set: &mut Set, s: usize) {
     set[s / 64] |= 1 << (s % 64);
 }
 
+/// Takes the first state out of a set, if there is one.
+pub fn take(set: &mut Set) -> Option<usize> {
+    let i = set.iter().position(|&word| word != 0)?;
+    let s = 64 * i + set[i].trailing_zeros() as usize;
+    set[i] &= set[i] - 1;
+    Some(s)
+}
+
 /// How many states are in the set.
 pub fn count(set: &Set) -> usize {
     set.iter().map(|word| word.count_ones() as usize).sum()

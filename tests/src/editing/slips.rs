@@ -5,7 +5,7 @@ use crate::calls::{Calls, Edits, RouteNumbers};
 use crate::damage::{number_at, with_number};
 use crate::formats::*;
 use crate::reader::{read_case, read_tables, refuse_if, Refusal};
-use crate::slips::Reference;
+use crate::slips::{self, Reference};
 
 #[derive(Clone, Copy, Debug, PartialEq, Eq)]
 pub enum Slip {
@@ -43,9 +43,11 @@ pub enum Slip {
     TablesChecked,
     /// A want takes the whole model as its case.
     WholeModel,
+    /// A want counts all marked states, reached by what is held or not.
+    AllCounted,
 }
 
-pub const SLIPS: [Slip; 17] = [
+pub const SLIPS: [Slip; 18] = [
     Slip::LastTwice,
     Slip::CopyKept,
     Slip::HeldRefused,
@@ -63,6 +65,7 @@ pub const SLIPS: [Slip; 17] = [
     Slip::ShortFirst,
     Slip::TablesChecked,
     Slip::WholeModel,
+    Slip::AllCounted,
 ];
 
 impl Slip {
@@ -208,6 +211,7 @@ impl Edits for Editor {
 
     fn want(&self, model: &[u8], marks: &mut [u64], limit: u64) -> RouteNumbers {
         let case = if self.has(Slip::WholeModel) { model } else { case_of(model) };
-        Reference(None).direct(case, marks, limit)
+        let slip = self.has(Slip::AllCounted).then_some(slips::Slip::AllCounted);
+        Reference(slip).direct(case, marks, limit)
     }
 }

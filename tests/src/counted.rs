@@ -1,6 +1,7 @@
 //! Small cases in which the count covers fewer states than are marked, worked out by hand: marked states that no path from
 //! the initial state enters; and cases in which all marked states are reached, by ways that are easy to overlook.
 
+use crate::calls::Numbers;
 use crate::formats::*;
 use crate::paper::Run;
 use crate::text::{case, named, with_own_names};
@@ -14,6 +15,18 @@ fn p1_without_its_last() -> [Run; 2] {
     let case = case(3, 2, &[(0, 0, 1), (0, 0, 1)], "true", "mu X box 0 X");
     let run = |case| Run::new("P1 without (1,1,2)", case, [0, 1, 2, 3], [0, 1, 2, 3], [2, 1], 7);
     [run(case.clone()), run(with_own_names(case))]
+}
+
+/// The equation file of that case, number by number: rows of the mu, the box and the variable, three cells each. The box
+/// in state 0 has one operand, the variable's cell of state 1, which is cell 7; in 1 and 2 it has none. Solved by itself
+/// it takes the same 3 rounds and has the same marks, and all three of them are counted: the file has no transitions.
+pub fn p1_without_its_last_file() -> (Vec<u8>, Numbers) {
+    let header = [1, 3, 1, 9, 1, 0, 36, 44, 152];
+    let block = [0, 3];
+    let cells = [[2, 0, 0], [2, 0, 1], [2, 0, 2], [0, 0, 1], [0, 1, 0], [0, 1, 0], [2, 0, 0], [2, 0, 1], [2, 0, 2]];
+    let numbers = [&header[..], &block, &cells.concat(), &[7]].concat();
+    let bytes = numbers.iter().flat_map(|x: &u32| x.to_le_bytes()).collect();
+    (bytes, Numbers { refusal: 0, verdict: 1, count: 3, rounds: 3, length: 0 })
 }
 
 type Triple = (usize, usize, usize);

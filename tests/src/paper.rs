@@ -204,7 +204,20 @@ pub fn check(calls: &dyn Calls) -> Result<u64, String> {
     check_refused_runs(calls, &p1, &mut held)?;
     check_refused_runs(calls, &named_runs()[0].case.bytes(), &mut held)?;
     check_solve(calls, &p1_file(), &mut held)?;
+    check_bare_file(calls, &mut held)?;
     Ok(held.0)
+}
+
+/// The file of a case in which a marked state is not reached: written by translate, and solved by itself, which counts that
+/// state too.
+fn check_bare_file(calls: &dyn Calls, held: &mut Held) -> Check {
+    let (bytes, solved) = counted::p1_without_its_last_file();
+    let (mut file, mut work, mut marks) = (vec![0; bytes.len()], [9; 9], [9; 4]);
+    let case = counted::runs()[0].case.bytes();
+    held.to("P1 without (1,1,2), translated", calls.translate(&case, &mut file), Numbers::written(bytes.len()))?;
+    held.to("its equation file", &file, &bytes)?;
+    held.to("its file, solved", calls.solve(&bytes, &mut work, &mut marks, 3), solved)?;
+    held.to("its marks", marks, [7, 0, 0, 0])
 }
 
 /// The bytes of P1 in both versions, and its equation file, which is the same for both; and the equation file of a case

@@ -120,6 +120,7 @@ fn files() -> Inputs {
     let p1 = p1_file();
     let mut all = vec![
         ("P1's file", p1.clone()),
+        ("the file of P1 without (1,1,2)", counted::p1_without_its_last_file().0),
         ("empty", Vec::new()),
         ("a byte too long", [&p1[..], &[0]].concat()),
         ("a byte too short", p1[..159].to_vec()),
@@ -176,6 +177,7 @@ pub fn twosides(folder: &Path) -> Result<u64, String> {
 /// The program `solvefile` of a folder.
 pub fn solvefile(folder: &Path) -> Result<u64, String> {
     assert_eq!(solved(&p1_file()), "S 0 1 3 4\n");
+    assert_eq!(solved(&counted::p1_without_its_last_file().0), "S 0 1 3 3\n");
     compare(&folder.join("solvefile"), files(), solved)
 }
 

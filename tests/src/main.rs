@@ -14,7 +14,7 @@ use bithrowy_tests::names::BROUGHT_UP;
 use bithrowy_tests::random::Random;
 use bithrowy_tests::reader::{read_case, CASE_CONDITIONS};
 use bithrowy_tests::rules::Broken;
-use bithrowy_tests::slips::{Reference, Slip};
+use bithrowy_tests::slips::{Reference, Slip, SLIPS};
 use bithrowy_tests::{
     case_rules, copies, counted, damage, edges, laws, lent, listing, paper, price, priced, program, reach, reach_laws,
     rules, shrink, stream, tables, worked,
@@ -229,18 +229,7 @@ fn report(name: &str, start: Instant, result: Result<u64, String>) {
 fn main() {
     let seed = std::env::args().nth(1).map_or(1, |text| text.parse().expect("a seed"));
     let start = Instant::now();
-    report("paper, reference", start, paper::check(&Reference(None)));
-    report("paper, library", start, paper::check(&Library));
-    report("prices worked out by hand", Instant::now(), price::check());
-    report("cases with prices worked out by hand, reference", Instant::now(), priced::check(&Reference(None)));
-    report("cases with prices worked out by hand, library", Instant::now(), priced::check(&Library));
-    report("marks at the edges of words, reference", Instant::now(), edges::check(&Reference(None)));
-    report("marks at the edges of words, library", Instant::now(), edges::check(&Library));
-    for slip in [Slip::WordUncounted, Slip::AllCounted, Slip::OnePass, Slip::AcceptedFollowed] {
-        assert!(edges::check(&Reference(Some(slip))).is_err(), "{slip:?} is noticed there");
-    }
-    report("states that are reached, worked out by hand", Instant::now(), reach::check());
-    report("lent places and guards, each element touched", start, lent::check());
+    by_hand();
     each_rule(seed, Kind::Case, "cases, each rule of 1 to 10 and 15 in both versions, and pairs");
     each_rule(seed, Kind::Equations, "equation files, each rule of 11 and 12 and pairs");
     cases(seed);
@@ -268,6 +257,25 @@ fn main() {
     report("program solvefile", Instant::now(), program::solvefile(&programs));
     report("program editor", Instant::now(), program::editor(&programs));
     println!("all passed; {:.1} s", start.elapsed().as_secs_f64());
+}
+
+/// What is worked out by hand, or known without working anything out.
+fn by_hand() {
+    report("paper, reference", Instant::now(), paper::check(&Reference(None)));
+    report("paper, library", Instant::now(), paper::check(&Library));
+    report("prices worked out by hand", Instant::now(), price::check());
+    report("cases with prices worked out by hand, reference", Instant::now(), priced::check(&Reference(None)));
+    report("cases with prices worked out by hand, library", Instant::now(), priced::check(&Library));
+    report("marks at the edges of words, reference", Instant::now(), edges::check(&Reference(None)));
+    report("marks at the edges of words, library", Instant::now(), edges::check(&Library));
+    for slip in [Slip::WordUncounted, Slip::AllCounted, Slip::OnePass, Slip::AcceptedFollowed] {
+        assert!(edges::check(&Reference(Some(slip))).is_err(), "{slip:?} is noticed there");
+    }
+    for slip in SLIPS.into_iter().filter(|slip| slip.in_reach()) {
+        assert!(paper::check(&Reference(Some(slip))).is_err(), "{slip:?} is noticed in cases worked out by hand");
+    }
+    report("states that are reached, worked out by hand", Instant::now(), reach::check());
+    report("lent places and guards, each element touched", Instant::now(), lent::check());
 }
 
 /// The laws of what is counted, which nearly all slips in it break.

@@ -18,7 +18,8 @@ use Rattle.cases.specs.Meaning.{set_of, from, box_in, diamond_in, MeansIn}
 use Rattle.cases.specs.Reach.{Reachable, further, SameFromReachable}
 use Rattle.cases.specs.computed.Meanings.{meaning}
 use Rattle.cases.proofs.MeaningLaws.{body_of, means_unique}
-use Rattle.cases.proofs.Reaching.{Bounded, reached_below}
+use Rattle.cases.specs.internal.Search.{Bounded}
+use Rattle.cases.proofs.Reaching.{reached_below}
 
 -- From state s the two lists have the same transitions, and these end in states of which the two sets have the same.
 record AlikeFrom (ts us : List Transition) (x y : States) (s : ℕ) : Type 0 where

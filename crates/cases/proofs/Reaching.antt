@@ -1,10 +1,11 @@
 -- The states of a case that can be reached: the function gives them, and they are the least set that holds the initial state and is closed.
-use mathlib.Core.Path.{◌≡◌, sym, ap₂, subst, fun_ext, ◌∙◌}
+use mathlib.Core.Logic.{by_cases}
+use mathlib.Core.Path.{◌≡◌, refl, sym, ap₂, subst, fun_ext, ◌∙◌}
 use mathlib.Core.Bool.{Bool, false, ◌&&◌, ◌||◌}
-use mathlib.Core.List.{List, Mem}
+use mathlib.Core.List.{List, ◌++◌, Mem}
 use Prim.Native.Nat.{ℕ, suc, ◌<◌}
 use native.Mathlib.Omega.{arith}
-use native.Mathlib.Decide.{dec_lt}
+use native.Mathlib.Decide.{dec_lt, ℕ_discrete}
 use lib.Dec.{T, eqb, eqb→eq, eqb_refl, ltb, ltb→lt}
 use lib.ListN.{length, length-replicate, get_or-eq_default}
 use Rattle.sets.specs.Lists.{for_some}
@@ -15,11 +16,13 @@ use Rattle.sets.proofs.Members.{member_some, some_member, every_member}
 use Rattle.sets.proofs.Order.{subset_antisym, empty}
 use Rattle.sets.proofs.FixedPoint.{repeated_keeps, beyond, extremal}
 use Rattle.cases.specs.File.{Transition, header_of, transition_table}
-use Rattle.cases.specs.Case.{Case, case_of, SameTransitionSet}
+use Rattle.cases.specs.Case.{Case, case_of, copies, SameTransitionSet}
 use Rattle.cases.specs.Conditions.{transition_ok, Accepted}
 use Rattle.cases.specs.Meaning.{set_of}
-use Rattle.cases.specs.Reach.{here, further, Reachable, ReachableStates, Closed, SameFromReachable}
+use Rattle.cases.specs.Reach.{here, further, Reachable, ReachableStates, Closed, with_more, SameFromReachable}
+use Rattle.cases.specs.internal.Search.{Bounded}
 use Rattle.cases.specs.computed.Reached.{led_to, search_turn, reachable}
+use Rattle.cases.proofs.Distinct.{copies_append, copies_mem, mem_copies}
 use Rattle.cases.proofs.TableTrees.{held}
 use Rattle.cases.proofs.Accepting.{passed}
 use Rattle.cases.proofs.Tallies.{model_holds}
@@ -43,11 +46,6 @@ has_below v s t = go (dec_lt s (length v))
     go : Dec (s < length v) → s < length v
     go (yes h) = h
     go (no d) = absurd (rw (get_or-eq_default v false {n = s} (omega arith)) at t)
-
--- The initial state of a case, and the target of each transition, are among its states.
-pub record Bounded (c : Case) : Type 0 where
-  pub initial : c.initial < c.states
-  pub target : (t : Transition) → Mem t c.transitions → t.target < c.states
 
 module _ (c : Case) where
   abbrev n : ℕ
@@ -161,6 +159,28 @@ module _ {c c' : Case} (same : SameFromReachable c c') where
   pub reached_before : {s : ℕ} → Reachable c' s → Reachable c s
   reached_before here = rw same.initial here
   reached_before (further {t = t} r m) = let p = reached_before r in further p ((same.transitions t p).1 m)
+
+  -- It does not matter which of the two is the first.
+  pub same_turned : SameFromReachable c' c
+  same_turned = record {
+    states = sym same.states;
+    initial = sym same.initial;
+    formula = sym same.formula;
+    transitions = λ t r. let both = same.transitions t (reached_before r) in (both.1, both.0);
+  }
+
+-- Transitions from states that cannot be reached may be added.
+pub unreached_added : (c : Case) (us : List Transition) → ((t : Transition) → Mem t us → ¬ Reachable c t.source) → SameFromReachable c (with_more c us)
+unreached_added c us d = record {
+  states = refl;
+  initial = refl;
+  formula = refl;
+  transitions = λ t r. (
+    (λ m. copies_mem t (c.transitions ++ us) (λ z. mem_copies t c.transitions m (omega (arith, z, copies_append t c.transitions us)))),
+    λ m. copies_mem t c.transitions (λ none. mem_copies t (c.transitions ++ us) m
+        (omega (arith, none, by_cases (ℕ_discrete (copies t us) 0) (λ z. z) (λ some. absurd (d t (copies_mem t us some) r)), copies_append t c.transitions us))),
+  );
+}
 
 -- An accepted case has its initial state and its targets among its states.
 pub accepted_bounded : (b : List ℕ) → Accepted b → Bounded (case_of b)

@@ -18,7 +18,7 @@ use Rattle.sets.specs.Words.{words, marked, word_count, state_limit}
 use Rattle.sets.proofs.Words.{marked_words}
 use Rattle.sets.proofs.Lists.{or_either, all_from, length_table, table_at}
 use Rattle.sets.proofs.Members.{member_at, every_member}
-use Rattle.sets.proofs.Order.{size_length, extremal_one, empty}
+use Rattle.sets.proofs.Order.{size_none, size_length, extremal_one, empty}
 use Rattle.cases.specs.File.{Header, Transition, header_of, transition_in, transition_limit}
 use Rattle.cases.specs.Case.{Case, case_of}
 use Rattle.cases.specs.Conditions.{Accepted}
@@ -30,7 +30,8 @@ use Rattle.cases.specs.internal.Search.{target_in, FoundStates, Grown, TargetsBe
 use Rattle.cases.specs.declared.reach.Search.{Search}
 use Rattle.cases.proofs.Accepting.{passed}
 use Rattle.cases.proofs.Tallies.{table_case}
-use Rattle.cases.proofs.Reaching.{Bounded, has_below, reachable_least, accepted_bounded}
+use Rattle.cases.specs.internal.Search.{Bounded}
+use Rattle.cases.proofs.Reaching.{has_below, reachable_least, accepted_bounded}
 
 -- ---- a set with one state more
 
@@ -191,8 +192,11 @@ module _ {part : List ℕ} {m s j p : ℕ} {v w : States} (wide : Widened part m
     keeps = λ x t. more_keeps w (target_in part j) low x (wide.keeps x t);
     targets = λ k l h e. by k l h e (dec_lt k j);
     only = λ x t. elim (more_only w (target_in part j) low x t) [
-      | inl e ↦ inr (j, inside, own, sym e)
-      | inr t ↦ wide.only x t
+      | inl e ↦ inr (j, inside, omega (arith, n.from), own, sym e)
+      | inr t ↦ elim (wide.only x t) [
+        | inl u ↦ inl u
+        | inr (k, l, b, from, is) ↦ inr (k, l, omega (arith, b, n.from), from, is)
+      ]
     ];
   }
     where
@@ -204,14 +208,9 @@ module _ {part : List ℕ} {m s j p : ℕ} {v w : States} (wide : Widened part m
 
 -- With the last record it has all targets.
 pub widen_all : {part : List ℕ} {m j s : ℕ} {v w : States} → Widened part m j s v w → m ≤ j → Widened part m m s v w
-widen_all wide h = record { sized = wide.sized; keeps = wide.keeps; targets = λ k l b e. wide.targets k l (omega arith) e; only = wide.only }
+widen_all wide h = record { sized = wide.sized; keeps = wide.keeps; targets = λ k l b e. wide.targets k l (omega arith) e; only = λ x t. elim (wide.only x t) [ inl u ↦ inl u | inr (k, l, b, from, is) ↦ inr (k, l, l, from, is) ] }
 
 -- ---- the whole search, of a case
-
-none_size : (n : ℕ) → size (start n false) ≡ 0
-unfolding size
-none_size zero = refl
-none_size (suc n) = omega (arith, none_size n)
 
 -- at first nothing is found
 pub found_none : (n : ℕ) {found order : List ℕ} → n ≤ state_limit → found ≡ words word_count (start n false)
@@ -219,7 +218,7 @@ pub found_none : (n : ℕ) {found order : List ℕ} → n ≤ state_limit → fo
 found_none n few e = record {
   few = omega (arith, length-replicate n false);
   held = e;
-  many = sym (none_size n);
+  many = sym (size_none n);
   placed = λ x t. absurd (empty n x t);
   found_at = λ i h. absurd (omega arith);
 }
@@ -287,7 +286,7 @@ module _ {c : Case} {part : List ℕ} {m : ℕ} (model : Model c part m) where
           initial = wide.keeps c.initial s.initial;
           least = λ u k x t. elim (wide.only x t) [
             | inl t ↦ s.least u k x t
-            | inr (j, l, from, is) ↦ subst (λ (y : ℕ). T (has u y)) is
+            | inr (j, l, b, from, is) ↦ subst (λ (y : ℕ). T (has u y)) is
                 (k.target (transition_in part j) (record_member j l) (subst (λ (y : ℕ). T (has u y)) (sym from) (s.least u k _ (s.found.found_at done h))))
           ];
           followed = λ i l j g e. by_cases (ℕ_discrete i done)

@@ -1,6 +1,6 @@
 -- The states of a case that can be reached from its initial state.
 use Rattle.std.specs.Prelude.{◌≡◌, ◌↔◌, ℕ, T, length}
-use mathlib.Core.List.{List, Mem}
+use mathlib.Core.List.{List, ◌++◌, Mem}
 use Rattle.sets.specs.States.{States, has}
 use Rattle.cases.specs.File.{Transition}
 use Rattle.cases.specs.Case.{Case}
@@ -23,6 +23,10 @@ pub record ReachableStates (c : Case) (v : States) : Type 0 where
 pub record Closed (c : Case) (v : States) : Type 0 where
   pub initial : T (has v c.initial)
   pub target : (t : Transition) → Mem t c.transitions → T (has v t.source) → T (has v t.target)
+
+-- a case with further transitions
+abbrev pub with_more : Case → List Transition → Case
+with_more c us = record { states = c.states; labels = c.labels; initial = c.initial; transitions = c.transitions ++ us; formula = c.formula }
 
 -- Two cases have the same states, initial state and formula, and the same transitions from the states that can be reached in the first. Those from
 -- other states may be any.

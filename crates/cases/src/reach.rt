@@ -14,7 +14,7 @@ use sets::{STATES, Set};
 
 // The states that a search has found, as a set and in the order in which they were found. Those whose transitions were not followed yet stand last, so
 // the search needs no second set.
-#[derive(Clone, Copy)]
+#[derive(Drop)]
 struct Search {
     found: Set,
     order: [u16; STATES],

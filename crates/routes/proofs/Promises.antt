@@ -4,7 +4,7 @@
 -- Numbers have no bound.
 use mathlib.Core.Path.{◌≡◌, refl, sym, ap, subst, ◌∙◌}
 use mathlib.Core.Logic.{◌↔◌, ◌⊎◌, inl, inr, by_cases}
-use mathlib.Core.List.{List, [], ◌∷◌, ◌++◌, map, Memᴰ, Nodup, Perm}
+use mathlib.Core.List.{List, [], ◌∷◌, ◌++◌, map, Memᴰ, Nodup, Perm, Mem}
 use mathlib.Core.Bool.{Bool, true, false, ◌&&◌}
 use Prim.Native.Nat.{ℕ, suc, ◌≤◌, ◌<◌}
 use native.Mathlib.Omega.{arith}
@@ -27,6 +27,7 @@ use Rattle.solver.specs.Solution.{powers, StandardSolution}
 use Rattle.solver.specs.Outcome.{solve_refusal, Scratch}
 use Rattle.solver.proofs.Starts.{own_values}
 use Rattle.translate.proofs.Promises.{well_formed}
+use Rattle.cases.specs.declared.Transition.{Transition}
 use Rattle.cases.specs.File.{version, header_of, label_table}
 use Rattle.cases.specs.Labels.{same_names, label_names}
 use Rattle.cases.specs.Case.{Case, case_of, SameTables, SameTransitionSet}
@@ -37,9 +38,10 @@ use Rattle.cases.proofs.Tallies.{tally_accepted, tally_refused, tallied_order}
 use Rattle.cases.proofs.Distinct.{length_distinct, distinct_all}
 use Rattle.cases.specs.Conditions.{layout_conditions, model_conditions, formula_conditions, case_conditions, case_refusal, Accepted}
 use Rattle.cases.specs.Meaning.{intersection, MeansIn}
-use Rattle.cases.specs.Reach.{here, Reachable, ReachableStates, Closed, SameFromReachable}
+use Rattle.cases.specs.Reach.{here, Reachable, ReachableStates, Closed, with_more, SameFromReachable}
 use Rattle.cases.specs.computed.Reached.{reachable}
-use Rattle.cases.proofs.Reaching.{Bounded, has_below, set_of_has, has_set_of, found_reached, reached_found, reached_below, still_reached, reached_before, reachable_least, reachable_states, reachable_one, accepted_bounded}
+use Rattle.cases.specs.internal.Search.{Bounded}
+use Rattle.cases.proofs.Reaching.{has_below, set_of_has, has_set_of, found_reached, reached_found, reached_below, still_reached, reached_before, reachable_least, reachable_states, reachable_one, accepted_bounded, same_turned, unreached_added}
 use Rattle.cases.proofs.ReachedMeaning.{means_agrees}
 use Rattle.cases.proofs.MeaningLaws.{means_sized}
 use Rattle.translate.specs.Bytes.{file_of}
@@ -103,7 +105,7 @@ module _ (b : List ℕ) (accepted : Accepted b) where
 
     pub reports : r ≤ limit → (ρ : Valuation) (v w : States) → MeansIn (case_of b) ρ v → ReachableStates (case_of b) w → o ≡ run_report (case_of b) v w r
     reports h ρ v w m reached =
-        rw (run_means b accepted R ρ m.0 v m.1, reachable_one (case_of b) (accepted_bounded b accepted) w reached, own_one b accepted R r own)
+        rw (run_means b accepted R ρ m.0 v m.1, reachable_one (case_of b) reaches w reached, own_one b accepted R r own)
         (reported ran.by (gives_iff.1 h))
 
 -- a bit that is 1
@@ -212,17 +214,17 @@ module _ {R : Route} {b : List ℕ} {l : Lent} {limit : ℕ} {o : Outcome} {t : 
         × (o.count ≡ length (keep (λ s. marked marks' s && has w s) (numbers_from 0 (case_of b).states)))
     count_ones = rw counted (both_size (few_states b (accepted_run g)) (shown g) w reached.sized)
 
-    -- No more are counted than are marked, and as many if every state can be reached.
+    -- No more are counted than are marked, and as many if each of these can be reached.
     pub count_marked : o.count ≤ marked_below marks' (case_of b).states
     count_marked = rw (counted, shown_size) (size_subset both held (both_long ∙ sym held_long) (λ s t. and_left (has held s) (has w s) (has_set_of n _ s t).1))
 
-    pub count_all : ((s : ℕ) → s < (case_of b).states → Reachable (case_of b) s) → o.count ≡ marked_below marks' (case_of b).states
+    pub count_all : ((s : ℕ) → T (marked marks' s) → Reachable (case_of b) s) → o.count ≡ marked_below marks' (case_of b).states
     count_all h = omega (arith, count_marked, counted, shown_size, size_subset held both (held_long ∙ sym both_long) in_both)
       where
         in_both : (s : ℕ) → T (has held s) → T (has both s)
         in_both s t =
             let low : s < n = omega (arith, held_long, has_below held s t) in
-            set_of_has n (λ s. has held s && has w s) s low (and_both (has held s) (has w s) t ((reached.exactly s).1 (h s low)))
+            set_of_has n (λ s. has held s && has w s) s low (and_both (has held s) (has w s) t ((reached.exactly s).1 (h s (rw ((shown g).shown s (omega (arith, low, few_states b (accepted_run g)))) t))))
 
     -- The initial state is counted where it is marked: a run with a true verdict counts at least one state.
     pub verdict_counted : o.verdict ≡ 1 → 1 ≤ o.count
@@ -331,6 +333,11 @@ module _ (b b' : List ℕ) (same : SameFromReachable (case_of b) (case_of b')) w
       → (s : ℕ) → Reachable (case_of b) s → has v s ≡ has w s
   reachable_meaning accepted = means_agrees same (accepted_bounded b accepted)
 
+-- Such two cases, either first, are a case and the same with further transitions from states that cannot be reached.
+pub unreached_more : (c : Case) (us : List Transition) → ((t : Transition) → Mem t us → ¬ Reachable c t.source)
+    → SameFromReachable c (with_more c us) × SameFromReachable (with_more c us) c
+unreached_more c us d = let same = unreached_added c us d in (same, same_turned same)
+
 -- a state of the first sets is one of the second, if it is where the second of each has it
 counted_in : (n n' : ℕ) (v w v' w' : States) → ((s : ℕ) → T (has w s) → (T (has w' s) × (s < n')) × (T (has v s) → T (has v' s)))
     → (s : ℕ) → T (has (intersection n v w) s) → T (has (intersection n' v' w') s)
@@ -343,42 +350,36 @@ counted_in n n' v w v' w' h s t =
 -- alike in verdict and count. Their rounds, and the marks of other states, may differ.
 module _ {R R' : Route} {b b' : List ℕ} {l l' : Lent} {limit limit' : ℕ} {o o' : Outcome} {t t' : Tally} {marks' marks'' : List ℕ} (ran : Ran R b l limit o t marks')
     (ran' : Ran R' b' l' limit' o' t' marks'') (same : SameFromReachable (case_of b) (case_of b')) (g : GivesMarks o) (g' : GivesMarks o') where
-  abbrev c : Case
-  c = case_of b
-
-  abbrev c' : Case
-  c' = case_of b'
-
-  bounded : Bounded c
+  bounded : Bounded (case_of b)
   bounded = accepted_bounded b (accepted_run ran g)
 
-  bounded' : Bounded c'
+  bounded' : Bounded (case_of b')
   bounded' = accepted_bounded b' (accepted_run ran' g')
 
-  held_alike : (s : ℕ) → Reachable c s → has (run_of R c).0 s ≡ has (run_of R' c').0 s
+  held_alike : (s : ℕ) → Reachable (case_of b) s → has (run_of R (case_of b)).0 s ≡ has (run_of R' (case_of b')).0 s
   held_alike =
-      let none = none_sized c.states in
-      reachable_meaning b b' same (accepted_run ran g) (all_empty c.states) (run_of R c).0 (run_of R' c').0 (run_in b (accepted_run ran g) R (all_empty c.states) none)
-      (run_in b' (accepted_run ran' g') R' (all_empty c.states) (subst (λ (n : ℕ). Sized n (all_empty c.states)) same.states none))
+      let none = none_sized (case_of b).states in
+      reachable_meaning b b' same (accepted_run ran g) (all_empty (case_of b).states) (run_of R (case_of b)).0 (run_of R' (case_of b')).0 (run_in b (accepted_run ran g) R (all_empty (case_of b).states) none)
+      (run_in b' (accepted_run ran' g') R' (all_empty (case_of b).states) (subst (λ (n : ℕ). Sized n (all_empty (case_of b).states)) same.states none))
 
-  pub reachable_marks : (s : ℕ) → Reachable c s → marked marks' s ≡ marked marks'' s
+  pub reachable_marks : (s : ℕ) → Reachable (case_of b) s → marked marks' s ≡ marked marks'' s
   reachable_marks s r =
-      let low : s < state_limit = omega (arith, reached_below c bounded r, few_states b (accepted_run ran g)) in
+      let low : s < state_limit = omega (arith, reached_below (case_of b) bounded r, few_states b (accepted_run ran g)) in
       (shown ran g).shown s low ∙ held_alike s r ∙ sym ((shown ran' g').shown s low)
 
   pub reachable_verdict : o.verdict ≡ o'.verdict
-  reachable_verdict = rw (reported ran.by g, reported ran'.by g', held_alike c.initial here, same.initial)
+  reachable_verdict = rw (reported ran.by g, reported ran'.by g', held_alike (case_of b).initial here, same.initial)
 
   pub reachable_count : o.count ≡ o'.count
   reachable_count =
-      let v = (run_of R c).0 in
-      let v' = (run_of R' c').0 in
+      let v = (run_of R (case_of b)).0 in
+      let v' = (run_of R' (case_of b')).0 in
       rw (reported ran.by g, reported ran'.by g')
       (same_size _ _ (λ s. implies_antisym _ _
-      (counted_in c.states c'.states v (reachable c) v' (reachable c') (λ s t. let r = found_reached c s t in
-      ((reached_found c' bounded' (still_reached same r), reached_below c' bounded' (still_reached same r)), subst T (held_alike s r))) s)
-      (counted_in c'.states c.states v' (reachable c') v (reachable c) (λ s t. let r = reached_before same (found_reached c' s t) in
-      ((reached_found c bounded r, reached_below c bounded r), subst T (sym (held_alike s r)))) s)))
+      (counted_in (case_of b).states (case_of b').states v (reachable (case_of b)) v' (reachable (case_of b')) (λ s t. let r = found_reached (case_of b) s t in
+      ((reached_found (case_of b') bounded' (still_reached same r), reached_below (case_of b') bounded' (still_reached same r)), subst T (held_alike s r))) s)
+      (counted_in (case_of b').states (case_of b).states v' (reachable (case_of b')) v (reachable (case_of b)) (λ s t. let r = reached_before same (found_reached (case_of b') s t) in
+      ((reached_found (case_of b) bounded r, reached_below (case_of b) bounded r), subst T (sym (held_alike s r)))) s)))
 
 -- ---- Events that fire together
 

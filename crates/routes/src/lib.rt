@@ -164,12 +164,11 @@ fn equation_opened(
     let equations = &file[..length];
     let cells = solver::sizes_of(equations).cells;
     let answer = match solver::solve(equations, work, marks, limit) {
-        Ok(solved) => Ok(run_report(
-            case.laid.header.initial,
-            &sets::load(marks),
-            &reachable(&case, &links),
-            solved.rounds,
-        )),
+        Ok(solved) => {
+            let marked = sets::load(marks);
+            let reached = reachable(&case, &links);
+            Ok(run_report(case.laid.header.initial, &marked, &reached, solved.rounds))
+        }
         Err(cause) => Err(Cause::Run(cause)),
     };
     Priced {

@@ -119,11 +119,16 @@ full zero (x ∷ u) e s t = absurd (omega arith)
 full (suc n) (x ∷ u) e zero t = tt
 full (suc n) (x ∷ u) e (suc s) t = full n u (omega arith) s t
 
--- the empty set has no state
+-- the empty set has no state, and none to count
 pub empty : (n s : ℕ) → T (has (replicate n false) s) → ⊥
 empty zero s t = t
 empty (suc n) zero t = t
 empty (suc n) (suc s) t = empty n s t
+
+pub size_none : (n : ℕ) → size (replicate n false) ≡ 0
+unfolding size
+size_none zero = refl
+size_none (suc n) = omega (arith, size_none n)
 
 -- the start of an iteration stands before every set
 pub start_first : (sign : Bool) (n : ℕ) (u : States) → length u ≡ n → Before sign (start n sign) u

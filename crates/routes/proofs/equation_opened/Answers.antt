@@ -37,15 +37,15 @@ returns-clause-ran c =
     let tally = c.first_appearances-tally.ensures.tally in
     elim c.match-solve.branch [
       | in-Ok-solve w ↦ rw w.answer-is (route_solved (lent _ _ _) c.write_case-written.ensures _ number long w.in-Ok-solve.solved (rw w.in-Ok-solve.is at c.solve.ensures)
-          w.run_report.ensures (initial_is case.laid.bytes.now case.accepted case.laid.laid.read) w.load.ensures w.reachable.ensures tally)
+          w.run_report.ensures (initial_is case.laid.bytes.now case.accepted case.laid.laid.read) w.load-marked.ensures w.reachable-reached.ensures tally)
       | in-Err w ↦ rw w.answer-is (route_refused (lent _ _ _) c.write_case-written.ensures _ number long w.in-Err.cause (rw w.in-Err.is at c.solve.ensures) tally)
     ]
 
 pub run_report-requires : goal.run_report-requires
 run_report-requires c = initial_below c.args.case.laid.bytes.now c.args.case.accepted c.args.case.laid.laid.read
 
-pub load-requires : goal.load-requires
-load-requires c =
+pub load-marked-requires : goal.load-marked-requires
+load-marked-requires c =
     marks_long (lent _ _ _) c.write_case-written.ensures _ (file_number c.in-Ok.is) (file_long c.in-Ok.is) c.in-Ok-solve.solved (rw c.in-Ok-solve.is at c.solve.ensures)
 
 pub returns-clause-price : goal.returns-clause-price

@@ -9,8 +9,12 @@ p1_less : List ℕ
 unfolding case_file
 p1_less = case_file 3 2 2 0 1 3 (0 ∷ 0 ∷ 1 ∷ 0 ∷ 0 ∷ 1 ∷ 1 ∷ 0 ∷ 7 ∷ 0 ∷ 4 ∷ 0 ∷ 6 ∷ 0 ∷ [])
 
+p1_clicks : List ℕ
+unfolding case_file
+p1_clicks = case_file 3 3 2 0 1 3 (0 ∷ 0 ∷ 1 ∷ 0 ∷ 0 ∷ 1 ∷ 1 ∷ 1 ∷ 2 ∷ 2 ∷ 0 ∷ 7 ∷ 0 ∷ 4 ∷ 0 ∷ 6 ∷ 0 ∷ [])
+
 pub further : List Example
-unfolding p1 p1_less p4 copied middle still case_file halves reported tally
+unfolding p1 p1_less p1_clicks p4 copied middle still case_file halves reported tally
 further =
     -- P1 with a limit that is just enough
     (p1, 4, reported 1 3 4, reported 1 3 4, tally 3 2)
@@ -24,8 +28,10 @@ further =
     -- Copies and equal ends under different labels: the initial state 1 has no transition, and only state 0 is marked, which cannot be reached. The third
     -- and the fifth record are copies.
     ∷ (copied, program_limit, reported 0 0 2, reported 0 0 2, tally 5 3)
-    -- A box into the middle of an action formula: state 1 has no accepted transition, state 0 a loop. The transition to state 1, which is marked, has a label
-    -- that is not accepted.
+    -- P1 with the action formula label 0: state 2 holds, as state 1 has no transition that is accepted, and is reached by label 1, which is not accepted. The sets
+    -- of the rounds are none, those of 1 and 2, all, all.
+    ∷ (p1_clicks, program_limit, reported 1 3 3, reported 1 3 3, tally 3 2)
+    -- A box into the middle of an action formula: state 1 has no accepted transition, state 0 a loop.
     ∷ (middle, program_limit, reported 0 1 2, reported 0 1 2, tally 4 4)
     ∷ []
 

@@ -89,7 +89,7 @@ impl From<Cause> for u64 {
     }
 }
 
-// What is reported of a solved file.
+// What is reported of a solved file, and by the routes of a solved case.
 #[derive(Clone, Copy, PartialEq, Eq)]
 pub struct Report {
     pub verdict: bool,

@@ -26,11 +26,10 @@ use Rattle.cases.specs.Reach.{Closed}
 use Rattle.cases.specs.computed.Reached.{reachable}
 use Rattle.cases.specs.internal.Checks.{transition_part, transitions_in}
 use Rattle.cases.specs.internal.Links.{source_in, first_on, next_from, Linked}
-use Rattle.cases.specs.internal.Search.{target_in, FoundStates, Grown, TargetsBelow, Widened}
 use Rattle.cases.specs.declared.reach.Search.{Search}
 use Rattle.cases.proofs.Accepting.{passed}
 use Rattle.cases.proofs.Tallies.{table_case}
-use Rattle.cases.specs.internal.Search.{Bounded}
+use Rattle.cases.specs.internal.Search.{target_in, Bounded, FoundStates, Grown, TargetsBelow, Widened}
 use Rattle.cases.proofs.Reaching.{has_below, reachable_least, accepted_bounded}
 
 -- ---- a set with one state more

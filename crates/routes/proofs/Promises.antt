@@ -218,13 +218,13 @@ module _ {R : Route} {b : List ℕ} {l : Lent} {limit : ℕ} {o : Outcome} {t : 
     pub count_marked : o.count ≤ marked_below marks' (case_of b).states
     count_marked = rw (counted, shown_size) (size_subset both held (both_long ∙ sym held_long) (λ s t. and_left (has held s) (has w s) (has_set_of n _ s t).1))
 
-    pub count_all : ((s : ℕ) → T (marked marks' s) → Reachable (case_of b) s) → o.count ≡ marked_below marks' (case_of b).states
+    pub count_all : ((s : ℕ) → s < (case_of b).states → T (marked marks' s) → Reachable (case_of b) s) → o.count ≡ marked_below marks' (case_of b).states
     count_all h = omega (arith, count_marked, counted, shown_size, size_subset held both (held_long ∙ sym both_long) in_both)
       where
         in_both : (s : ℕ) → T (has held s) → T (has both s)
         in_both s t =
             let low : s < n = omega (arith, held_long, has_below held s t) in
-            set_of_has n (λ s. has held s && has w s) s low (and_both (has held s) (has w s) t ((reached.exactly s).1 (h s (rw ((shown g).shown s (omega (arith, low, few_states b (accepted_run g)))) t))))
+            set_of_has n (λ s. has held s && has w s) s low (and_both (has held s) (has w s) t ((reached.exactly s).1 (h s low (rw ((shown g).shown s (omega (arith, low, few_states b (accepted_run g)))) t))))
 
     -- The initial state is counted where it is marked: a run with a true verdict counts at least one state.
     pub verdict_counted : o.verdict ≡ 1 → 1 ≤ o.count
@@ -333,7 +333,7 @@ module _ (b b' : List ℕ) (same : SameFromReachable (case_of b) (case_of b')) w
       → (s : ℕ) → Reachable (case_of b) s → has v s ≡ has w s
   reachable_meaning accepted = means_agrees same (accepted_bounded b accepted)
 
--- Such two cases, either first, are a case and the same with further transitions from states that cannot be reached.
+-- A case, and the same with further transitions from states that it cannot reach, are two such cases, either first.
 pub unreached_more : (c : Case) (us : List Transition) → ((t : Transition) → Mem t us → ¬ Reachable c t.source)
     → SameFromReachable c (with_more c us) × SameFromReachable (with_more c us) c
 unreached_more c us d = let same = unreached_added c us d in (same, same_turned same)

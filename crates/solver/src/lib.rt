@@ -89,7 +89,7 @@ impl From<Cause> for u64 {
     }
 }
 
-// What is reported of a solved file, and by the routes of a solved case.
+// What is reported of a solved file. The routes report of a solved case in the same form.
 #[derive(Clone, Copy, PartialEq, Eq)]
 pub struct Report {
     pub verdict: bool,

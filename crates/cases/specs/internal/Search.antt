@@ -1,8 +1,8 @@
 -- What the laws of the states that can be reached ask of a case, and what a search for them keeps.
 use Rattle.std.specs.Prelude.{◌≡◌, ◌⊎◌, List, ℕ, T, ◌<◌, ◌≤◌, length, get_or}
+use mathlib.Core.List.{Mem}
 use Rattle.sets.specs.States.{States, has, Subset, size}
 use Rattle.sets.specs.Words.{words, word_count, state_limit}
-use mathlib.Core.List.{Mem}
 use Rattle.cases.specs.File.{Transition, transition_in}
 use Rattle.cases.specs.Case.{Case}
 use Rattle.cases.specs.internal.Links.{source_in}

@@ -23,13 +23,13 @@ further =
     -- Binders side by side, mu X X and nu Y Y: their rounds add up in direct. In the equations each of two rounds of the nu before them takes a
     -- round of X, for which Y takes one.
     ∷ (still 5 (2 ∷ 0 ∷ 7 ∷ 0 ∷ 6 ∷ 1 ∷ 8 ∷ 0 ∷ 6 ∷ 3 ∷ []), program_limit, reported 0 0 6, reported 0 0 2, tally 0 0)
-    -- P1 without its last transition: all states hold, and state 2 cannot be reached. The sets of the rounds are none, those of 1 and 2, all, all.
+    -- P1 without its last transition: all states hold, and state 2 cannot be reached. From none, the rounds find 1 and 2, all, and all again.
     ∷ (p1_less, program_limit, reported 1 2 3, reported 1 2 3, tally 2 1)
     -- Copies and equal ends under different labels: the initial state 1 has no transition, and only state 0 is marked, which cannot be reached. The third
     -- and the fifth record are copies.
     ∷ (copied, program_limit, reported 0 0 2, reported 0 0 2, tally 5 3)
-    -- P1 with the action formula label 0: state 2 holds, as state 1 has no transition that is accepted, and is reached by label 1, which is not accepted. The sets
-    -- of the rounds are none, those of 1 and 2, all, all.
+    -- P1 with the action formula label 0: neither 1 nor 2 has a transition that is accepted, so both hold at once. State 2 is reached by label 1, which is not
+    -- accepted. The rounds find the same as without that transition.
     ∷ (p1_clicks, program_limit, reported 1 3 3, reported 1 3 3, tally 3 2)
     -- A box into the middle of an action formula: state 1 has no accepted transition, state 0 a loop.
     ∷ (middle, program_limit, reported 0 1 2, reported 0 1 2, tally 4 4)

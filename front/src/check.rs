@@ -1,6 +1,9 @@
 //! Asks the library by both routes.
 
 use crate::case::Case;
+use crate::expand::Expansion;
+use crate::library::{self, Run};
+use crate::refusal;
 use crate::source::Fault;
 use crate::table::Table;
 
@@ -34,7 +37,83 @@ pub enum Trouble {
     Differ(String),
 }
 
+/// The refusal number of a spent run, which each route has by itself.
+const SPENT: u64 = 14;
+
 /// Runs both routes with a round limit and compares them. A spent route (14) is a refusal.
 pub fn check(case: &Case, limit: u64) -> Result<Checked, Trouble> {
-    todo!()
+    let (equation, direct) = (library::equation(&case.bytes, limit), library::direct(&case.bytes, limit));
+    if equation.refusal == SPENT || direct.refusal == SPENT {
+        return Err(spent(case, &equation, &direct, limit));
+    }
+    if let Some(difference) = difference(&equation, &direct) {
+        return Err(Trouble::Differ(difference));
+    }
+    match &case.expansion {
+        Expansion::Table(table) if equation.refusal == 0 => Ok(answer(case, table, equation, direct)),
+        Expansion::TooLarge { .. } if equation.refusal == 0 => {
+            Err(Trouble::Differ("the library accepts a formula that was not written out".to_string()))
+        }
+        _ => Err(Trouble::Refused(refusal::fault(case, equation.refusal, limit))),
+    }
+}
+
+/// A run that one route or both could not end within the limit. The other route then has to accept the case.
+fn spent(case: &Case, equation: &Run, direct: &Run, limit: u64) -> Trouble {
+    let route = match (equation.refusal, direct.refusal) {
+        (SPENT, SPENT) => "either route",
+        (SPENT, 0) => "the equation route",
+        (0, SPENT) => "the direct route",
+        (first, second) => return Trouble::Differ(refusals_differ(first, second)),
+    };
+    Trouble::Refused(refusal::spent(case, route, limit))
+}
+
+/// What the routes answer differently, if anything.
+fn difference(equation: &Run, direct: &Run) -> Option<String> {
+    if equation.refusal != direct.refusal {
+        return Some(refusals_differ(equation.refusal, direct.refusal));
+    }
+    let differ = |what: &str, first: String, second: String| {
+        (first != second).then(|| format!("the {what} by the equation route is {first}, by the direct route {second}"))
+    };
+    let state = equation.marks.iter().zip(&direct.marks).position(|(first, second)| first != second);
+    differ("verdict", equation.verdict.to_string(), direct.verdict.to_string())
+        .or(state.map(|state| format!("only one of the routes says that the formula holds in state {state}")))
+        .or(differ("count", equation.count.to_string(), direct.count.to_string()))
+        .or(differ("number of records", equation.records.to_string(), direct.records.to_string()))
+        .or(differ("number of distinct transitions", equation.distinct.to_string(), direct.distinct.to_string()))
+}
+
+fn refusals_differ(equation: u64, direct: u64) -> String {
+    let answer = |number: u64| match number {
+        0 => "accepts the case".to_string(),
+        _ => format!("refuses it with {number}"),
+    };
+    format!("the equation route {}, the direct route {}", answer(equation), answer(direct))
+}
+
+/// The answer of two runs that agree.
+fn answer(case: &Case, table: &Table, equation: Run, direct: Run) -> Checked {
+    let states = case.model.states;
+    Checked {
+        verdict: equation.verdict,
+        holds: equation.marks.iter().copied().take(states).collect(),
+        reached: case.model.reachable(),
+        count: equation.count,
+        equation_rounds: equation.rounds,
+        direct_rounds: direct.rounds,
+        records: equation.records,
+        distinct: equation.distinct,
+        cents: equation.cents,
+        values: node_values(table, states, &equation.values),
+        table: table.clone(),
+    }
+}
+
+/// A row of values for each node. The equation file has a cell for each node and state, node by node; where the formula
+/// does not begin with mu or nu, a row for the nu that it puts before the formula comes first.
+fn node_values(table: &Table, states: usize, cells: &[bool]) -> Vec<Vec<bool>> {
+    let added = table.blocks() - table.binders().len();
+    cells.chunks(states.max(1)).skip(added).map(<[bool]>::to_vec).collect()
 }

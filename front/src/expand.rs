@@ -2,7 +2,7 @@
 //! implications pushed inward by the dual.
 
 use crate::formula::StateFormula;
-use crate::source::{Fault, Source};
+use crate::source::{Fault, Source, Span};
 use crate::table::Table;
 use std::sync::Arc;
 
@@ -12,7 +12,8 @@ pub enum Expansion {
     /// Its tables, of at most `WRITTEN_OUT` nodes each.
     Table(Table),
     /// So many nodes that they are not written out. They are counted all the same (up to the largest number there is).
-    TooLarge { nodes: usize, actions: usize },
+    /// The formula's text and place are there for the fault.
+    TooLarge { source: Arc<Source>, span: Span, nodes: usize, actions: usize },
 }
 
 /// Formulas of more nodes than this are not written out; the checker's own limit is far below.

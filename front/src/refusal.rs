@@ -8,6 +8,11 @@ pub fn fault(case: &Case, number: u64, limit: u64) -> Fault {
     todo!()
 }
 
+/// A run that could not end within the round limit, by a route.
+pub fn spent(case: &Case, route: &str, limit: u64) -> Fault {
+    todo!()
+}
+
 /// The condition of a number, for a case that did not come from text.
 pub fn meaning(number: u64) -> &'static str {
     todo!()

@@ -1,0 +1,56 @@
+//! Labels of a formula that no transition has. A misspelt label would make a box hold.
+
+use crate::label::Label;
+use crate::model::Model;
+use crate::source::{Fault, Span};
+use crate::suggest;
+use crate::table::Table;
+use std::collections::HashSet;
+
+/// How many labels a help lists.
+const LISTED: usize = 12;
+
+/// A label that no transition of the model is alike is a fault at the first place where it stands.
+pub fn check(model: &Model, table: &Table) -> Result<(), Fault> {
+    let labels = used_labels(model);
+    let known: HashSet<&[String]> = labels.iter().map(|label| label.names.as_slice()).collect();
+    match table.labels.iter().find(|(label, _)| !known.contains(label.names.as_slice())) {
+        Some((label, span)) => Err(fault(table, label, *span, &labels)),
+        None => Ok(()),
+    }
+}
+
+/// The labels that transitions have, in the model's order.
+fn used_labels(model: &Model) -> Vec<&Label> {
+    let used: HashSet<usize> = model.transitions.iter().map(|transition| transition.label).collect();
+    let labels = model.labels.iter().enumerate();
+    labels.filter(|(number, _)| used.contains(number)).map(|(_, label)| label).collect()
+}
+
+fn fault(table: &Table, label: &Label, span: Span, labels: &[&Label]) -> Fault {
+    let message = format!("no transition has the label `{}`", label.text);
+    Fault::new(&table.source, span, message).with_help(help(&label.text, labels))
+}
+
+fn help(text: &str, labels: &[&Label]) -> String {
+    let nearest = suggest::nearest(text, labels.iter().map(|label| label.text.as_str()));
+    let question = nearest.map(|nearest| format!("did you mean `{nearest}`? ")).unwrap_or_default();
+    let there_are = match labels.len() {
+        0 => "The model has no transitions".to_string(),
+        _ => format!("The model's labels: {}", listed(labels)),
+    };
+    let way_out =
+        "Where it is meant, --allow-unknown-labels or the line `% unknown labels: allow` in the formula's file \
+                   allows it";
+    format!("{question}{there_are}. {way_out}")
+}
+
+/// The first labels of a list, and how many more there are.
+fn listed(labels: &[&Label]) -> String {
+    let first: Vec<String> = labels.iter().take(LISTED).map(|label| format!("`{}`", label.text)).collect();
+    let more = labels.len().saturating_sub(LISTED);
+    match more {
+        0 => first.join(", "),
+        _ => format!("{} and {more} more", first.join(", ")),
+    }
+}

@@ -5,11 +5,14 @@ mod label_numbers;
 mod unknown_label;
 
 use crate::expand::Expansion;
+use crate::label::Label;
 use crate::model::Model;
-use crate::source::Fault;
+use crate::source::{Fault, Source, Span};
 use crate::table::{Kind, Table};
+pub use action_table::sizes as action_sizes;
 use action_table::ActionTable;
 use label_numbers::LabelNumbers;
+use std::sync::Arc;
 
 /// A case file, with what it was written from.
 #[derive(Clone, Debug)]
@@ -44,6 +47,19 @@ impl Case {
     /// How many different names the labels of the case have.
     pub fn names(&self) -> usize {
         LabelNumbers::new(&self.model, self.table()).names()
+    }
+
+    /// The labels that only the formula names, in the order of their numbers, with the first place of each.
+    pub fn formula_labels(&self) -> Vec<(&Label, Span)> {
+        LabelNumbers::new(&self.model, self.table()).of_formula_alone()
+    }
+
+    /// The text that the formula is in, and its part.
+    pub fn formula(&self) -> (&Arc<Source>, Span) {
+        match &self.expansion {
+            Expansion::Table(table) => (&table.source, table.nodes.first().map_or(Span::new(0, 0), |root| root.span)),
+            Expansion::TooLarge { source, span, .. } => (source, *span),
+        }
     }
 
     /// The formula's table, if it is written out.

@@ -52,6 +52,12 @@ impl ActionTable {
     }
 }
 
+/// For each node of an action table, how many nodes its subtree has.
+pub fn sizes(actions: &[ActionNode]) -> Vec<usize> {
+    let nodes = vec![[0, 0]; actions.len()];
+    Subtrees::new(actions, &nodes).ends.iter().enumerate().map(|(at, end)| end - at).collect()
+}
+
 impl Subtrees {
     /// Works from the last node to the first, so that operands are known before the node that has them.
     fn new(actions: &[ActionNode], nodes: &[Numbers]) -> Subtrees {

@@ -11,6 +11,8 @@ use std::sync::Arc;
 /// The labels of a case in the order of their numbers: the model's, then those that only the formula names.
 pub struct LabelNumbers<'a> {
     labels: Vec<&'a Label>,
+    /// The labels that only the formula names, which are the last ones, with the first place of each.
+    of_formula_alone: Vec<(&'a Label, Span)>,
     /// For each label of the formula's list, its number.
     of_formula: Vec<usize>,
     /// Is a label written with `|`? Then the case has version 2.
@@ -24,17 +26,18 @@ impl<'a> LabelNumbers<'a> {
         for (number, label) in labels.iter().enumerate() {
             numbers.entry(&label.names).or_insert(number);
         }
-        let mut of_formula = Vec::new();
-        for (label, _) in table.iter().flat_map(|table| &table.labels) {
+        let (mut of_formula, mut of_formula_alone) = (Vec::new(), Vec::new());
+        for (label, span) in table.iter().flat_map(|table| &table.labels) {
             let number = *numbers.entry(&label.names).or_insert(labels.len());
             if number == labels.len() {
                 labels.push(label);
+                of_formula_alone.push((label, *span));
             }
             of_formula.push(number);
         }
         let joined = labels.iter().any(|label| label.is_joined())
             || table.is_some_and(|table| table.labels.iter().any(|(label, _)| label.is_joined()));
-        LabelNumbers { labels, of_formula, joined }
+        LabelNumbers { labels, of_formula_alone, of_formula, joined }
     }
 
     /// How many labels the case has, which is one at least, used or not.
@@ -45,6 +48,10 @@ impl<'a> LabelNumbers<'a> {
     /// The number of a label of the formula's list.
     pub fn of_formula(&self, label: usize) -> usize {
         self.of_formula.get(label).copied().unwrap_or(usize::MAX)
+    }
+
+    pub fn of_formula_alone(self) -> Vec<(&'a Label, Span)> {
+        self.of_formula_alone
     }
 
     /// How many different names the labels have.

@@ -1,0 +1,106 @@
+//! Refusal 3: a count outside its range.
+
+use super::model_numbers::{header_number, HeaderNumber};
+use super::names::label_fault;
+use crate::amount;
+use crate::case::{action_sizes, Case};
+use crate::limits;
+use crate::source::{Fault, Span};
+use crate::table::{Kind, Table};
+use std::collections::HashSet;
+
+/// A fault for the first count that is outside its range, in the order of the case file's header.
+pub fn fault(case: &Case) -> Option<Fault> {
+    let counts = case.counts();
+    states(case, counts.states)
+        .or_else(|| transitions(case, counts.transitions))
+        .or_else(|| labels(case, counts.labels))
+        .or_else(|| action_nodes(case, counts.action_nodes))
+        .or_else(|| formula_nodes(case, counts.formula_nodes))
+}
+
+const MERGE: &str = "leave out what the formula does not speak of, or merge states that behave alike, as `ltsconvert \
+                     --equivalence=bisim` of mCRL2 does";
+
+fn states(case: &Case, count: usize) -> Option<Fault> {
+    let help = match count {
+        0 => "a model has at least its initial state",
+        _ if count > limits::STATES => MERGE,
+        _ => return None,
+    };
+    let message = format!("{}: the checker takes 1 to {}", amount::of(count, "state"), limits::STATES);
+    Some(Fault::new(&case.model.source, header_number(&case.model, HeaderNumber::States), message).with_help(help))
+}
+
+fn transitions(case: &Case, count: usize) -> Option<Fault> {
+    let most = limits::TRANSITIONS;
+    if count <= most {
+        return None;
+    }
+    let different: HashSet<_> = case.model.transitions.iter().map(|t| (t.source, t.label, t.target)).collect();
+    let help = match different.len() <= most {
+        true => format!("only {} of them are different: leave out the copies", different.len()),
+        false => MERGE.to_string(),
+    };
+    let message = format!("{}: {}", amount::of(count, "transition"), at_most(most));
+    Some(Fault::new(&case.model.source, header_number(&case.model, HeaderNumber::Transitions), message).with_help(help))
+}
+
+fn labels(case: &Case, count: usize) -> Option<Fault> {
+    let most = limits::LABELS;
+    if count <= most {
+        return None;
+    }
+    let of_formula = match count.saturating_sub(case.model.labels.len()) {
+        0 => String::new(),
+        more => format!(" ({more} of them named by the formula alone)"),
+    };
+    let message = format!("{}{of_formula}: {}", amount::of(count, "label"), at_most(most));
+    let fault = label_fault(case, message, |number, _| number >= most);
+    Some(
+        fault.with_help(
+            "give labels that the formula does not tell apart one name; the marked one is the first too many",
+        ),
+    )
+}
+
+fn action_nodes(case: &Case, count: usize) -> Option<Fault> {
+    let most = limits::ACTION_NODES;
+    if count <= most {
+        return None;
+    }
+    let message = format!("{}: {}", amount::of(count, "action node"), at_most(most));
+    let (source, whole) = case.formula();
+    let place = case.table().and_then(largest_action).unwrap_or(whole);
+    Some(Fault::new(source, place, message).with_help(
+        "each `!`, `&&`, `||`, `=>` and each label between [ ] or < > is a node; `!a` is shorter than a list of all the \
+         labels but `a`. The largest one is marked",
+    ))
+}
+
+/// The first modality with an action formula that none is larger than.
+fn largest_action(table: &Table) -> Option<Span> {
+    let sizes = action_sizes(&table.actions);
+    let size = |kind: Kind| match kind {
+        Kind::Box(action) | Kind::Diamond(action) => sizes.get(action).copied().unwrap_or(0),
+        _ => 0,
+    };
+    table.nodes.iter().rev().max_by_key(|node| size(node.kind)).map(|node| node.span)
+}
+
+fn formula_nodes(case: &Case, count: usize) -> Option<Fault> {
+    let most = limits::FORMULA_NODES;
+    if (1..=most).contains(&count) {
+        return None;
+    }
+    let message = format!("{}: the checker takes 1 to {most}", amount::of(count, "formula node"));
+    let (source, whole) = case.formula();
+    let place = case.table().and_then(|table| table.nodes.get(most)).map_or(whole, |node| node.span);
+    Some(Fault::new(source, place, message).with_help(
+        "check the parts of the formula one by one; `+` between steps, and `+` behind one, write what follows twice",
+    ))
+}
+
+fn at_most(most: usize) -> String {
+    format!("the checker takes at most {}", amount::thousands(u64::try_from(most).unwrap_or(u64::MAX)))
+}

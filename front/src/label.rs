@@ -3,19 +3,38 @@
 /// The name of the silent step where nothing else is said; CADP writes `i`.
 pub const SILENT: &str = "tau";
 
+/// The words of the language of formulas, which no bare name is: what .mcf files have here, and what they have that is
+/// refused by name.
+pub const WORDS: [&str; 10] = ["true", "false", "mu", "nu", "forall", "exists", "val", "nil", "delay", "yaled"];
+
 /// A label as it is written, and what it means.
 #[derive(Clone, Debug, PartialEq, Eq, Hash)]
 pub struct Label {
     /// The names as they are written, joined by `|` without blanks.
     pub text: String,
-    /// The names in order, each as often as it is written, without the silent step's. The silent step has none.
+    /// The names in alphabetical order, each as often as it is written, without the silent step's. The silent step has
+    /// none.
     pub names: Vec<String>,
 }
 
 impl Label {
     /// Reads a label's text (without quotes), in which `|` stands between names. An error says what is wrong.
     pub fn read(text: &str, silent: &str) -> Result<Label, String> {
-        todo!()
+        let written: Vec<&str> = text.split('|').map(str::trim).collect();
+        if text.trim().is_empty() {
+            return Err("a label has a name, and this one is empty".to_string());
+        }
+        if written.contains(&"") {
+            return Err("a name stands before and behind each \"|\", and here one is missing".to_string());
+        }
+        let joined = written.join("|");
+        if joined.contains(['\n', '\r']) {
+            return Err("a label stands on one line, and here a line ends inside it".to_string());
+        }
+        let mut names: Vec<String> =
+            written.iter().filter(|&&name| name != silent).map(|name| name.to_string()).collect();
+        names.sort();
+        Ok(Label { text: joined, names })
     }
 
     /// Do both have the same names, each as often? Then a label in a formula accepts both.
@@ -29,17 +48,37 @@ impl Label {
 
     /// Is it written with `|`? Then the case has version 2, in which labels are compared by their names.
     pub fn is_joined(&self) -> bool {
-        todo!()
+        self.text.contains('|')
     }
 
-    /// As .aut and .mcf files write it: bare if it can be (`is_bare`), else in quotes, with `\"` and `\\`.
+    /// As formulas write it: bare if each of its names can be (`is_bare`), else in quotes.
     pub fn quoted(&self) -> String {
-        todo!()
+        if self.text.split('|').all(is_bare) {
+            self.text.clone()
+        } else {
+            self.in_quotes()
+        }
+    }
+
+    /// In quotes, with `\"` and `\\` for a quote and a backslash.
+    pub fn in_quotes(&self) -> String {
+        format!("\"{}\"", self.text.replace('\\', "\\\\").replace('"', "\\\""))
     }
 }
 
 /// Can a formula hold this name without quotes? A letter or `_`, then letters, digits, `_`, `'`, and `-` between two of
 /// these; and not a word of the language.
 pub fn is_bare(name: &str) -> bool {
-    todo!()
+    let whole = name.split('-').all(|part| !part.is_empty() && part.chars().all(continues_name));
+    whole && name.starts_with(begins_name) && !WORDS.contains(&name)
+}
+
+/// Can a bare name begin with this?
+pub fn begins_name(letter: char) -> bool {
+    letter.is_alphabetic() || letter == '_'
+}
+
+/// Can this stand inside a bare name, beside `-`?
+pub fn continues_name(letter: char) -> bool {
+    begins_name(letter) || letter.is_ascii_digit() || letter == '\''
 }

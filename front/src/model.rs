@@ -1,9 +1,12 @@
 //! A model: a finite labelled transition system, with names of states for people.
 
 use crate::label::Label;
-use crate::source::{Source, Span};
+use crate::source::{shown, Source, Span};
 use std::collections::BTreeMap;
 use std::sync::Arc;
+
+/// A case file has 16 bits for a state: no state with a number from here on can be checked, and none is looked at.
+const NUMBERED: usize = 1 << 16;
 
 /// A record of the model: from a state, by a label (its place in the model's list), to a state.
 #[derive(Clone, Copy, Debug, PartialEq, Eq)]
@@ -11,7 +14,7 @@ pub struct Transition {
     pub source: usize,
     pub label: usize,
     pub target: usize,
-    /// The line that it was read from.
+    /// The line that it was read from, without the blanks around it.
     pub span: Span,
 }
 
@@ -33,13 +36,42 @@ pub struct Model {
 }
 
 impl Model {
-    /// A state as people read it: its name, or `state 3`.
+    /// A state as people read it: its name, or `state 3`. A terminal can show it as it is.
     pub fn state(&self, state: usize) -> String {
-        todo!()
+        match self.names.get(&state) {
+            Some(name) => shown(name),
+            None => unnamed(state),
+        }
     }
 
-    /// The states that the initial state reaches by zero or more transitions, for a model whose numbers are in range.
+    /// For each state, whether the initial state reaches it by zero or more transitions. A model whose numbers are out of
+    /// range has an answer too, in which what is out of range reaches nothing and is not reached.
     pub fn reachable(&self) -> Vec<bool> {
-        todo!()
+        let targets = self.targets();
+        let mut reached = vec![false; targets.len()];
+        let mut waiting = vec![self.initial];
+        while let Some(state) = waiting.pop() {
+            if let Some(place) = reached.get_mut(state).filter(|place| !**place) {
+                *place = true;
+                waiting.extend(&targets[state]);
+            }
+        }
+        reached
     }
+
+    /// For each state, where its transitions lead.
+    fn targets(&self) -> Vec<Vec<usize>> {
+        let mut targets = vec![Vec::new(); self.states.min(NUMBERED)];
+        for transition in &self.transitions {
+            if let Some(from_here) = targets.get_mut(transition.source) {
+                from_here.push(transition.target);
+            }
+        }
+        targets
+    }
+}
+
+/// What a state is called that has no name.
+pub fn unnamed(state: usize) -> String {
+    format!("state {state}")
 }

@@ -1,10 +1,10 @@
 //! The Aldebaran format .aut: `des (initial, transitions, states)`, then `(from, "label", to)` a line.
 
+use crate::amount;
 use crate::label::Label;
 use crate::limits;
 use crate::line::{lines, Line, NoNumber};
 use crate::model::{Model, Transition};
-use crate::number::{counted, grouped};
 use crate::source::{shown, Fault, Source, Span};
 use std::collections::{BTreeMap, HashMap};
 use std::fmt::Write;
@@ -95,15 +95,15 @@ fn header_number(
 }
 
 fn large_state(digits: &str) -> String {
-    format!("state {digits}: the checker takes the states 0 to {}", grouped(limits::STATES - 1))
+    format!("state {digits}: the checker takes the states 0 to {}", limits::STATES - 1)
 }
 
 fn large_states(digits: &str) -> String {
-    format!("{digits} states: the checker takes 1 to {}", grouped(limits::STATES))
+    format!("{digits} states: the checker takes 1 to {}", limits::STATES)
 }
 
 fn large_transitions(digits: &str) -> String {
-    format!("{digits} transitions: the checker takes 0 to {}", grouped(limits::TRANSITIONS))
+    format!("{digits} transitions: the checker takes 0 to {}", amount::thousands(limits::TRANSITIONS as u64))
 }
 
 /// The header's number of transitions has to be the number of lines that follow: else a line is missing or too many.
@@ -112,7 +112,8 @@ fn check_count(source: &Arc<Source>, header: &Header, lines: usize) -> Result<()
         return Ok(());
     }
     let follow = if lines == 1 { "follows" } else { "follow" };
-    let message = format!("the header says {}, {} {follow}", counted(header.transitions, "transition"), grouped(lines));
+    let says = amount::of(header.transitions, "transition");
+    let message = format!("the header says {says}, {} {follow}", amount::thousands(lines as u64));
     Err(Fault::new(source, header.count, message).with_help(format!("write {lines}")))
 }
 

@@ -24,7 +24,6 @@ pub mod limits;
 mod line;
 pub mod model;
 pub mod names;
-pub mod number;
 pub mod page;
 pub mod parser;
 pub mod print;

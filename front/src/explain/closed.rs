@@ -1,0 +1,122 @@
+//! Parts that are shown by all that can happen: from some positions on the one who explains has nothing to choose, so the
+//! states that come are the whole proof.
+
+use super::cycles::on_cycles;
+use super::game::{Game, Position, Way};
+use super::graph::{reversed, shortest, Graph};
+use crate::table::Kind;
+use std::collections::BTreeSet;
+
+/// Where the game goes on from a position if the other may choose freely.
+enum Next {
+    /// To these positions; those beside them are facts.
+    On { to: Vec<Way>, facts: Vec<Position> },
+    /// The one who explains has to choose.
+    Choice,
+}
+
+/// The states that can come from a position, and the closed parts that are facts there.
+pub struct Region {
+    pub states: Vec<usize>,
+    pub facts: Vec<Position>,
+}
+
+/// The part of the game in which the one who explains has nothing to choose.
+pub struct Regions {
+    graph: Graph,
+    facts: Vec<Vec<Position>>,
+    /// From which positions is there no choice ahead, and no loop of the wrong binder?
+    proved: Vec<bool>,
+}
+
+impl Regions {
+    pub fn of(game: &Game) -> Regions {
+        let mut regions = Regions {
+            graph: vec![Vec::new(); game.positions()],
+            facts: vec![Vec::new(); game.positions()],
+            proved: Vec::new(),
+        };
+        let mut broken = Vec::new();
+        for position in (0..game.positions()).filter(|&position| game.is_so(position)) {
+            match next(game, position) {
+                Next::On { to, facts } => {
+                    regions.graph[position] = to;
+                    regions.facts[position] = facts;
+                }
+                Next::Choice => broken.push(position),
+            }
+        }
+        let backward = reversed(&regions.graph);
+        broken.extend(wrong_loops(game, &regions.graph, &backward));
+        let reaches_broken = all_reached(&backward, broken);
+        regions.proved = (0..game.positions()).map(|at| game.is_so(at) && !reaches_broken[at]).collect();
+        regions
+    }
+
+    pub fn proves(&self, position: Position) -> bool {
+        self.proved[position]
+    }
+
+    /// What can come from a position, the nearest states first.
+    pub fn from(&self, game: &Game, position: Position) -> Region {
+        let order = shortest(&self.graph, position, &(0..game.positions()), usize::MAX).order;
+        let mut seen = BTreeSet::new();
+        let states = order.iter().map(|&at| game.state(at)).filter(|&state| seen.insert(state)).collect();
+        let mut seen = BTreeSet::new();
+        let facts = order.iter().flat_map(|&at| self.facts[at].iter().copied());
+        Region { states, facts: facts.filter(|&fact| seen.insert(fact)).collect() }
+    }
+}
+
+fn next(game: &Game, position: Position) -> Next {
+    match game.kind(position) {
+        Kind::False | Kind::True => Next::On { to: Vec::new(), facts: vec![position] },
+        Kind::Variable(binder) => only(game.position(binder, game.state(position))),
+        Kind::Mu | Kind::Nu => only(position + game.model.states),
+        Kind::And | Kind::Or if game.chooses(position) => own_sides(game, position),
+        _ if game.chooses(position) => Next::Choice,
+        Kind::And | Kind::Or => parted(game, game.operands(position).into_iter().map(Way::on).collect()),
+        Kind::Box(_) | Kind::Diamond(_) => parted(game, game.targets(position)),
+    }
+}
+
+fn only(to: Position) -> Next {
+    Next::On { to: vec![Way::on(to)], facts: Vec::new() }
+}
+
+/// All ways have to be shown: closed parts are facts, the others go on.
+fn parted(game: &Game, ways: Vec<Way>) -> Next {
+    let (closed, to): (Vec<Way>, Vec<Way>) = ways.into_iter().partition(|way| game.is_closed(way.to));
+    Next::On { to, facts: closed.into_iter().map(|way| way.to).collect() }
+}
+
+/// One side is enough. There is nothing to choose if one of the two is closed: it is taken if it is a fact.
+fn own_sides(game: &Game, position: Position) -> Next {
+    let (closed, open): (Vec<_>, Vec<_>) = game.operands(position).into_iter().partition(|&side| game.is_closed(side));
+    match (closed.into_iter().find(|&side| game.is_so(side)), open.as_slice()) {
+        (Some(fact), _) => Next::On { to: Vec::new(), facts: vec![fact] },
+        (None, &[to]) => only(to),
+        _ => Next::Choice,
+    }
+}
+
+/// The positions of binders of the wrong kind that lie on a loop which passes no binder further out.
+fn wrong_loops(game: &Game, graph: &Graph, backward: &Graph) -> Vec<Position> {
+    let of_binder = |binder: usize| {
+        let cyclic = on_cycles(graph, backward, &game.subtree(binder));
+        let first = game.position(binder, 0);
+        (first..first + game.model.states).filter(move |&at| cyclic[at]).collect::<Vec<_>>()
+    };
+    game.binders(false).into_iter().flat_map(of_binder).collect()
+}
+
+/// Which positions are reached from some of these?
+fn all_reached(graph: &Graph, mut waiting: Vec<Position>) -> Vec<bool> {
+    let mut reached = vec![false; graph.len()];
+    while let Some(position) = waiting.pop() {
+        if !std::mem::replace(&mut reached[position], true) {
+            waiting.extend(graph[position].iter().map(|way| way.to));
+        }
+    }
+    reached
+}

@@ -3,7 +3,7 @@
 use crate::label::Label;
 use crate::limits;
 use crate::model::Model;
-use crate::source::{Fault, Source, Span};
+use crate::source::{shown, Fault, Source, Span};
 use crate::table::Table;
 use std::collections::HashMap;
 use std::sync::Arc;
@@ -68,19 +68,24 @@ impl<'a> LabelNumbers<'a> {
     /// The names from 1 in order of first appearance.
     fn name_numbers(&self) -> HashMap<&'a str, usize> {
         let mut numbers = HashMap::new();
-        for name in self.labels.iter().flat_map(|label| &label.names) {
+        for name in self.labels.iter().flat_map(|label| written_names(label)) {
             let next = numbers.len() + 1;
-            numbers.entry(name.as_str()).or_insert(next);
+            numbers.entry(name).or_insert(next);
         }
         numbers
     }
 }
 
+/// A label's names in the order in which they are written, without the silent step's.
+fn written_names(label: &Label) -> impl Iterator<Item = &str> {
+    label.text.split('|').filter(|&name| label.names.iter().any(|own| own == name))
+}
+
 /// A label's record, whose names are at most four: others were a fault before.
 fn record(label: &Label, numbers: &HashMap<&str, usize>) -> [usize; limits::NAMES_OF_A_LABEL] {
     let mut record = [0; limits::NAMES_OF_A_LABEL];
-    for (place, name) in record.iter_mut().zip(&label.names) {
-        *place = numbers.get(name.as_str()).copied().unwrap_or(0);
+    for (place, name) in record.iter_mut().zip(written_names(label)) {
+        *place = numbers.get(name).copied().unwrap_or(0);
     }
     record
 }
@@ -100,7 +105,7 @@ pub fn check_names(model: &Model, table: Option<&Table>) -> Result<(), Fault> {
 }
 
 fn too_many_names(source: &Arc<Source>, span: Span, label: &Label) -> Fault {
-    let (text, count, most) = (&label.text, label.names.len(), limits::NAMES_OF_A_LABEL);
+    let (text, count, most) = (shown(&label.text), label.names.len(), limits::NAMES_OF_A_LABEL);
     let message =
         format!("the label `{text}` has {count} names: the checker takes at most {most} that happen together");
     Fault::new(source, span, message).with_help(

@@ -2,7 +2,7 @@
 
 use crate::label::Label;
 use crate::model::Model;
-use crate::source::{Fault, Span};
+use crate::source::{shown, Fault, Span};
 use crate::suggest;
 use crate::table::Table;
 use std::collections::HashSet;
@@ -28,13 +28,13 @@ fn used_labels(model: &Model) -> Vec<&Label> {
 }
 
 fn fault(table: &Table, label: &Label, span: Span, labels: &[&Label]) -> Fault {
-    let message = format!("no transition has the label `{}`", label.text);
+    let message = format!("no transition has the label `{}`", shown(&label.text));
     Fault::new(&table.source, span, message).with_help(help(&label.text, labels))
 }
 
 fn help(text: &str, labels: &[&Label]) -> String {
     let nearest = suggest::nearest(text, labels.iter().map(|label| label.text.as_str()));
-    let question = nearest.map(|nearest| format!("did you mean `{nearest}`? ")).unwrap_or_default();
+    let question = nearest.map(|nearest| format!("did you mean `{}`? ", shown(nearest))).unwrap_or_default();
     let there_are = match labels.len() {
         0 => "The model has no transitions".to_string(),
         _ => format!("The model's labels: {}", listed(labels)),
@@ -47,7 +47,7 @@ fn help(text: &str, labels: &[&Label]) -> String {
 
 /// The first labels of a list, and how many more there are.
 fn listed(labels: &[&Label]) -> String {
-    let first: Vec<String> = labels.iter().take(LISTED).map(|label| format!("`{}`", label.text)).collect();
+    let first: Vec<String> = labels.iter().take(LISTED).map(|label| format!("`{}`", shown(&label.text))).collect();
     let more = labels.len().saturating_sub(LISTED);
     match more {
         0 => first.join(", "),

@@ -7,6 +7,7 @@
 //! into the checker's node table (`Table`); `case` writes both as a case file; `check` asks the library by both routes;
 //! `explain` says why the verdict is what it is, and `back` turns a case file into text again.
 
+pub mod amount;
 pub mod aut;
 pub mod back;
 pub mod case;

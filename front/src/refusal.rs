@@ -5,8 +5,8 @@ mod counts;
 mod model_numbers;
 mod names;
 
+use crate::amount;
 use crate::case::Case;
-use crate::number::counted;
 use crate::source::Fault;
 
 /// A refusal in words, at the place that brought it about: `300 states: the checker takes 1 to 256`.
@@ -25,7 +25,7 @@ pub fn fault(case: &Case, number: u64, limit: u64) -> Fault {
 /// A run that did not end within the round limit, by a route in words.
 pub fn spent(case: &Case, route: &str, limit: u64) -> Fault {
     let (source, span) = case.formula();
-    let message = format!("more than {} by {route}", counted(limit, "round"));
+    let message = format!("more than {} by {route}", amount::of(limit, "round"));
     Fault::new(source, span, message).with_refusal(14).with_help(
         "a larger --limit allows more rounds; a formula with fewer mu and nu one inside another takes fewer of them",
     )

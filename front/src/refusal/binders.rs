@@ -1,8 +1,8 @@
 //! Refusal 10: more blocks than an equation file has, one for each fixed point.
 
+use crate::amount;
 use crate::case::Case;
 use crate::limits;
-use crate::number;
 use crate::source::Fault;
 use crate::table::Table;
 
@@ -16,7 +16,7 @@ pub fn fault(case: &Case) -> Option<Fault> {
     let added = blocks - binders.len();
     let place = binders.get(limits::BLOCKS.saturating_sub(added)).and_then(|&node| table.nodes.get(node));
     let span = place.map_or(case.formula().1, |node| node.span);
-    let message = format!("{}: the checker takes at most {}", number::counted(blocks, "fixed point"), limits::BLOCKS);
+    let message = format!("{}: the checker takes at most {}", amount::of(blocks, "fixed point"), limits::BLOCKS);
     Some(Fault::new(&table.source, span, message).with_help(counted(table, &binders, added)))
 }
 

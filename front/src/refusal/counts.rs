@@ -2,9 +2,9 @@
 
 use super::model_numbers::{header_number, HeaderNumber};
 use super::names::label_fault;
+use crate::amount;
 use crate::case::{action_sizes, Case};
 use crate::limits;
-use crate::number::{counted, grouped};
 use crate::source::{Fault, Span};
 use crate::table::{Kind, Table};
 use std::collections::HashSet;
@@ -28,7 +28,7 @@ fn states(case: &Case, count: usize) -> Option<Fault> {
         _ if count > limits::STATES => MERGE,
         _ => return None,
     };
-    let message = format!("{}: the checker takes 1 to {}", counted(count, "state"), limits::STATES);
+    let message = format!("{}: the checker takes 1 to {}", amount::of(count, "state"), limits::STATES);
     Some(Fault::new(&case.model.source, header_number(&case.model, HeaderNumber::States), message).with_help(help))
 }
 
@@ -42,7 +42,7 @@ fn transitions(case: &Case, count: usize) -> Option<Fault> {
         true => format!("only {} of them are different: leave out the copies", different.len()),
         false => MERGE.to_string(),
     };
-    let message = format!("{}: {}", counted(count, "transition"), at_most(most));
+    let message = format!("{}: {}", amount::of(count, "transition"), at_most(most));
     Some(Fault::new(&case.model.source, header_number(&case.model, HeaderNumber::Transitions), message).with_help(help))
 }
 
@@ -55,7 +55,7 @@ fn labels(case: &Case, count: usize) -> Option<Fault> {
         0 => String::new(),
         more => format!(" ({more} of them named by the formula alone)"),
     };
-    let message = format!("{}{of_formula}: {}", counted(count, "label"), at_most(most));
+    let message = format!("{}{of_formula}: {}", amount::of(count, "label"), at_most(most));
     let fault = label_fault(case, message, |number, _| number >= most);
     Some(
         fault.with_help(
@@ -69,7 +69,7 @@ fn action_nodes(case: &Case, count: usize) -> Option<Fault> {
     if count <= most {
         return None;
     }
-    let message = format!("{}: {}", counted(count, "action node"), at_most(most));
+    let message = format!("{}: {}", amount::of(count, "action node"), at_most(most));
     let (source, whole) = case.formula();
     let place = case.table().and_then(largest_action).unwrap_or(whole);
     Some(Fault::new(source, place, message).with_help(
@@ -93,7 +93,7 @@ fn formula_nodes(case: &Case, count: usize) -> Option<Fault> {
     if (1..=most).contains(&count) {
         return None;
     }
-    let message = format!("{}: the checker takes 1 to {most}", counted(count, "formula node"));
+    let message = format!("{}: the checker takes 1 to {most}", amount::of(count, "formula node"));
     let (source, whole) = case.formula();
     let place = case.table().and_then(|table| table.nodes.get(most)).map_or(whole, |node| node.span);
     Some(Fault::new(source, place, message).with_help(
@@ -102,5 +102,5 @@ fn formula_nodes(case: &Case, count: usize) -> Option<Fault> {
 }
 
 fn at_most(most: usize) -> String {
-    format!("the checker takes at most {}", grouped(most))
+    format!("the checker takes at most {}", amount::thousands(most))
 }

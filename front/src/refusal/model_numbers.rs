@@ -1,8 +1,8 @@
 //! Refusal 6: a number of the model that is no state. And where a model's numbers stand in its text.
 
+use crate::amount;
 use crate::limits;
 use crate::model::{Model, Transition};
-use crate::number::counted;
 use crate::source::{Fault, Span};
 
 /// The numbers of a model's header, in the order in which they stand there.
@@ -34,7 +34,7 @@ fn transition_fault(model: &Model, transition: &Transition) -> Option<Fault> {
 
 fn no_state(model: &Model, span: Span, number: usize, what: &str) -> Fault {
     let last = model.states.saturating_sub(1);
-    let states = counted(model.states, "state");
+    let states = amount::of(model.states, "state");
     let message = format!("{what} {number}, but the header says {states}, which are 0 to {last}");
     let help = match number < limits::STATES {
         true => format!("write a state from 0 to {last} here, or {} as the last number of the header", number + 1),

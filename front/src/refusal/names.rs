@@ -1,9 +1,9 @@
 //! Refusal 15: more different names than a case has numbers for. And where a label of a case stands in the texts.
 
+use crate::amount;
 use crate::case::Case;
 use crate::label::Label;
 use crate::limits;
-use crate::number::counted;
 use crate::source::Fault;
 use std::collections::HashSet;
 
@@ -13,7 +13,7 @@ pub fn fault(case: &Case) -> Option<Fault> {
     if count <= most {
         return None;
     }
-    let message = format!("{}: the checker takes at most {most}", counted(count, "different name"));
+    let message = format!("{}: the checker takes at most {most}", amount::of(count, "different name"));
     let mut seen = HashSet::new();
     let fault = label_fault(case, message, |_, label| {
         seen.extend(label.names.iter().cloned());

@@ -171,7 +171,7 @@ impl fmt::Display for Fault {
 impl std::error::Error for Fault {}
 
 /// The line in which a part begins, as it is shown, and the carets that stand below what the part has of it.
-fn excerpt(source: &Source, span: Span) -> (String, String) {
+pub fn excerpt(source: &Source, span: Span) -> (String, String) {
     let line = source.line_around(span.start);
     let start = source.clamp(span.start).min(line.end);
     let end = source.clamp(span.end).min(line.end).max(start);
@@ -205,7 +205,8 @@ fn visible(text: &str) -> String {
     text.chars().map(visible_letter).collect()
 }
 
-fn visible_letter(letter: char) -> char {
+/// The character itself, or another in place of one that a terminal would obey or hide.
+pub fn visible_letter(letter: char) -> char {
     if letter.is_control() || is_hidden(letter) {
         char::REPLACEMENT_CHARACTER
     } else {

@@ -1,0 +1,135 @@
+//! `convert`: text to case files and back, and equations to read. Files are known by what they hold.
+
+use crate::arguments::ConvertArguments;
+use crate::exit::Exit;
+use crate::files;
+use crate::load::{Formula, Rules};
+use crate::output;
+use crate::trouble::Trouble;
+use bithrowy_front::case::Case;
+use bithrowy_front::{aut, back, library, limits, refusal};
+use std::io::{self, IsTerminal};
+
+pub fn run(arguments: &ConvertArguments) -> Result<Exit, Trouble> {
+    let bytes = files::bytes(&arguments.file)?;
+    match kind(&bytes) {
+        Kind::Model => from_text(arguments, bytes)?,
+        Kind::Case => from_case(arguments, &bytes)?,
+        Kind::Equations => from_equations(arguments, &bytes)?,
+    }
+    Ok(Exit::Good)
+}
+
+enum Kind {
+    Model,
+    Case,
+    Equations,
+}
+
+/// What a file holds. Text is a model. An equation file begins with its version in 32 bits, and so with three zeros behind
+/// the 1; a case file has its states there, and at least one.
+fn kind(bytes: &[u8]) -> Kind {
+    match bytes {
+        [1, 0, 0, 0, ..] => Kind::Equations,
+        _ if !bytes.contains(&0) && std::str::from_utf8(bytes).is_ok() => Kind::Model,
+        _ => Kind::Case,
+    }
+}
+
+fn from_text(arguments: &ConvertArguments, bytes: Vec<u8>) -> Result<(), Trouble> {
+    if arguments.aut.is_some() || arguments.mcf.is_some() {
+        return Err(wrong(arguments, "is text already: --aut and --mcf are for a case file", "write -o FILE"));
+    }
+    let formula = Formula::of(&arguments.formula)?.ok_or_else(|| {
+        wrong(arguments, "is a model, and a case has a formula too", "name the formula's file behind the model")
+    })?;
+    let rules = Rules::settle(&arguments.readings, Some(&formula.directives));
+    let model = aut::read(&files::text(&arguments.file, bytes)?, &rules.silent)?;
+    let case = formula.case(&model, &rules)?;
+    let equations = translated(&case)?;
+    if arguments.equations {
+        return write_equations(arguments, &equations);
+    }
+    write_case(arguments, &case)
+}
+
+/// The equation file of a case that the library accepts.
+fn translated(case: &Case) -> Result<Vec<u8>, Trouble> {
+    library::translate(&case.bytes).map_err(|number| refusal::fault(case, number, limits::ROUNDS).into())
+}
+
+fn write_case(arguments: &ConvertArguments, case: &Case) -> Result<(), Trouble> {
+    match &arguments.output {
+        Some(file) => files::write(file, &case.bytes),
+        None if io::stdout().is_terminal() => {
+            Err(Trouble::plain("a case file is not text, and a terminal cannot show it").with_help("write -o FILE"))
+        }
+        None => output::bytes(&case.bytes),
+    }
+}
+
+fn from_case(arguments: &ConvertArguments, bytes: &[u8]) -> Result<(), Trouble> {
+    without_formula(arguments, "a case file")?;
+    let refused =
+        |number| wrong(arguments, &refusal_words(number), "write a model as text, or a case that is accepted");
+    if arguments.equations {
+        return write_equations(arguments, &library::translate(bytes).map_err(refused)?);
+    }
+    if arguments.output.is_some() {
+        return Err(wrong(arguments, "is a case file, and its text is two files", "write --aut FILE --mcf FILE"));
+    }
+    write_texts(arguments, &back::texts(bytes).map_err(refused)?)
+}
+
+fn refusal_words(number: u64) -> String {
+    format!("is refused as a case file: {} (refusal {number})", refusal::meaning(number))
+}
+
+fn write_texts(arguments: &ConvertArguments, texts: &back::Texts) -> Result<(), Trouble> {
+    if let Some(file) = &arguments.aut {
+        files::write(file, texts.aut.as_bytes())?;
+    }
+    if let Some(file) = &arguments.mcf {
+        files::write(file, texts.mcf.as_bytes())?;
+    }
+    if arguments.aut.is_none() && arguments.mcf.is_none() {
+        output::exact(&format!("Model (.aut):\n{}\nFormula (.mcf):\n{}", texts.aut, texts.mcf))?;
+    }
+    Ok(())
+}
+
+fn from_equations(arguments: &ConvertArguments, bytes: &[u8]) -> Result<(), Trouble> {
+    without_formula(arguments, "an equation file")?;
+    if arguments.aut.is_some() || arguments.mcf.is_some() {
+        return Err(wrong(
+            arguments,
+            "is an equation file, which has no model and no formula",
+            "leave out --aut and --mcf",
+        ));
+    }
+    write_equations(arguments, bytes)
+}
+
+fn write_equations(arguments: &ConvertArguments, file: &[u8]) -> Result<(), Trouble> {
+    let text = back::equations(file)
+        .map_err(|words| wrong(arguments, &format!("cannot be read: {words}"), "see README, \"The equation file\""))?;
+    match &arguments.output {
+        Some(file) => files::write(file, text.as_bytes()),
+        None => output::exact(&text),
+    }
+}
+
+fn without_formula(arguments: &ConvertArguments, holds: &str) -> Result<(), Trouble> {
+    match (&arguments.formula.formula, &arguments.formula.expression) {
+        (None, None) => Ok(()),
+        _ => Err(wrong(
+            arguments,
+            &format!("is {holds}, and needs no formula"),
+            "leave the formula out, or name a model",
+        )),
+    }
+}
+
+fn wrong(arguments: &ConvertArguments, what: &str, help: &str) -> Trouble {
+    Trouble::plain(format!("{} {what}", files::shown(&arguments.file))).with_help(help)
+}

@@ -1,0 +1,106 @@
+//! Faults as people see them: what is wrong, the line with a caret, and what to do.
+
+use crate::output::visible;
+use crate::trouble::Trouble;
+use bithrowy_front::source::{excerpt, Fault};
+use codespan_reporting::diagnostic::{Diagnostic, Label};
+use codespan_reporting::files::{Error, Files};
+use codespan_reporting::term::termcolor::{ColorChoice, NoColor, StandardStream, WriteColor};
+use codespan_reporting::term::{emit, Chars, Config};
+use std::io::{self, IsTerminal};
+use std::ops::Range;
+
+/// Says on standard error what is wrong, in colour where a person looks at a terminal and has not asked for none.
+pub fn report(trouble: &Trouble) {
+    let colours = io::stderr().is_terminal() && std::env::var_os("NO_COLOR").map_or(true, |value| value.is_empty());
+    let choice = if colours { ColorChoice::Auto } else { ColorChoice::Never };
+    write(&mut StandardStream::stderr(choice).lock(), trouble);
+}
+
+/// The same as text without colours.
+pub fn text(trouble: &Trouble) -> String {
+    let mut out = NoColor::new(Vec::new());
+    write(&mut out, trouble);
+    String::from_utf8_lossy(&out.into_inner()).trim_end().to_string()
+}
+
+fn write(out: &mut dyn WriteColor, trouble: &Trouble) {
+    let config = Config { chars: Chars::ascii(), ..Config::default() };
+    let notes = trouble.help().into_iter().map(|help| format!("help: {}", visible(&help))).collect();
+    let said = Diagnostic::error().with_message(visible(&trouble.message())).with_notes(notes);
+    let (said, excerpt) = match trouble {
+        Trouble::Fault(fault) => at_place(said, fault),
+        _ => (said, Excerpt::default()),
+    };
+    // Where standard error is closed nobody can be told.
+    let _ = emit(out, &config, &excerpt, &said);
+}
+
+fn at_place(said: Diagnostic<()>, fault: &Fault) -> (Diagnostic<()>, Excerpt) {
+    let excerpt = Excerpt::new(fault);
+    let said = said.with_labels(vec![Label::primary((), excerpt.marked.clone())]);
+    let said = match fault.refusal {
+        Some(number) => said.with_code(format!("refusal {number}")),
+        None => said,
+    };
+    (said, excerpt)
+}
+
+/// The one line at which a fault points, as it is shown.
+#[derive(Default)]
+struct Excerpt {
+    name: String,
+    line: usize,
+    column: usize,
+    text: String,
+    /// The bytes of the text that are marked.
+    marked: Range<usize>,
+}
+
+impl Excerpt {
+    fn new(fault: &Fault) -> Excerpt {
+        let place = fault.source.place(fault.span.start);
+        let (text, carets) = excerpt(&fault.source, fault.span);
+        let before = carets.chars().take_while(|&c| c != '^').count();
+        let marked = byte_at(&text, before)..byte_at(&text, carets.chars().count());
+        Excerpt { name: visible(&fault.source.name), line: place.line, column: place.column, text, marked }
+    }
+}
+
+/// Where a character begins; the end of a text that has no more characters.
+fn byte_at(text: &str, character: usize) -> usize {
+    text.char_indices().nth(character).map_or(text.len(), |(byte, _)| byte)
+}
+
+impl<'a> Files<'a> for Excerpt {
+    type FileId = ();
+    type Name = &'a str;
+    type Source = &'a str;
+
+    fn name(&'a self, _: ()) -> Result<&'a str, Error> {
+        Ok(&self.name)
+    }
+
+    fn source(&'a self, _: ()) -> Result<&'a str, Error> {
+        Ok(&self.text)
+    }
+
+    fn line_index(&'a self, _: (), _: usize) -> Result<usize, Error> {
+        Ok(0)
+    }
+
+    fn line_number(&'a self, _: (), _: usize) -> Result<usize, Error> {
+        Ok(self.line)
+    }
+
+    fn column_number(&'a self, _: (), _: usize, _: usize) -> Result<usize, Error> {
+        Ok(self.column)
+    }
+
+    fn line_range(&'a self, _: (), line: usize) -> Result<Range<usize>, Error> {
+        match line {
+            0 => Ok(0..self.text.len()),
+            _ => Err(Error::LineTooLarge { given: line, max: 0 }),
+        }
+    }
+}

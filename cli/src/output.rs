@@ -1,0 +1,39 @@
+//! What goes to standard output, and how text from files is made safe to look at.
+
+use crate::trouble::Trouble;
+use bithrowy_front::source::visible_letter;
+use std::io::{self, ErrorKind, IsTerminal, Write};
+
+/// Writes text for people: control characters that came from files are replaced.
+pub fn text(text: &str) -> Result<(), Trouble> {
+    bytes(visible(text).as_bytes())
+}
+
+/// Writes text that another program reads again: into a file or a pipe as it is, on a terminal as text for people.
+pub fn exact(content: &str) -> Result<(), Trouble> {
+    if io::stdout().is_terminal() {
+        return text(content);
+    }
+    bytes(content.as_bytes())
+}
+
+/// Writes bytes. A reader who has gone away is no fault: what was asked is done, and nobody looks at the rest.
+pub fn bytes(bytes: &[u8]) -> Result<(), Trouble> {
+    let mut out = io::stdout().lock();
+    match out.write_all(bytes).and_then(|()| out.flush()) {
+        Err(error) if error.kind() != ErrorKind::BrokenPipe => {
+            Err(Trouble::plain(format!("the output cannot be written: {error}")))
+        }
+        _ => Ok(()),
+    }
+}
+
+/// The text with another character in place of each that a terminal would obey or hide; ends of lines and tabs stay.
+pub fn visible(text: &str) -> String {
+    text.chars().map(|c| if is_obeyed(c) { visible_letter(c) } else { c }).collect()
+}
+
+/// Would a terminal obey or hide this character instead of showing it?
+pub fn is_obeyed(c: char) -> bool {
+    c != '\n' && c != '\t' && visible_letter(c) != c
+}

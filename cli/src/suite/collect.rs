@@ -1,0 +1,163 @@
+//! Which checks there are.
+
+use super::patterns;
+use crate::arguments::Readings;
+use crate::files;
+use crate::load::{Formula, Rules};
+use crate::trouble::Trouble;
+use bithrowy_front::source::{Fault, Span};
+use std::fs;
+use std::path::{Path, PathBuf};
+
+/// A check that is to be run, or a formula's file that leads to none.
+pub struct Planned {
+    pub name: String,
+    pub formula: String,
+    pub task: Result<Task, Trouble>,
+}
+
+pub struct Task {
+    pub text: Formula,
+    pub rules: Rules,
+    pub model: PathBuf,
+    pub expected: bool,
+}
+
+/// A model with the verdict expected there, and the place that says so.
+struct Wanted {
+    model: PathBuf,
+    expected: bool,
+    span: Span,
+}
+
+/// The checks of the folders, in order of the folders, the formulas' file names and their directives.
+pub fn collect(paths: &[PathBuf], filter: Option<&str>) -> Result<Vec<Planned>, Trouble> {
+    let mut planned = Vec::new();
+    for path in paths {
+        for file in formulas(path)? {
+            planned.extend(of_formula(&file));
+        }
+    }
+    planned.retain(|check: &Planned| filter.map_or(true, |text| check.mentions(text)));
+    if planned.is_empty() {
+        return Err(nothing(paths, filter));
+    }
+    Ok(planned)
+}
+
+fn nothing(paths: &[PathBuf], filter: Option<&str>) -> Trouble {
+    let paths: Vec<String> = paths.iter().map(|path| files::shown(path)).collect();
+    let found = Trouble::plain(format!("no check found in {}", paths.join(", ")));
+    match filter {
+        Some(text) => found.with_help(format!("no formula's name or file and no model's file has the text `{text}`")),
+        None => {
+            found.with_help("a folder has formulas in files *.mcf, which name their models by `% models: NAME.aut`")
+        }
+    }
+}
+
+/// The formulas of a folder, sorted; of a file, itself.
+fn formulas(path: &Path) -> Result<Vec<PathBuf>, Trouble> {
+    if path.is_file() {
+        return Ok(vec![path.to_path_buf()]);
+    }
+    let unreadable = |error| Trouble::plain(format!("{} cannot be read: {error}", files::shown(path)));
+    let mut found = Vec::new();
+    for entry in fs::read_dir(path).map_err(unreadable)? {
+        let file = entry.map_err(unreadable)?.path();
+        if file.extension().is_some_and(|extension| extension == "mcf") && file.is_file() {
+            found.push(file);
+        }
+    }
+    found.sort();
+    Ok(found)
+}
+
+fn of_formula(file: &Path) -> Vec<Planned> {
+    let shown = files::shown(file);
+    let planned = |name: &str, task| Planned { name: name.to_string(), formula: shown.clone(), task };
+    let formula = match files::source(file).and_then(Formula::new) {
+        Ok(formula) => formula,
+        Err(trouble) => return vec![planned(&shown, Err(trouble))],
+    };
+    let name = formula.directives.name.clone().unwrap_or_else(|| shown.clone());
+    match wanted(file, &formula) {
+        Ok(wanted) => wanted.into_iter().map(|wanted| planned(&name, Ok(task(&formula, wanted)))).collect(),
+        Err(trouble) => vec![planned(&name, Err(trouble))],
+    }
+}
+
+fn task(formula: &Formula, wanted: Wanted) -> Task {
+    let rules = Rules::settle(&Readings::default(), Some(&formula.directives));
+    Task { text: formula.clone(), rules, model: wanted.model, expected: wanted.expected }
+}
+
+/// The models that a formula names, each once.
+fn wanted(file: &Path, formula: &Formula) -> Result<Vec<Wanted>, Trouble> {
+    let folder = file.parent().unwrap_or(Path::new(""));
+    let mut all: Vec<Wanted> = Vec::new();
+    for expectation in &formula.directives.expectations {
+        for (pattern, span) in &expectation.patterns {
+            for model in models(formula, folder, pattern, *span)? {
+                add(formula, &mut all, Wanted { model, expected: expectation.expected, span: *span })?;
+            }
+        }
+    }
+    if all.is_empty() {
+        return Err(unnamed(formula));
+    }
+    Ok(all)
+}
+
+fn models(formula: &Formula, folder: &Path, pattern: &str, span: Span) -> Result<Vec<PathBuf>, Trouble> {
+    let models = patterns::files(folder, pattern);
+    if models.is_empty() {
+        let fault = Fault::new(&formula.source, span, format!("no file matches `{pattern}`"));
+        let help = format!("names are looked up from {}; `*` stands for any characters, `?` for one", place(folder));
+        return Err(fault.with_help(help).into());
+    }
+    Ok(models)
+}
+
+fn place(folder: &Path) -> String {
+    if folder == Path::new("") {
+        "this folder".to_string()
+    } else {
+        files::shown(folder)
+    }
+}
+
+fn add(formula: &Formula, all: &mut Vec<Wanted>, wanted: Wanted) -> Result<(), Trouble> {
+    match all.iter().find(|other| other.model == wanted.model) {
+        None => all.push(wanted),
+        Some(other) if other.expected == wanted.expected => {}
+        Some(other) => return Err(contradiction(formula, other, &wanted)),
+    }
+    Ok(())
+}
+
+fn contradiction(formula: &Formula, first: &Wanted, second: &Wanted) -> Trouble {
+    let word = |expected| if expected { "hold" } else { "fail" };
+    let message = format!(
+        "{} is named twice: the formula is to {} there, and to {}",
+        files::shown(&second.model),
+        word(first.expected),
+        word(second.expected)
+    );
+    let line = formula.source.place(first.span.start).line;
+    let help = format!("line {line} names it first; make one of the two patterns narrower");
+    Fault::new(&formula.source, second.span, message).with_help(help).into()
+}
+
+fn unnamed(formula: &Formula) -> Trouble {
+    Fault::new(&formula.source, Span::new(0, 0), "the formula names no models")
+        .with_help("add a line `% models: NAME.aut`, and `% expect: false` below it if the formula is to fail there")
+        .into()
+}
+
+impl Planned {
+    fn mentions(&self, text: &str) -> bool {
+        let model = self.task.as_ref().map(|task| files::shown(&task.model)).unwrap_or_default();
+        self.name.contains(text) || self.formula.contains(text) || model.contains(text)
+    }
+}

@@ -78,11 +78,12 @@ impl<'a> Line<'a> {
     pub fn fault(&mut self, message: impl Into<String>) -> Fault {
         let word = next_word(self.rest());
         let start = self.rest_span().start;
-        let mut message = message.into();
-        if !word.is_empty() {
-            message.push_str(&format!(", found \"{}\"", shown(word)));
-        }
-        Fault::new(self.source, Span::new(start, start + word.len()), message)
+        let found = match word {
+            "" => String::new(),
+            "\"" => ", found a quote".to_string(),
+            _ => format!(", found \"{}\"", shown(word)),
+        };
+        Fault::new(self.source, Span::new(start, start + word.len()), message.into() + &found)
     }
 }
 

@@ -7,6 +7,7 @@ use super::net::{self, Kind, Net};
 use super::order::untangle;
 use super::place::place;
 use super::xml::Element;
+use crate::amount::of;
 
 const MARGIN: f64 = 16.0;
 
@@ -78,8 +79,8 @@ fn words(graph: &Graph) -> [Element; 2] {
 }
 
 fn description(graph: &Graph) -> String {
-    let states = counted(graph.states.len(), "state");
-    let transitions = counted(graph.edges.iter().map(|edge| edge.labels.len()).sum(), "transition");
+    let states = of(graph.states.len(), "state");
+    let transitions = of(graph.edges.iter().map(|edge| edge.labels.len()).sum::<usize>(), "transition");
     let initial = graph.initial.and_then(|state| graph.states.get(state));
     let begins = initial.map_or(String::new(), |state| format!(" It begins in {}.", state.name));
     format!("{states}, {transitions}.{begins}{}", holding(graph))
@@ -93,10 +94,6 @@ fn holding(graph: &Graph) -> String {
         (true, true) => " The formula holds in none of them.".to_string(),
         (true, false) => format!(" The formula holds in {}.", names.join(", ")),
     }
-}
-
-fn counted(count: usize, what: &str) -> String {
-    format!("{count} {what}{}", if count == 1 { "" } else { "s" })
 }
 
 fn arrowhead() -> Element {

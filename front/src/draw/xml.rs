@@ -1,17 +1,24 @@
 //! Elements of SVG and HTML. All text goes through `escaped`, so that none of it can become markup.
 
+use crate::source::visible_letter;
 use std::fmt;
 
 /// An element with its attributes and content, written out as it is built.
 pub(crate) struct Element {
     name: &'static str,
     attributes: String,
-    content: String,
+    /// None for an element that HTML writes without an end.
+    content: Option<String>,
 }
 
 impl Element {
     pub fn new(name: &'static str) -> Element {
-        Element { name, attributes: String::new(), content: String::new() }
+        Element { name, attributes: String::new(), content: Some(String::new()) }
+    }
+
+    /// An element that never has content, and no end tag in HTML.
+    pub fn single(name: &'static str) -> Element {
+        Element { name, attributes: String::new(), content: None }
     }
 
     /// With one more attribute.
@@ -34,35 +41,37 @@ impl Element {
     }
 
     /// With more text in it.
-    pub fn text(mut self, text: &str) -> Element {
-        self.content.push_str(&escaped(text));
-        self
+    pub fn text(self, text: &str) -> Element {
+        self.markup(&escaped(text))
     }
 
     /// With another element in it, behind what it has.
-    pub fn child(mut self, child: Element) -> Element {
-        self.content.push_str(&child.to_string());
-        self
+    pub fn child(self, child: Element) -> Element {
+        self.markup(&child.to_string())
     }
 
     /// With further elements in it, each in a line of its own.
     pub fn lines(mut self, children: impl IntoIterator<Item = Element>) -> Element {
         for child in children {
-            self.content.push_str(&format!("\n{child}"));
+            self = self.markup("\n").child(child);
         }
         self
     }
 
-    /// With a text in it that is markup already.
+    /// With more in it that is markup already.
     pub fn markup(mut self, markup: &str) -> Element {
-        self.content.push_str(markup);
+        self.content.get_or_insert_with(String::new).push_str(markup);
         self
     }
 }
 
 impl fmt::Display for Element {
     fn fmt(&self, f: &mut fmt::Formatter) -> fmt::Result {
-        write!(f, "<{0}{1}>{2}</{0}>", self.name, self.attributes, self.content)
+        write!(f, "<{}{}>", self.name, self.attributes)?;
+        match &self.content {
+            Some(content) => write!(f, "{content}</{}>", self.name),
+            None => Ok(()),
+        }
     }
 }
 
@@ -82,13 +91,11 @@ pub(crate) fn escaped(text: &str) -> String {
     all
 }
 
-/// The character, or U+FFFD for one that XML forbids, that ends a line, or that turns the direction of writing.
+/// The character, or U+FFFD for one that acts on what stands around it, or that XML forbids.
 pub(crate) fn visible(character: char) -> char {
-    let acts = matches!(character,
-        '\u{61c}' | '\u{200e}' | '\u{200f}' | '\u{2028}'..='\u{202e}' | '\u{2066}'..='\u{2069}' | '\u{fffe}' | '\u{ffff}');
-    if acts || character.is_control() {
+    if matches!(character, '\u{fffe}' | '\u{ffff}') {
         char::REPLACEMENT_CHARACTER
     } else {
-        character
+        visible_letter(character)
     }
 }

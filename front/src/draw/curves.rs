@@ -80,7 +80,7 @@ impl Ports {
         let mut shifts = BTreeMap::new();
         for ((state, _), mut ends) in sides(net) {
             ends.sort_by(|a, b| a.0.total_cmp(&b.0));
-            let room = (widths[state] - 24.0).max(0.0);
+            let room = (widths[state] - 14.0).max(0.0);
             let apart = (room / ends.len() as f64).min(PORT);
             let middle = (ends.len() - 1) as f64 / 2.0;
             for (place, &(_, edge, target)) in ends.iter().enumerate() {

@@ -14,6 +14,20 @@ pub(super) fn cut(text: &str, most: usize) -> String {
     format!("{kept}…")
 }
 
+/// The text in at most two lines of at most so many characters each, broken where it can be; what is left is cut.
+pub(super) fn two_lines(text: &str, most: usize) -> Vec<String> {
+    let letters: Vec<char> = text.chars().collect();
+    if letters.len() <= most {
+        return vec![text.to_string()];
+    }
+    let within = &letters[..most];
+    // A line is not broken in its first half, so that the other one is not much longer.
+    let can_break = |&at: &usize| matches!(within[at - 1], ' ' | '|' | '.' | ',' | '-' | '/' | ':' | '_');
+    let at = (most / 2..=most).rev().find(can_break).unwrap_or(most);
+    let (first, second): (String, String) = (letters[..at].iter().collect(), letters[at..].iter().collect());
+    vec![first.trim_end().to_string(), cut(&second, most)]
+}
+
 /// A character's width as a part of the font's size.
 fn share(character: char) -> f64 {
     match character {

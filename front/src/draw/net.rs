@@ -4,7 +4,7 @@
 //! that labels have places of their own as states have.
 
 use super::graph::{Edge, Graph, State};
-use super::measure::{cut, width};
+use super::measure::{cut, two_lines, width};
 use super::rows::rows;
 
 /// Sizes of fonts, in the drawing's units.
@@ -14,10 +14,10 @@ pub(super) const LABEL_SIZE: f64 = 12.0;
 /// The height of a line of a label.
 pub(super) const LINE: f64 = 15.0;
 
-/// Longer names, and labels, are cut in the drawing; so are lists of labels of one edge.
+/// Longer names are cut in the drawing, longer labels broken into two lines, and long lists of labels cut too.
 const NAME_CHARACTERS: usize = 28;
-const LABEL_CHARACTERS: usize = 36;
-const LABEL_LINES: usize = 6;
+const LABEL_CHARACTERS: usize = 22;
+const LABELS: usize = 6;
 
 const STATE_HEIGHT: f64 = 34.0;
 /// The room between two states of a row.
@@ -167,13 +167,17 @@ pub(super) fn name(state: &State) -> String {
     cut(&state.name, NAME_CHARACTERS)
 }
 
-/// The lines of an edge's label as they are drawn.
+/// The lines of an edge's label as they are drawn: a comma stands between labels, since a label may have two lines.
 pub(super) fn lines(labels: &[String]) -> Vec<String> {
-    let shown = if labels.len() > LABEL_LINES { LABEL_LINES - 1 } else { labels.len() };
-    let mut lines: Vec<String> = labels[..shown].iter().map(|label| cut(label, LABEL_CHARACTERS)).collect();
-    if shown < labels.len() {
-        lines.push(format!("and {} more", labels.len() - shown));
+    let drawn = if labels.len() > LABELS { LABELS - 1 } else { labels.len() };
+    let mut lines = Vec::new();
+    for (place, label) in labels[..drawn].iter().enumerate() {
+        lines.extend(two_lines(label, LABEL_CHARACTERS));
+        if let Some(last) = lines.last_mut().filter(|_| place + 1 < labels.len()) {
+            last.push(',');
+        }
     }
+    lines.extend((drawn < labels.len()).then(|| format!("and {} more", labels.len() - drawn)));
     lines
 }
 

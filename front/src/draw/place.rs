@@ -3,14 +3,14 @@
 
 use super::net::{Kind, Net, STATE_GAP};
 
-const SWEEPS: usize = 16;
+const SWEEPS: usize = 40;
 
 /// The room between two items of a row, and between two rows.
 const APART: f64 = 14.0;
-const BETWEEN_ROWS: f64 = 22.0;
+const BETWEEN_ROWS: f64 = 34.0;
 
 /// Lines between two bends are kept straight before others.
-const STRAIGHT: f64 = 6.0;
+const STRAIGHT: f64 = 16.0;
 
 pub(super) fn place(net: &mut Net) {
     pack(net);

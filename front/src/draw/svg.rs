@@ -42,7 +42,7 @@ pub(super) fn write(graph: &Graph) -> String {
 
 /// Moves all items so that the drawing begins at zero; returns its width and height.
 fn move_into_view(net: &mut Net, graph: &Graph) -> Point {
-    let left = net.items.iter().map(|item| item.x - item.left).fold(0.0, f64::min);
+    let left = net.items.iter().map(|item| item.x - item.left).reduce(f64::min).unwrap_or(0.0);
     for item in &mut net.items {
         item.x += MARGIN - left;
         item.y += MARGIN + ENTRY;

@@ -1,0 +1,88 @@
+//! Random models and formulas as text: read and checked by `front`, and held against relations on states, against the
+//! independent checker of the case file, and against counts on the formula as it is written.
+
+mod support;
+
+use bithrowy_front::check::Checked;
+use std::collections::BTreeMap;
+use support::comparison::{compare, Outcome, RIGHT};
+use support::trial::Trial;
+use support::{counting, shrinking};
+
+/// How many trials there are, and on how many threads.
+const TRIALS: u64 = 12_000;
+const THREADS: u64 = 4;
+
+/// How often things were met.
+#[derive(Default)]
+struct Seen(BTreeMap<&'static str, u64>);
+
+impl Seen {
+    fn count(&mut self, what: &'static str, seen: bool) {
+        *self.0.entry(what).or_default() += seen as u64;
+    }
+
+    fn add(&mut self, trial: &Trial, outcome: &Outcome) {
+        self.count("accepted", matches!(outcome, Outcome::Accepted(..)));
+        self.count("a wrong variable or label", matches!(outcome, Outcome::Faulty));
+        self.count("a count out of range", matches!(outcome, Outcome::Refused(3)));
+        self.count("too many blocks", matches!(outcome, Outcome::Refused(10)));
+        self.count("spent", matches!(outcome, Outcome::Refused(14)));
+        if let Outcome::Accepted(checked, version) = outcome {
+            self.add_answer(trial, checked, *version);
+        }
+    }
+
+    fn add_answer(&mut self, trial: &Trial, checked: &Checked, version: usize) {
+        let some = checked.holds.iter().any(|&holds| holds);
+        let all = checked.holds.iter().all(|&holds| holds);
+        let reached = checked.reached.iter().all(|&on| on);
+        self.count("true", checked.verdict);
+        self.count("false", !checked.verdict);
+        self.count("version 1", version == 1);
+        self.count("version 2", version == 2);
+        self.count("repeated runs", counting::repetitions(&trial.formula) > 0);
+        self.count("two repeated runs", counting::repetitions(&trial.formula) > 1);
+        self.count("negations", counting::negations(&trial.formula) > 0);
+        self.count("three negations", counting::negations(&trial.formula) > 2);
+        self.count("binders in binders", counting::nesting(&trial.formula) > 1);
+        self.count("neither none nor all", some && !all);
+        self.count("states beyond reach", !reached);
+        self.count("large models", trial.system.states > 64);
+        self.count("copies", checked.distinct < checked.records);
+        self.count("no transitions", trial.system.transitions.is_empty());
+        self.count("another silent word", trial.system.silent == "i");
+        self.count("more than 20 rounds", checked.equation_rounds > 20);
+    }
+
+    fn merge(&mut self, other: Seen) {
+        for (what, count) in other.0 {
+            *self.0.entry(what).or_default() += count;
+        }
+    }
+}
+
+/// Compares each of a thread's trials.
+fn compare_every(first: u64) -> Seen {
+    let mut seen = Seen::default();
+    for seed in (first..TRIALS).step_by(THREADS as usize) {
+        let trial = Trial::random(seed);
+        match compare(&trial, &RIGHT) {
+            Ok(outcome) => seen.add(&trial, &outcome),
+            Err(difference) => panic!("trial {seed}: {}", shrinking::report(&trial, &RIGHT, difference)),
+        }
+    }
+    seen
+}
+
+#[test]
+fn random_texts_mean_what_relations_and_the_checker_of_case_files_say() {
+    let mut seen = Seen::default();
+    std::thread::scope(|scope| {
+        let threads: Vec<_> = (0..THREADS).map(|first| scope.spawn(move || compare_every(first))).collect();
+        for thread in threads {
+            seen.merge(thread.join().unwrap_or_else(|cause| std::panic::resume_unwind(cause)));
+        }
+    });
+    eprintln!("{:#?}", seen.0);
+}

@@ -1,5 +1,7 @@
 //! The words of a formula's text.
 
+use crate::label;
+use crate::quoted;
 use crate::source::{Fault, Source, Span};
 use std::sync::Arc;
 
@@ -11,13 +13,83 @@ pub enum Word {
     Quoted(String),
     /// A number, which no formula has: data are refused by name.
     Number(String),
-    /// `&&`, `||`, `=>`, `!`, `[`, `]`, `<`, `>`, `(`, `)`, `.`, `+`, `*`, `|`, and signs that are refused by name.
+    /// One of `SIGNS`.
     Sign(&'static str),
+    /// A character that begins none of these.
+    Other(char),
     End,
 }
+
+/// The signs of the language, and those of other languages that are refused by name. Each one stands behind those that
+/// begin with it and are longer.
+const SIGNS: [&str; 24] = [
+    "<=>", "==>", "-->", "&&", "||", "=>", "==", "->", "/\\", "\\/", "[", "]", "<", ">", "(", ")", "!", ".", "+", "*",
+    "|", "&", "=", "~",
+];
+
+/// Begins a comment, which the end of the line ends.
+const COMMENT: char = '%';
 
 /// The words in order with their places, the last of them `End`. Blanks and comments (`%` to the end of the line) are
 /// left out.
 pub fn words(source: &Arc<Source>) -> Result<Vec<(Word, Span)>, Fault> {
-    todo!()
+    let mut words = Vec::new();
+    let mut at = 0;
+    loop {
+        at = behind_blanks(&source.text, at);
+        let (word, length) = word(source, at)?;
+        let is_last = word == Word::End;
+        words.push((word, Span::new(at, at + length)));
+        if is_last {
+            return Ok(words);
+        }
+        at += length;
+    }
+}
+
+/// The first place, from an offset on, that is neither blank nor in a comment.
+fn behind_blanks(text: &str, from: usize) -> usize {
+    let mut in_comment = false;
+    for (offset, letter) in text[from..].char_indices() {
+        in_comment = letter != '\n' && (in_comment || letter == COMMENT);
+        if !in_comment && !letter.is_whitespace() {
+            return from + offset;
+        }
+    }
+    text.len()
+}
+
+/// The word that begins at an offset, and how many bytes it has.
+fn word(source: &Arc<Source>, at: usize) -> Result<(Word, usize), Fault> {
+    let rest = &source.text[at..];
+    let Some(first) = rest.chars().next() else { return Ok((Word::End, 0)) };
+    if first == '"' {
+        let (text, length) = quoted::read(source, at)?;
+        return Ok((Word::Quoted(text), length));
+    }
+    if label::begins_name(first) {
+        let name = &rest[..name_length(rest)];
+        return Ok((Word::Name(name.to_string()), name.len()));
+    }
+    if first.is_ascii_digit() {
+        let number = &rest[..name_length(rest)];
+        return Ok((Word::Number(number.to_string()), number.len()));
+    }
+    match SIGNS.iter().find(|sign| rest.starts_with(**sign)) {
+        Some(sign) => Ok((Word::Sign(sign), sign.len())),
+        None => Ok((Word::Other(first), first.len_utf8())),
+    }
+}
+
+/// The length of the longest name that a text begins with: a `-` belongs to it between two of its other characters.
+fn name_length(text: &str) -> usize {
+    let mut length = 0;
+    for (at, letter) in text.char_indices() {
+        if label::continues_name(letter) {
+            length = at + letter.len_utf8();
+        } else if letter != '-' || length < at {
+            break;
+        }
+    }
+    length
 }

@@ -27,6 +27,7 @@ pub mod names;
 pub mod page;
 pub mod parser;
 pub mod print;
+mod quoted;
 pub mod refusal;
 pub mod source;
 pub mod suggest;

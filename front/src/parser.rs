@@ -3,13 +3,34 @@
 //! From loose to tight: `mu X.` and `nu X.` (as far to the right as possible), `=>`, `||`, `&&` (these three to the
 //! right), `[R]` and `<R>`, `!`. In a regular formula: `+`, `.` (both to the right), then `*` and `+` behind a formula;
 //! in an action formula `=>`, `||`, `&&`, `!`, and `|` between the names of a label. A star stands behind a whole action
-//! formula: `!a*` is `(!a)*`.
+//! formula: `!a*` is `(!a)*`. A `+` stands behind a formula if what follows it begins none.
+
+mod chain;
+mod cursor;
+mod refused;
+mod state;
+mod steps;
 
 use crate::formula::StateFormula;
 use crate::source::{Fault, Source};
+use cursor::Cursor;
 use std::sync::Arc;
+
+/// So many parts of a formula stand one inside the other at most, and so many brackets and binders. A formula that the
+/// checker takes needs fewer: one path through all its nodes is shorter.
+pub const NESTED: usize = 200;
+
+/// So many parts (operators, names and constants) a formula has at most. A formula that the checker takes has fewer,
+/// even if each of its modalities has an action formula of all the nodes that there may be.
+pub const PARTS: usize = 10_000;
 
 /// Reads one formula that fills the text. `silent` is the name of the silent step.
 pub fn read(source: &Arc<Source>, silent: &str) -> Result<StateFormula, Fault> {
-    todo!()
+    let mut cursor = Cursor::new(source, silent)?;
+    if let Some(fault) = refused::specification(&cursor) {
+        return Err(fault);
+    }
+    let formula = state::formula(&mut cursor)?;
+    cursor.end()?;
+    Ok(formula.part)
 }

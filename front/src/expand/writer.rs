@@ -1,0 +1,277 @@
+//! Writes a formula's nodes in prefix order. What is still to be written is kept in a list, so that no depth of a formula
+//! exhausts the stack.
+
+use super::actions::Actions;
+use super::names::Names;
+use crate::formula::{Name, Regular, RegularFormula, State, StateFormula};
+use crate::source::{Source, Span};
+use crate::table::{Kind, Node, Table};
+use std::sync::Arc;
+
+/// Writes a formula in which each variable is bound. The caller has counted its nodes.
+pub(super) fn write(source: &Arc<Source>, formula: &StateFormula) -> Table {
+    let mut writer = Writer::new(Names::of(formula));
+    let whole = Goal::State { formula, negated: false, scope: None, negation: None };
+    let mut left = vec![Work { goal: whole, stars: 0 }];
+    while let Some(work) = left.pop() {
+        writer.goal(work, &mut left);
+    }
+    writer.mark_renamed();
+    Table::new(source.clone(), writer.nodes, writer.actions.nodes, writer.actions.labels)
+}
+
+/// What is to be written at a place in the table. Numbers of scopes and goals are places in the writer's lists.
+#[derive(Clone, Copy)]
+enum Goal<'a> {
+    /// A formula or its negation, between binders. `negation` is the negation that it is the operand of, if that stands
+    /// under none itself.
+    State { formula: &'a StateFormula, negated: bool, scope: Option<usize>, negation: Option<Span> },
+    /// `[R]` (must) or `<R>` before the goal of a number.
+    Modality { must: bool, steps: &'a RegularFormula, then: usize, origin: Origin },
+    /// `[R*]` or `<R*>` for this R.
+    Star { must: bool, repeated: &'a RegularFormula, then: usize, origin: Origin },
+    /// The variable of a star's binder.
+    Variable { binder: usize, origin: Origin },
+}
+
+/// A goal, and how many binders that come of stars stand around it.
+#[derive(Clone, Copy)]
+struct Work<'a> {
+    goal: Goal<'a>,
+    stars: usize,
+}
+
+/// Where a node comes from, as the table says it.
+#[derive(Clone, Copy)]
+struct Origin {
+    span: Span,
+    literal: bool,
+}
+
+impl Origin {
+    /// Inside a modality that is taken apart.
+    fn inside(span: Span) -> Origin {
+        Origin { span, literal: false }
+    }
+}
+
+/// A binder of the formula around a place, and the scope around that.
+struct Scope<'a> {
+    name: &'a str,
+    binder: usize,
+    outer: Option<usize>,
+}
+
+struct Writer<'a> {
+    names: Names,
+    nodes: Vec<Node>,
+    /// For each node, is it a binder with another name than in the formula, or such a binder's variable?
+    renamed: Vec<bool>,
+    actions: Actions,
+    scopes: Vec<Scope<'a>>,
+    /// Goals behind modalities; one may be written several times.
+    goals: Vec<Goal<'a>>,
+}
+
+impl<'a> Writer<'a> {
+    fn new(names: Names) -> Writer<'a> {
+        let (nodes, renamed) = (Vec::new(), Vec::new());
+        Writer { names, nodes, renamed, actions: Actions::default(), scopes: Vec::new(), goals: Vec::new() }
+    }
+
+    /// Writes the first node of a goal, if it is one, and puts the rest on the list, the last part first.
+    fn goal(&mut self, work: Work<'a>, left: &mut Vec<Work<'a>>) {
+        let stars = work.stars;
+        match work.goal {
+            Goal::State { formula, negated, scope, negation } => {
+                let origin = match negation {
+                    Some(span) => Origin { span, literal: true },
+                    None => Origin { span: formula.span, literal: !negated },
+                };
+                let rest = self.state(formula, negated, scope, origin);
+                left.extend(rest.into_iter().rev().map(|goal| Work { goal, stars }));
+            }
+            Goal::Modality { must, steps, then, origin } => {
+                let rest = self.modality(must, steps, then, origin);
+                left.extend(rest.into_iter().rev().map(|goal| Work { goal, stars }));
+            }
+            Goal::Star { must, repeated, then, origin } => {
+                let name = self.names.star(stars);
+                let rest = self.star(name, must, repeated, then, origin);
+                left.extend(rest.into_iter().rev().map(|goal| Work { goal, stars: stars + 1 }));
+            }
+            Goal::Variable { binder, origin } => {
+                self.node(Kind::Variable(binder), origin);
+            }
+        }
+    }
+
+    fn state(
+        &mut self,
+        formula: &'a StateFormula,
+        negated: bool,
+        scope: Option<usize>,
+        origin: Origin,
+    ) -> Vec<Goal<'a>> {
+        let operand = |formula, negated| Goal::State { formula, negated, scope, negation: None };
+        let joined = |kind: Kind| if negated { dual(kind) } else { kind };
+        match &formula.kind {
+            State::False | State::True => {
+                self.node(constant(matches!(formula.kind, State::True) != negated), origin);
+                Vec::new()
+            }
+            State::Variable(name) => {
+                self.variable(name, scope, origin);
+                Vec::new()
+            }
+            State::Not(inner) => {
+                let negation = origin.literal.then_some(origin.span);
+                vec![Goal::State { formula: inner, negated: !negated, scope, negation }]
+            }
+            State::And(one, other) => {
+                self.node(joined(Kind::And), origin);
+                vec![operand(one, negated), operand(other, negated)]
+            }
+            State::Or(one, other) => {
+                self.node(joined(Kind::Or), origin);
+                vec![operand(one, negated), operand(other, negated)]
+            }
+            State::Implies(one, other) => {
+                self.node(joined(Kind::Or), origin);
+                vec![operand(one, !negated), operand(other, negated)]
+            }
+            State::Must(steps, behind) => {
+                let then = self.later(operand(behind, negated));
+                vec![Goal::Modality { must: !negated, steps, then, origin }]
+            }
+            State::May(steps, behind) => {
+                let then = self.later(operand(behind, negated));
+                vec![Goal::Modality { must: negated, steps, then, origin }]
+            }
+            State::Mu(name, body) => {
+                let scope = self.binder(joined(Kind::Mu), name, scope, origin);
+                vec![Goal::State { formula: body, negated, scope, negation: None }]
+            }
+            State::Nu(name, body) => {
+                let scope = self.binder(joined(Kind::Nu), name, scope, origin);
+                vec![Goal::State { formula: body, negated, scope, negation: None }]
+            }
+        }
+    }
+
+    fn modality(&mut self, must: bool, steps: &'a RegularFormula, then: usize, origin: Origin) -> Vec<Goal<'a>> {
+        let inside = |steps: &'a RegularFormula, then| {
+            let origin = Origin::inside(steps.span);
+            Goal::Modality { must, steps, then, origin }
+        };
+        match &steps.kind {
+            Regular::Sequence(first, second) => {
+                let then = self.later(inside(second, then));
+                vec![Goal::Modality { must, steps: first, then, origin }]
+            }
+            Regular::Choice(one, other) if !steps.is_single_step() => {
+                self.node(if must { Kind::And } else { Kind::Or }, origin);
+                vec![inside(one, then), inside(other, then)]
+            }
+            Regular::Star(repeated) => vec![Goal::Star { must, repeated, then, origin }],
+            Regular::Plus(repeated) => {
+                let star = Goal::Star { must, repeated, then, origin: Origin::inside(steps.span) };
+                let then = self.later(star);
+                vec![Goal::Modality { must, steps: repeated, then, origin }]
+            }
+            Regular::Step(_) | Regular::Choice(..) => {
+                let action = self.actions.node(steps);
+                self.node(if must { Kind::Box(action) } else { Kind::Diamond(action) }, origin);
+                self.goals.get(then).copied().into_iter().collect()
+            }
+        }
+    }
+
+    /// `nu Z. then && [R] Z`, or its dual.
+    fn star(
+        &mut self,
+        name: String,
+        must: bool,
+        repeated: &'a RegularFormula,
+        then: usize,
+        origin: Origin,
+    ) -> Vec<Goal<'a>> {
+        let inside = Origin::inside(repeated.span);
+        let binder = self.node(if must { Kind::Nu } else { Kind::Mu }, origin);
+        self.nodes[binder].name = name;
+        self.node(if must { Kind::And } else { Kind::Or }, inside);
+        let again = self.later(Goal::Variable { binder, origin: inside });
+        let mut rest: Vec<Goal> = self.goals.get(then).copied().into_iter().collect();
+        rest.push(Goal::Modality { must, steps: repeated, then: again, origin: inside });
+        rest
+    }
+
+    fn binder(&mut self, kind: Kind, name: &'a Name, outer: Option<usize>, origin: Origin) -> Option<usize> {
+        let name = name.text.as_str();
+        let around = self.scopes_from(outer).filter(|scope| scope.name == name).count();
+        let own = self.names.own(name, around);
+        let binder = self.node(kind, origin);
+        self.renamed[binder] = own != name;
+        self.nodes[binder].name = own;
+        self.scopes.push(Scope { name, binder, outer });
+        Some(self.scopes.len() - 1)
+    }
+
+    fn variable(&mut self, name: &str, scope: Option<usize>, origin: Origin) {
+        let bound = self.scopes_from(scope).find(|scope| scope.name == name);
+        let binder = bound.map_or(0, |scope| scope.binder);
+        let node = self.node(Kind::Variable(binder), origin);
+        self.renamed[node] = self.renamed[binder];
+    }
+
+    /// The scopes around a place, the innermost first.
+    fn scopes_from(&self, innermost: Option<usize>) -> impl Iterator<Item = &Scope<'a>> {
+        let next = |place: &usize| self.scopes.get(*place).and_then(|scope| scope.outer);
+        std::iter::successors(innermost, next).filter_map(|place| self.scopes.get(place))
+    }
+
+    /// Keeps a goal, to be written behind a modality.
+    fn later(&mut self, goal: Goal<'a>) -> usize {
+        self.goals.push(goal);
+        self.goals.len() - 1
+    }
+
+    fn node(&mut self, kind: Kind, origin: Origin) -> usize {
+        let Origin { span, literal } = origin;
+        self.nodes.push(Node { kind, name: String::new(), span, literal });
+        self.renamed.push(false);
+        self.nodes.len() - 1
+    }
+
+    /// The text of a part in which a name was made different does not say what the nodes say.
+    fn mark_renamed(&mut self) {
+        let mut subtrees = Vec::new();
+        for (node, &own) in self.nodes.iter_mut().zip(&self.renamed).rev() {
+            let mut renamed = own;
+            for _ in 0..node.kind.operands() {
+                renamed |= subtrees.pop().unwrap_or(false);
+            }
+            node.literal &= !renamed;
+            subtrees.push(renamed);
+        }
+    }
+}
+
+fn constant(holds: bool) -> Kind {
+    if holds {
+        Kind::True
+    } else {
+        Kind::False
+    }
+}
+
+/// The other one of two connectives, or of two binders.
+fn dual(kind: Kind) -> Kind {
+    match kind {
+        Kind::And => Kind::Or,
+        Kind::Or => Kind::And,
+        Kind::Mu => Kind::Nu,
+        Kind::Nu => Kind::Mu,
+        other => other,
+    }
+}

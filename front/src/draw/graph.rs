@@ -1,5 +1,6 @@
 //! What both drawings show: the states with their marks, and one edge for all transitions between the same two states.
 
+use crate::amount::of;
 use crate::check::Checked;
 use crate::limits;
 use crate::model::Model;
@@ -80,7 +81,7 @@ fn notes(model: &Model, states: &[State]) -> Vec<String> {
         notes.push("dashed: cannot be reached".to_string());
     }
     if model.states > states.len() {
-        notes.push(format!("{} of {} states are drawn", states.len(), model.states));
+        notes.push(format!("{} of {} are drawn", states.len(), of(model.states, "state")));
     }
     notes
 }

@@ -21,19 +21,14 @@ fn formula(text: &str) -> bithrowy_front::formula::StateFormula {
     parser::read(&Source::new(text, text), SILENT).unwrap_or_else(|fault| panic!("{fault}"))
 }
 
-/// Lines such as `!a => b      (!a) => b`.
+/// Lines such as `!<a>true && [b]false     (!(<a>true)) && ([b]false)`.
 #[test]
 fn formulas_are_read_as_their_brackets_say() {
-    let lines = code("Formulas");
-    let pairs: Vec<(&str, &str)> = lines
-        .iter()
-        .filter_map(|line| line.split_once("  ").map(|(written, read)| (written.trim(), read.trim())))
-        .filter(|(written, read)| written.contains("true") && read.contains('('))
-        .filter(|(written, _)| written.contains(['[', '<']))
-        .collect();
-    assert_eq!(pairs.len(), 7, "{pairs:?}");
-    for (written, read) in pairs {
-        assert!(formula(written).same(&formula(read)), "{written} is not {read}");
+    let lines = code("Brackets that may be left out");
+    assert_eq!(lines.len(), 8);
+    for line in lines {
+        let (written, read) = line.split_once("  ").expect("two formulas with blanks between them");
+        assert!(formula(written).same(&formula(read)), "{line}");
     }
 }
 

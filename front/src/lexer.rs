@@ -47,6 +47,37 @@ pub fn words(source: &Arc<Source>) -> Result<Vec<(Word, Span)>, Fault> {
     }
 }
 
+/// A part of a text without the round brackets that stand around all of it.
+pub(crate) fn unbracketed(source: &Source, part: Span) -> Span {
+    let slice = Source::new("", source.slice(part));
+    let Ok(mut words) = words(&slice) else { return part };
+    words.pop();
+    let mut inside = words.as_slice();
+    while is_bracketed(inside) {
+        inside = &inside[1..inside.len() - 1];
+    }
+    match (inside.first(), inside.last()) {
+        (Some((_, first)), Some((_, last))) => Span::new(part.start + first.start, part.start + last.end),
+        _ => part,
+    }
+}
+
+/// Does the last of these words close the bracket that the first one opens?
+fn is_bracketed(words: &[(Word, Span)]) -> bool {
+    let mut open = 0usize;
+    for (place, (word, _)) in words.iter().enumerate() {
+        match word {
+            Word::Sign("(") => open += 1,
+            Word::Sign(")") => open = open.saturating_sub(1),
+            _ => {}
+        }
+        if open == 0 {
+            return place > 0 && place + 1 == words.len();
+        }
+    }
+    false
+}
+
 /// The first place, from an offset on, that is neither blank nor in a comment.
 fn behind_blanks(text: &str, from: usize) -> usize {
     let mut in_comment = false;

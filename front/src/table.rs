@@ -2,7 +2,7 @@
 //! and labels that they came from.
 
 use crate::label::Label;
-use crate::lexer;
+use crate::lexer::{self, Word};
 use crate::print;
 use crate::source::{Source, Span};
 use std::sync::Arc;
@@ -134,7 +134,10 @@ impl Table {
 
     /// Are all variables in a node's subtree bound in it?
     pub fn is_closed(&self, node: usize) -> bool {
-        !self.outermost.get(node).copied().flatten().is_some_and(|binder| binder < node)
+        match self.outermost.get(node) {
+            Some(Some(binder)) => *binder >= node,
+            _ => true,
+        }
     }
 
     /// Does the action formula at an action node accept a label?
@@ -166,28 +169,27 @@ impl Table {
         print::action_node(self, action)
     }
 
-    /// What to call the part at a node when speaking to people: its own words from the text, blanks made single, if they
-    /// say just what the node says, else `text`.
+    /// What to call the part at a node when speaking to people: its own words from the text, without brackets around
+    /// them and with blanks made single, if they say just what the node says, else `text`.
     pub fn part(&self, node: usize) -> String {
         let literal = self.nodes.get(node).filter(|node| node.literal);
-        literal.and_then(|node| own_words(self.source.slice(node.span))).unwrap_or_else(|| self.text(node))
+        literal.and_then(|node| own_words(&self.source, node.span)).unwrap_or_else(|| self.text(node))
     }
 }
 
 /// The words of a part of a formula's text, with one blank where there are blanks or comments.
-fn own_words(text: &str) -> Option<String> {
-    let source = Source::new("", text);
+fn own_words(source: &Source, part: Span) -> Option<String> {
+    let source = Source::new("", source.slice(lexer::unbracketed(source, part)));
     let mut single = String::new();
-    let mut end = None;
-    for (_, span) in lexer::words(&source).ok()? {
-        if end.is_some_and(|end| end < span.start) {
+    let mut end = 0;
+    for (word, span) in lexer::words(&source).ok()? {
+        if end < span.start && word != Word::End {
             single.push(' ');
         }
         single.push_str(source.slice(span));
-        end = Some(span.end);
+        end = span.end;
     }
-    let single = single.trim_end();
-    (!single.is_empty()).then(|| single.to_string())
+    (!single.is_empty()).then_some(single)
 }
 
 /// Where the subtree of each node of a table in prefix order ends.

@@ -2,6 +2,7 @@
 
 use crate::formula::{Name, State, StateFormula};
 use crate::label;
+use crate::lexer;
 use crate::source::{shown, Fault, Source, Span};
 use crate::suggest;
 use std::sync::Arc;
@@ -61,7 +62,7 @@ impl<'a> Check<'a> {
 
     fn unbound(&self, name: &str, span: Span) -> Fault {
         let message = format!("no mu or nu around it binds `{}`", shown(name));
-        Fault::new(self.source, span, message).with_help(self.instead_of(name))
+        self.fault(span, message).with_help(self.instead_of(name))
     }
 
     /// What may have been meant by a variable that nothing binds.
@@ -85,7 +86,11 @@ impl<'a> Check<'a> {
             "between {word} {name} and this {name} each \"!\" and each left side of \"=>\" is a negation, and their \
              number has to be even: a set that is defined by its own opposite need not exist"
         );
-        Fault::new(self.source, span, message).with_help(help)
+        self.fault(span, message).with_help(help)
+    }
+
+    fn fault(&self, variable: Span, message: String) -> Fault {
+        Fault::new(self.source, lexer::unbracketed(self.source, variable), message)
     }
 }
 

@@ -3,7 +3,7 @@
 use super::cursor::Cursor;
 use crate::formula::{Regular, RegularFormula};
 use crate::label;
-use crate::lexer::Word;
+use crate::lexer::{self, Word};
 use crate::source::{shown, Fault, Span};
 
 /// Signs, and what is written for them here.
@@ -174,7 +174,8 @@ pub(super) fn no_label(cursor: &Cursor, span: Span, message: String) -> Fault {
 
 /// Several steps where a sign needs the labels of one.
 pub(super) fn several_steps(cursor: &Cursor, steps: &RegularFormula, sign: Span) -> Fault {
-    let text = cursor.text(steps.span);
+    let place = lexer::unbracketed(cursor.source, steps.span);
+    let text = cursor.text(place);
     let what = match &steps.kind {
         Regular::Sequence(one, other) if one.is_single_step() && other.is_single_step() => "takes two steps",
         Regular::Sequence(..) => "takes several steps",
@@ -184,7 +185,7 @@ pub(super) fn several_steps(cursor: &Cursor, steps: &RegularFormula, sign: Span)
     };
     let sign = cursor.text(sign);
     let stands = if sign == "!" { "before a single step's labels" } else { "between labels of a single step" };
-    Fault::new(cursor.source, steps.span, format!("`{text}` {what}; `{sign}` stands {stands}"))
+    Fault::new(cursor.source, place, format!("`{text}` {what}; `{sign}` stands {stands}"))
         .with_help("inside a step write \"!\", \"&&\", \"||\" and \"=>\"; between steps \".\", \"+\" and \"*\"")
 }
 

@@ -40,7 +40,7 @@ enum Prefix {
 }
 
 /// Reads an operand with the modalities and negations before it.
-fn operand<'a>(cursor: &mut Cursor<'a>) -> Result<Read<StateFormula>, Fault> {
+fn operand(cursor: &mut Cursor) -> Result<Read<StateFormula>, Fault> {
     let mut prefixes = Vec::new();
     let mut after = cursor.last();
     while let Some((prefix, span, height)) = prefix(cursor)? {

@@ -26,11 +26,11 @@ pub(super) fn in_brackets(
     Ok(Read { part: (steps.part, opening.to(closing)), height: steps.height })
 }
 
-fn regular<'a>(cursor: &mut Cursor<'a>) -> Result<Read<RegularFormula>, Fault> {
+fn regular(cursor: &mut Cursor) -> Result<Read<RegularFormula>, Fault> {
     to_the_right(cursor, "+", sequence, Regular::Choice)
 }
 
-fn sequence<'a>(cursor: &mut Cursor<'a>) -> Result<Read<RegularFormula>, Fault> {
+fn sequence(cursor: &mut Cursor) -> Result<Read<RegularFormula>, Fault> {
     to_the_right(cursor, ".", repeated, Regular::Sequence)
 }
 
@@ -57,7 +57,7 @@ fn to_the_right<'a>(
 }
 
 /// Reads an action formula, or steps in brackets, with the stars and pluses behind it.
-fn repeated<'a>(cursor: &mut Cursor<'a>) -> Result<Read<RegularFormula>, Fault> {
+fn repeated(cursor: &mut Cursor) -> Result<Read<RegularFormula>, Fault> {
     let mut read = chain::read(cursor, operand, join)?;
     while let Some((kind, sign)) = repetition(cursor) {
         let span = read.part.span.to(sign);
@@ -122,7 +122,7 @@ fn step(kind: Action, span: Span) -> RegularFormula {
 }
 
 /// Reads an operand with the negations before it.
-fn operand<'a>(cursor: &mut Cursor<'a>) -> Result<Read<RegularFormula>, Fault> {
+fn operand(cursor: &mut Cursor) -> Result<Read<RegularFormula>, Fault> {
     let mut negations = Vec::new();
     while let Some(span) = cursor.take("!") {
         negations.push(span);

@@ -6,17 +6,9 @@ use bithrowy_front::amount::{self, thousands};
 /// Lists of states are broken into lines of about this many characters.
 const WIDTH: usize = 100;
 
-/// What stands before a value.
-const NAME_WIDTH: usize = 13;
-
 /// The verdict, the facts, and why it is so.
 pub fn text(answer: &Answer) -> String {
-    let mut text = format!("{}\n\n", verdict(answer));
-    for (name, value) in facts(answer) {
-        text += &row(name, &value);
-    }
-    text.push('\n');
-    text + &lines(&answer.explanation, "")
+    format!("{}\n\n{}\n{}", verdict(answer), rows(&facts(answer)), lines(&answer.explanation, ""))
 }
 
 /// Lines with something before each of them.
@@ -80,10 +72,15 @@ fn unreached(answer: &Answer) -> Option<String> {
     (!names.is_empty()).then(|| format!("{}: {}", amount::of(names.len(), "state"), names.join(", ")))
 }
 
-/// A name and its value; a value that is too long for one line goes on below itself.
-pub fn row(name: &str, value: &str) -> String {
-    let mut row = format!("  {name:<NAME_WIDTH$}");
-    let margin = row.chars().count();
+/// Names with their values, which are lined up; a value that is too long for one line goes on below itself.
+pub fn rows(facts: &[(&str, String)]) -> String {
+    let width = facts.iter().map(|(name, _)| name.len()).max().unwrap_or(0);
+    facts.iter().map(|(name, value)| row(&format!("  {name:width$}  "), value)).collect()
+}
+
+fn row(name: &str, value: &str) -> String {
+    let margin = name.len();
+    let mut row = name.to_string();
     let mut column = margin;
     for (number, word) in value.split(' ').enumerate() {
         let length = word.chars().count();

@@ -4,10 +4,8 @@ use clap::{Args, Parser, Subcommand};
 use std::num::NonZeroUsize;
 use std::path::PathBuf;
 
-/// Checks what web components do, written as models, against what they should do, written as formulas.
-///
-/// A model is a text file in the Aldebaran format (.aut), a formula one in the modal mu-calculus as mCRL2 writes it (.mcf). Two
-/// routes that are proved correct give the answer.
+/// Checks what web components do, written as a model (.aut), against what they should do, written as a formula of the modal
+/// mu-calculus (.mcf); the answer comes from a checker that is proved correct.
 #[derive(Debug, Parser)]
 #[command(name = "bithrowy", version, after_help = AFTER)]
 pub struct Arguments {

@@ -19,7 +19,7 @@ pub fn shown(path: &Path) -> String {
 /// The bytes of a file, or of standard input for `-`.
 pub fn bytes(path: &Path) -> Result<Vec<u8>, Trouble> {
     let read = if path == Path::new("-") { read_some(io::stdin().lock()) } else { read_file(path) };
-    let bytes = read.map_err(|error| Trouble::plain(format!("{} cannot be read: {error}", shown(path))))?;
+    let bytes = read.map_err(|error| Trouble::plain(format!("{} cannot be read: {}", shown(path), reason(&error))))?;
     if bytes.len() as u64 > LARGEST {
         return Err(Trouble::plain(format!("{} is not read: it has more than {LARGEST} bytes", shown(path))));
     }
@@ -47,5 +47,12 @@ pub fn text(path: &Path, bytes: Vec<u8>) -> Result<Arc<Source>, Trouble> {
 }
 
 pub fn write(path: &Path, content: &[u8]) -> Result<(), Trouble> {
-    fs::write(path, content).map_err(|error| Trouble::plain(format!("{} cannot be written: {error}", shown(path))))
+    fs::write(path, content)
+        .map_err(|error| Trouble::plain(format!("{} cannot be written: {}", shown(path), reason(&error))))
+}
+
+/// The system's words for an error, without its number.
+pub fn reason(error: &io::Error) -> String {
+    let words = error.to_string();
+    words.split(" (os error").next().unwrap_or(&words).to_string()
 }

@@ -1,5 +1,6 @@
 //! What goes to standard output, and how text from files is made safe to look at.
 
+use crate::files::reason;
 use crate::trouble::Trouble;
 use bithrowy_front::source::visible_letter;
 use std::io::{self, ErrorKind, IsTerminal, Write};
@@ -22,7 +23,7 @@ pub fn bytes(bytes: &[u8]) -> Result<(), Trouble> {
     let mut out = io::stdout().lock();
     match out.write_all(bytes).and_then(|()| out.flush()) {
         Err(error) if error.kind() != ErrorKind::BrokenPipe => {
-            Err(Trouble::plain(format!("the output cannot be written: {error}")))
+            Err(Trouble::plain(format!("the output cannot be written: {}", reason(&error))))
         }
         _ => Ok(()),
     }

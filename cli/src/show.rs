@@ -1,6 +1,6 @@
 //! `show`: how a formula is read, and how much of the limits it uses.
 
-use crate::answer::row;
+use crate::answer::rows;
 use crate::arguments::{Readings, ShowArguments};
 use crate::exit::Exit;
 use crate::load::{self, Rules};
@@ -16,11 +16,9 @@ pub fn run(arguments: &ShowArguments) -> Result<Exit, Trouble> {
     let readings = Readings { silent: arguments.silent.clone(), ..Readings::default() };
     let written = formula.read(&Rules::settle(&readings, Some(&formula.directives)))?;
     let expansion = expand::expand(&formula.source, &written)?;
-    let mut text = row("bracketed", &print::bracketed(&written));
-    for (name, value) in used(&expansion) {
-        text += &row(name, &value);
-    }
-    output::text(&text)?;
+    let mut shown = vec![("bracketed", print::bracketed(&written))];
+    shown.extend(used(&expansion));
+    output::text(&rows(&shown))?;
     Ok(Exit::Good)
 }
 

@@ -7,6 +7,7 @@ use crate::load::{Formula, Rules};
 use crate::trouble::Trouble;
 use bithrowy_front::source::{Fault, Span};
 use std::fs;
+use std::io;
 use std::path::{Path, PathBuf};
 
 /// A check that is to be run, or a formula's file that leads to none.
@@ -61,7 +62,8 @@ fn formulas(path: &Path) -> Result<Vec<PathBuf>, Trouble> {
     if path.is_file() {
         return Ok(vec![path.to_path_buf()]);
     }
-    let unreadable = |error| Trouble::plain(format!("{} cannot be read: {error}", files::shown(path)));
+    let unreadable =
+        |error: io::Error| Trouble::plain(format!("{} cannot be read: {}", files::shown(path), files::reason(&error)));
     let mut found = Vec::new();
     for entry in fs::read_dir(path).map_err(unreadable)? {
         let file = entry.map_err(unreadable)?.path();

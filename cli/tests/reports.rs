@@ -1,0 +1,109 @@
+//! The reports of `test` for other programs: TAP, JUnit and JSON, read back.
+
+mod support;
+
+use serde_json::{json, Value};
+use std::process::Command;
+use support::{finished, Folder, DIALOG, ENDS, HOVER};
+
+/// Three checks: one as expected, one not, one at fault; with names that have to be escaped.
+fn suite(name: &str) -> Folder {
+    let folder = Folder::new(name);
+    folder.write("dialog.aut", DIALOG);
+    folder.write("hover.aut", HOVER);
+    folder.write("a.mcf", format!("% name: <Ends> & \"#1\" \\ 'x'\n% models: *.aut\n{ENDS}"));
+    folder.write("b.mcf", "% name: It is broken\n% models: dialog.aut\n[\"a<b>&]]>\u{1}\"]false\n");
+    folder
+}
+
+#[test]
+fn tap() {
+    let ran = suite("report-tap").run(&["test", ".", "--tap"]).expect_exit(2);
+    let points: Vec<&str> = ran.out.lines().filter(|line| !line.starts_with("  ")).collect();
+    let expected = [
+        "TAP version 14",
+        "1..3",
+        "ok 1 - <Ends> & \"\\#1\" \\\\ 'x': ./dialog.aut",
+        "not ok 2 - <Ends> & \"\\#1\" \\\\ 'x': ./hover.aut",
+        "not ok 3 - It is broken: ./dialog.aut",
+    ];
+    assert_eq!(points, expected);
+    assert_eq!(ran.out.matches("\n  ---\n").count(), 2);
+    assert_eq!(ran.out.matches("\n  ...\n").count(), 2);
+    let reasons = ran.out.lines().filter_map(|line| line.strip_prefix("  reasons: "));
+    let reasons: Vec<Value> = reasons.map(|text| serde_json::from_str(text).expect("it is a list")).collect();
+    assert!(reasons.len() == 2 && reasons.iter().all(|list| list.as_array().is_some_and(|list| !list.is_empty())));
+}
+
+#[test]
+fn json_report() {
+    let folder = suite("report-json");
+    folder.run(&["test", ".", "--json", "report.json"]).expect_exit(2);
+    let report: Value = serde_json::from_str(&folder.read("report.json")).expect("it is JSON");
+    let summary = &report["summary"];
+    let count = |name: &str| summary[name].as_u64();
+    assert_eq!(["checks", "as_expected", "unexpected"].map(count), [Some(3), Some(1), Some(1)]);
+    assert_eq!(["faults", "differ", "not_run"].map(count), [Some(1), Some(0), Some(0)]);
+    assert_eq!(report["exit"], 2);
+    let checks = report["checks"].as_array().expect("there are checks");
+    assert_eq!(checks[0]["name"], "<Ends> & \"#1\" \\ 'x'");
+    assert_eq!((&checks[0]["expected"], &checks[0]["as_expected"]), (&json!(true), &json!(true)));
+    assert_eq!(checks[0]["answer"]["rounds"]["direct"], 4);
+    assert_eq!((&checks[1]["as_expected"], &checks[1]["answer"]["verdict"]), (&json!(false), &json!(false)));
+    assert_eq!((&checks[2]["answer"], &checks[2]["fault"]["file"]), (&Value::Null, &json!("./b.mcf")));
+}
+
+#[test]
+fn junit() {
+    let folder = suite("report-junit");
+    folder.run(&["test", ".", "--junit", "report.xml"]).expect_exit(2);
+    let report = folder.read("report.xml");
+    assert_eq!(
+        elements(&report),
+        ["testsuites", "testsuite", "testcase", "testcase", "failure", "testsuite", "testcase", "error"]
+    );
+    let attribute = |text: &str| assert!(report.contains(text), "{text}: {report}");
+    attribute("<testsuites name=\"bithrowy\" tests=\"3\" failures=\"1\" errors=\"1\" ");
+    attribute("<testsuite name=\"./a.mcf\" tests=\"2\" failures=\"1\" errors=\"0\" ");
+    attribute("classname=\"&lt;Ends&gt; &amp; &quot;#1&quot; \\ &apos;x&apos;\"");
+    attribute("<failure message=\"fails, but is expected to hold\" type=\"verdict\">");
+    assert!(!report.contains('\u{1}'));
+}
+
+/// The names of the elements in order. Fails if they are not closed in order, or if a `<` or `&` stands where none may.
+fn elements(xml: &str) -> Vec<&str> {
+    let (mut names, mut open) = (Vec::new(), Vec::new());
+    let body = xml.strip_prefix("<?xml version=\"1.0\" encoding=\"UTF-8\"?>\n").expect("it says that it is XML");
+    for part in body.split('<').skip(1) {
+        let (tag, text) = part.split_once('>').expect("a tag ends");
+        let name = tag.split([' ', '/']).next().unwrap_or_default();
+        if let Some(closed) = tag.strip_prefix('/') {
+            assert_eq!(open.pop(), Some(closed));
+        } else {
+            names.push(name);
+            open.extend((!tag.ends_with('/')).then_some(name));
+        }
+        assert_eq!(tag.matches('"').count() % 2, 0, "quotes are closed: {tag}");
+        for reference in format!("{tag}{text}").split('&').skip(1) {
+            let known = ["amp;", "lt;", "gt;", "quot;", "apos;", "#10;", "#9;", "#13;"];
+            assert!(known.iter().any(|known| reference.starts_with(known)), "&{reference}");
+        }
+    }
+    assert!(open.is_empty());
+    names
+}
+
+/// Another reader of XML, where there is one.
+#[test]
+fn junit_by_another_reader() {
+    let folder = suite("report-junit-python");
+    folder.run(&["test", ".", "--junit", "report.xml"]).expect_exit(2);
+    let script = "import xml.etree.ElementTree as e; t = e.parse('report.xml').getroot(); \
+                  print(len(t.findall('.//testcase')), t[0][0].get('classname'), len(t.find('.//failure').text) > 20)";
+    if Command::new("python3").arg("--version").output().is_err() {
+        println!("not tested: python3 is not here");
+        return;
+    }
+    let ran = finished(Command::new("python3").args(["-c", script]).current_dir(folder.path(""))).expect_exit(0);
+    assert_eq!(ran.out, "3 <Ends> & \"#1\" \\ 'x' True\n");
+}

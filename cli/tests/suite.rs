@@ -1,0 +1,137 @@
+//! `test`: which checks are run, what is printed, and the exits.
+
+mod support;
+
+use support::{Folder, Ran, DIALOG, DIALOG_NAMES, ENDS, HOVER};
+
+/// A folder with two models and two formulas. Each run of the dialog ends, and with hovering not; the second formula says
+/// wrongly that it does.
+fn suite(name: &str) -> Folder {
+    let folder = Folder::new(name);
+    folder.write("s/dialog.aut", DIALOG);
+    folder.write("s/dialog.names", DIALOG_NAMES);
+    folder.write("s/hover.aut", HOVER);
+    let directives = "% name: Every run ends\n% models: dialog.aut\n% models: hover.aut\n% expect: false\n";
+    folder.write("s/a.mcf", format!("{directives}{ENDS}"));
+    folder.write("s/b.mcf", format!("% name: It ends, they say\n% models: *.aut\n{ENDS}"));
+    folder
+}
+
+/// The output without the time at its end.
+fn timeless(ran: &Ran) -> &str {
+    ran.out.rsplit_once(" (").map_or("", |(before, _)| before)
+}
+
+/// The first formula alone: both its verdicts are as expected.
+const AS_EXPECTED: &str = "\
+ok     Every run ends  s/dialog.aut  holds
+ok     Every run ends  s/hover.aut   fails, as expected
+
+2 checks of 1 formula on 2 models: all as expected";
+
+#[test]
+fn all_as_expected() {
+    let folder = suite("suite-expected");
+    let ran = folder.run(&["test", "s/a.mcf"]).expect_exit(0);
+    assert_eq!(timeless(&ran), AS_EXPECTED);
+    assert_eq!(ran.err, "");
+    let filtered = folder.run(&["test", "s", "--filter", "Every run"]).expect_exit(0);
+    assert_eq!(timeless(&filtered), AS_EXPECTED);
+}
+
+#[test]
+fn a_verdict_that_is_not_as_expected() {
+    let ran = suite("suite-wrong").run(&["test", "s"]).expect_exit(1);
+    let lines: Vec<&str> = ran.out.lines().filter(|line| !line.starts_with("       ")).collect();
+    assert_eq!(lines[0], "ok     Every run ends      s/dialog.aut  holds");
+    assert_eq!(lines[2], "ok     It ends, they say   s/dialog.aut  holds");
+    assert_eq!(lines[3], "WRONG  It ends, they say   s/hover.aut   fails, but is expected to hold");
+    assert!(timeless(&ran).ends_with("\n4 checks of 2 formulas on 2 models: 3 as expected, 1 not as expected"));
+    let why = ran.out.lines().find(|line| line.starts_with("       ") && line.contains("hover"));
+    assert!(why.is_some(), "the loop is shown: {}", ran.out);
+}
+
+#[test]
+fn filters() {
+    let folder = suite("suite-filter");
+    for (text, checks) in [("dialog", 2), ("b.mcf", 2), ("they say", 2), ("hover.aut", 2), ("s/", 4), ("a", 4)] {
+        let ran = folder.run(&["test", "s", "--filter", text]);
+        assert!(ran.out.contains(&format!("\n{checks} checks of ")), "{text}: {}", ran.out);
+    }
+    let ran = folder.run(&["test", "s", "--filter", "nowhere"]).expect_exit(2);
+    assert!(ran.err.starts_with("error: no check found in s\n"), "{}", ran.err);
+}
+
+/// The third check of seven is the first that is not as expected.
+#[test]
+fn bail_ends_the_run_whatever_the_jobs() {
+    let folder = suite("suite-bail");
+    folder.write("s/a.mcf", format!("% models: dialog.aut\n{ENDS}"));
+    for name in ["c", "d"] {
+        folder.write(&format!("s/{name}.mcf"), format!("% models: *.aut\n{ENDS}"));
+    }
+    for jobs in ["1", "2", "8"] {
+        let ran = folder.run(&["test", "s", "--bail", "--jobs", jobs]).expect_exit(1);
+        assert!(timeless(&ran)
+            .ends_with("\n3 checks of 2 formulas on 2 models: 2 as expected, 1 not as expected, 4 not run"));
+        let tap = folder.run(&["test", "s", "--bail", "--tap", "--jobs", jobs]).expect_exit(1);
+        assert!(tap.out.starts_with("TAP version 14\n1..7\nok 1 - "), "{}", tap.out);
+        assert!(tap.out.ends_with("\nBail out! A check is not as expected.\n"), "{}", tap.out);
+    }
+}
+
+#[test]
+fn the_output_does_not_depend_on_the_jobs() {
+    let folder = suite("suite-jobs");
+    for number in 0..40 {
+        let expected = number % 3 != 0;
+        folder.write(&format!("s/n{number}.mcf"), format!("% models: *.aut\n% expect: {expected}\n{ENDS}"));
+    }
+    let one = folder.run(&["test", "s", "--jobs", "1"]).expect_exit(1);
+    assert!(timeless(&one).contains("\n84 checks of 42 formulas on 2 models: "));
+    for jobs in ["2", "8", "100000"] {
+        assert_eq!(timeless(&folder.run(&["test", "s", "--jobs", jobs]).expect_exit(1)), timeless(&one));
+    }
+    let tap = folder.run(&["test", "s", "--tap", "--jobs", "1"]).expect_exit(1);
+    assert_eq!(folder.run(&["test", "s", "--tap", "--jobs", "8"]).out, tap.out);
+}
+
+/// Each kind of fault in a formula's file is one check at fault; the others are run all the same.
+#[test]
+fn formulas_at_fault() {
+    let folder = suite("suite-faults");
+    for (text, said) in [
+        ("mu X. [true] X\n", "the formula names no models"),
+        ("% models: nothing*.aut\ntrue\n", "no file matches `nothing*.aut`"),
+        ("% models: *.aut\n% expect: true\n% models: hover.aut\n% expect: false\ntrue\n", "named twice"),
+        ("% models: dialog.aut\nnu X [true] X\n", "expected \".\" after \"nu X\", found \"[\""),
+        ("% models: dialog.aut\n[clsoe]false\n", "clsoe"),
+        ("% models: dialog.aut\n% expect: perhaps\ntrue\n", "perhaps"),
+    ] {
+        folder.write("s/b.mcf", text);
+        let ran = folder.run(&["test", "s"]).expect_exit(2);
+        let fault = ran.out.lines().find(|line| line.starts_with("FAULT  ")).unwrap_or_default();
+        assert!(fault.contains(said), "{said}: {}", ran.out);
+        assert!(ran.out.contains("s/b.mcf:"), "the place is shown: {}", ran.out);
+        assert!(ran.out.contains("help: "), "it says what to do: {}", ran.out);
+        assert!(timeless(&ran).ends_with(": 2 as expected, 1 at fault"), "{}", ran.out);
+    }
+}
+
+/// A file that is named by two patterns is checked once.
+#[test]
+fn patterns() {
+    let folder = suite("suite-patterns");
+    folder.write("t/f.mcf", format!("% models: ../s/d*.aut ../?/dialog.aut ../s/dialog.aut\n{ENDS}"));
+    let ran = folder.run(&["test", "t"]).expect_exit(0);
+    assert!(timeless(&ran).ends_with("\n1 check of 1 formula on 1 model: all as expected"), "{}", ran.out);
+}
+
+#[test]
+fn folders_without_formulas() {
+    let folder = Folder::with_dialog("suite-empty");
+    folder.write("empty/readme.txt", "nothing");
+    let ran = folder.run(&["test", "empty"]).expect_exit(2);
+    assert!(ran.err.starts_with("error: no check found in empty\n"), "{}", ran.err);
+    assert_eq!(ran.out, "");
+}

@@ -1,0 +1,119 @@
+//! Runs the built program on files in a folder of its own.
+
+// Each test program uses a part of this.
+#![allow(dead_code)]
+
+use serde_json::Value;
+use std::fs;
+use std::io::Write;
+use std::path::{Path, PathBuf};
+use std::process::{Command, Stdio};
+
+pub const PROGRAM: &str = env!("CARGO_BIN_EXE_bithrowy");
+
+/// The paper's P1: a dialog that records its click twice and then closes.
+pub const DIALOG: &str = "des (0, 3, 3)\n(0, \"click\", 1)\n(0, \"click\", 1)\n(1, \"close\", 2)\n";
+pub const DIALOG_NAMES: &str = "0 open\n1 closing\n2 closed\n";
+
+/// The same with a loop at closing: it may never close.
+pub const HOVER: &str = "des (0, 3, 3)\n(0, click, 1)\n(1, hover, 1)\n(1, close, 2)\n";
+
+/// Does every run end?
+pub const ENDS: &str = "mu X. [true] X\n";
+
+/// A folder for files, which is removed in the end.
+pub struct Folder(PathBuf);
+
+/// What a run printed, and its exit.
+#[derive(Debug)]
+pub struct Ran {
+    pub exit: Option<i32>,
+    pub out: String,
+    pub err: String,
+}
+
+impl Folder {
+    /// Each test has a name of its own, and so a folder.
+    pub fn new(name: &str) -> Folder {
+        let path = Path::new(env!("CARGO_TARGET_TMPDIR")).join(name);
+        let _ = fs::remove_dir_all(&path);
+        fs::create_dir_all(&path).expect("a folder can be made");
+        Folder(path)
+    }
+
+    /// A folder with the dialog, its names and the formula.
+    pub fn with_dialog(name: &str) -> Folder {
+        let folder = Folder::new(name);
+        folder.write("dialog.aut", DIALOG);
+        folder.write("dialog.names", DIALOG_NAMES);
+        folder.write("ends.mcf", ENDS);
+        folder
+    }
+
+    pub fn path(&self, name: &str) -> PathBuf {
+        self.0.join(name)
+    }
+
+    pub fn write(&self, name: &str, content: impl AsRef<[u8]>) {
+        let path = self.path(name);
+        fs::create_dir_all(path.parent().expect("it has a folder")).expect("a folder can be made");
+        fs::write(path, content).expect("a file can be written");
+    }
+
+    pub fn read(&self, name: &str) -> String {
+        fs::read_to_string(self.path(name)).expect("the file is there")
+    }
+
+    pub fn bytes(&self, name: &str) -> Vec<u8> {
+        fs::read(self.path(name)).expect("the file is there")
+    }
+
+    /// The program, to be run in this folder.
+    pub fn command(&self, arguments: &[&str]) -> Command {
+        let mut command = Command::new(PROGRAM);
+        command.args(arguments).current_dir(&self.0).env_remove("NO_COLOR").stdin(Stdio::null());
+        command
+    }
+
+    pub fn run(&self, arguments: &[&str]) -> Ran {
+        finished(&mut self.command(arguments))
+    }
+
+    /// A run that reads this from standard input.
+    pub fn run_with(&self, arguments: &[&str], input: &[u8]) -> Ran {
+        let mut command = self.command(arguments);
+        let mut child =
+            command.stdin(Stdio::piped()).stdout(Stdio::piped()).stderr(Stdio::piped()).spawn().expect("it runs");
+        child.stdin.take().expect("it has an input").write_all(input).expect("it reads");
+        let output = child.wait_with_output().expect("it ends");
+        Ran { exit: output.status.code(), out: text(output.stdout), err: text(output.stderr) }
+    }
+}
+
+impl Drop for Folder {
+    fn drop(&mut self) {
+        let _ = fs::remove_dir_all(&self.0);
+    }
+}
+
+impl Ran {
+    /// The output as JSON.
+    pub fn json(&self) -> Value {
+        serde_json::from_str(&self.out).expect("the output is JSON")
+    }
+
+    /// Fails with all that was printed, unless the exit is this.
+    pub fn expect_exit(self, exit: i32) -> Ran {
+        assert_eq!(self.exit, Some(exit), "printed\n{}\nand\n{}", self.out, self.err);
+        self
+    }
+}
+
+pub fn finished(command: &mut Command) -> Ran {
+    let output = command.output().expect("it runs");
+    Ran { exit: output.status.code(), out: text(output.stdout), err: text(output.stderr) }
+}
+
+fn text(bytes: Vec<u8>) -> String {
+    String::from_utf8(bytes).expect("the output is text")
+}

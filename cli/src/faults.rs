@@ -5,26 +5,37 @@ use crate::trouble::Trouble;
 use bithrowy_front::source::{excerpt, Fault};
 use codespan_reporting::diagnostic::{Diagnostic, Label};
 use codespan_reporting::files::{Error, Files};
-use codespan_reporting::term::termcolor::{ColorChoice, NoColor, StandardStream, WriteColor};
+use codespan_reporting::term::termcolor::Buffer;
 use codespan_reporting::term::{emit, Chars, Config};
-use std::io::{self, IsTerminal};
+use std::env;
+use std::io::{self, IsTerminal, Write};
 use std::ops::Range;
 
 /// Says on standard error what is wrong, in colour where a person looks at a terminal and has not asked for none.
 pub fn report(trouble: &Trouble) {
-    let colours = io::stderr().is_terminal() && std::env::var_os("NO_COLOR").map_or(true, |value| value.is_empty());
-    let choice = if colours { ColorChoice::Auto } else { ColorChoice::Never };
-    write(&mut StandardStream::stderr(choice).lock(), trouble);
+    let out = if wants_colours() { Buffer::ansi() } else { Buffer::no_color() };
+    // Where standard error is closed nobody can be told.
+    let _ = writeln!(io::stderr(), "{}", written(out, trouble));
 }
 
 /// The same as text without colours.
 pub fn text(trouble: &Trouble) -> String {
-    let mut out = NoColor::new(Vec::new());
-    write(&mut out, trouble);
+    written(Buffer::no_color(), trouble)
+}
+
+fn wants_colours() -> bool {
+    let said = |name, words: &str| env::var_os(name).is_some_and(|value| value == words);
+    let unwanted = env::var_os("NO_COLOR").is_some_and(|value| !value.is_empty()) || said("TERM", "dumb");
+    io::stderr().is_terminal() && !unwanted
+}
+
+fn written(mut out: Buffer, trouble: &Trouble) -> String {
+    // A buffer takes all that is written.
+    let _ = write(&mut out, trouble);
     String::from_utf8_lossy(&out.into_inner()).trim_end().to_string()
 }
 
-fn write(out: &mut dyn WriteColor, trouble: &Trouble) {
+fn write(out: &mut Buffer, trouble: &Trouble) -> Result<(), Error> {
     let config = Config { chars: Chars::ascii(), ..Config::default() };
     let notes = trouble.help().into_iter().map(|help| format!("help: {}", visible(&help))).collect();
     let said = Diagnostic::error().with_message(visible(&trouble.message())).with_notes(notes);
@@ -32,8 +43,7 @@ fn write(out: &mut dyn WriteColor, trouble: &Trouble) {
         Trouble::Fault(fault) => at_place(said, fault),
         _ => (said, Excerpt::default()),
     };
-    // Where standard error is closed nobody can be told.
-    let _ = emit(out, &config, &excerpt, &said);
+    emit(out, &config, &excerpt, &said)
 }
 
 fn at_place(said: Diagnostic<()>, fault: &Fault) -> (Diagnostic<()>, Excerpt) {

@@ -43,9 +43,9 @@ fn all_as_expected() {
 fn a_verdict_that_is_not_as_expected() {
     let ran = suite("suite-wrong").run(&["test", "s"]).expect_exit(1);
     let lines: Vec<&str> = ran.out.lines().filter(|line| !line.starts_with("       ")).collect();
-    assert_eq!(lines[0], "ok     Every run ends      s/dialog.aut  holds");
-    assert_eq!(lines[2], "ok     It ends, they say   s/dialog.aut  holds");
-    assert_eq!(lines[3], "WRONG  It ends, they say   s/hover.aut   fails, but is expected to hold");
+    assert_eq!(lines[0], "ok     Every run ends     s/dialog.aut  holds");
+    assert_eq!(lines[2], "ok     It ends, they say  s/dialog.aut  holds");
+    assert_eq!(lines[3], "WRONG  It ends, they say  s/hover.aut   fails, but is expected to hold");
     assert!(timeless(&ran).ends_with("\n4 checks of 2 formulas on 2 models: 3 as expected, 1 not as expected"));
     let why = ran.out.lines().find(|line| line.starts_with("       ") && line.contains("hover"));
     assert!(why.is_some(), "the loop is shown: {}", ran.out);
@@ -110,8 +110,10 @@ fn formulas_at_fault() {
     ] {
         folder.write("s/b.mcf", text);
         let ran = folder.run(&["test", "s"]).expect_exit(2);
-        let fault = ran.out.lines().find(|line| line.starts_with("FAULT  ")).unwrap_or_default();
-        assert!(fault.contains(said), "{said}: {}", ran.out);
+        let mut below = ran.out.lines().skip_while(|line| !line.starts_with("FAULT  "));
+        assert!(below.next().is_some_and(|line| line.ends_with("  cannot be checked:")), "{}", ran.out);
+        let fault = below.next().unwrap_or_default();
+        assert!(fault.starts_with("       error: ") && fault.contains(said), "{said}: {}", ran.out);
         assert!(ran.out.contains("s/b.mcf:"), "the place is shown: {}", ran.out);
         assert!(ran.out.contains("help: "), "it says what to do: {}", ran.out);
         assert!(timeless(&ran).ends_with(": 2 as expected, 1 at fault"), "{}", ran.out);

@@ -30,7 +30,11 @@ fn line(result: &Checked, names: usize, models: usize) -> String {
         Standing::Fault => "FAULT",
         Standing::Differ => "DIFFER",
     };
-    format!("{standing:<6} {:names$}  {:models$}  {}\n", result.name, result.model(), result.words())
+    let words = match &result.outcome {
+        Ok(_) => result.words(),
+        Err(_) => "cannot be checked:".to_string(),
+    };
+    format!("{standing:<6} {:names$}  {:models$}  {words}\n", result.name, result.model())
 }
 
 /// Why a verdict is not as expected, or what is wrong and what to do.

@@ -25,6 +25,8 @@ pub struct Region {
 pub struct Regions {
     graph: Graph,
     facts: Vec<Vec<Position>>,
+    /// Where one of the two sides is taken since it is a fact.
+    taken: Vec<bool>,
     /// From which positions is there no choice ahead, and no loop of the wrong binder?
     proved: Vec<bool>,
 }
@@ -34,12 +36,14 @@ impl Regions {
         let mut regions = Regions {
             graph: vec![Vec::new(); game.positions()],
             facts: vec![Vec::new(); game.positions()],
+            taken: vec![false; game.positions()],
             proved: Vec::new(),
         };
         let mut broken = Vec::new();
         for position in (0..game.positions()).filter(|&position| game.is_so(position)) {
             match next(game, position) {
                 Next::On { to, facts } => {
+                    regions.taken[position] = game.chooses(position) && !facts.is_empty();
                     regions.graph[position] = to;
                     regions.facts[position] = facts;
                 }
@@ -53,8 +57,22 @@ impl Regions {
         regions
     }
 
+    /// Does all that can come show a position? Not where that would only lead on to a side that is taken, for then it is
+    /// that side that is to be shown.
     pub fn proves(&self, position: Position) -> bool {
-        self.proved[position]
+        self.proved[position] && !self.leads_on(position)
+    }
+
+    fn leads_on(&self, position: Position) -> bool {
+        let mut at = position;
+        for _ in 0..self.graph.len() {
+            match self.graph[at].as_slice() {
+                _ if self.taken[at] => return true,
+                [way] if way.step.is_none() && self.facts[at].is_empty() => at = way.to,
+                _ => return false,
+            }
+        }
+        false
     }
 
     /// What can come from a position, the nearest states first.

@@ -216,19 +216,19 @@ impl<'a> Words<'a> {
         format!("{only}; {}", said.join("; "))
     }
 
+    /// Whether these are all the states that can come, by any transitions or by those that are followed, or just those
+    /// that count.
     fn only_these(&self, end: &Claim, states: &[usize]) -> String {
         let names = listed(states.iter().map(|&state| self.state(state)));
-        let actions = self.followed(end.node);
-        let all = |&action: &usize| {
-            states.iter().all(|&state| self.leaving(state).into_iter().all(|step| self.accepts(action, step)))
-        };
-        match actions.as_slice() {
-            _ if actions.iter().all(all) => format!("whatever happens, only these states come: {names}"),
-            &[action] => {
+        let inside = |step: &Step| states.contains(&self.model.transitions[*step].target);
+        let leaving: Vec<Step> = states.iter().flat_map(|&state| self.leaving(state)).collect();
+        match self.followed(end.node).as_slice() {
+            _ if leaving.iter().all(inside) => format!("whatever happens, only these states come: {names}"),
+            &[action] if leaving.iter().filter(|&&step| self.accepts(action, step)).all(inside) => {
                 let action = self.table.action_text(action);
                 format!("by transitions that `{action}` accepts only these states come: {names}")
             }
-            _ => format!("by the transitions that it speaks of only these states come: {names}"),
+            _ => format!("only these states count: {names}"),
         }
     }
 

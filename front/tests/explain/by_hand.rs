@@ -1,0 +1,286 @@
+//! Explanations worked out by hand. Nodes are numbered in prefix order; `[true*]f` is `nu Z. f && [true]Z`, and
+//! `<true*>f` is `mu Z. f || <true>Z`.
+
+use crate::told::{tell, Told};
+use bithrowy_front::explain::{Claim, Ending, Explanation};
+
+/// A dialog that may hover for ever before it closes.
+const HOVERING: &str = "des (0, 3, 3)\n(0, click, 1)\n(1, hover, 1)\n(1, close, 2)\n";
+/// A dialog whose close event is missing.
+const STUCK: &str = "des (0, 1, 2)\n(0, click, 1)\n";
+const DIALOG: &str = "0 open\n1 closing\n2 closed\n";
+const TWO: &str = "0 open\n1 closing\n";
+
+fn fails(node: usize, state: usize) -> Claim {
+    Claim { node, state, holds: false }
+}
+
+fn holds(node: usize, state: usize) -> Claim {
+    Claim { node, state, holds: true }
+}
+
+/// An explanation without sides passed by.
+fn run(claim: Claim, run: &[usize], end: Claim, ending: Ending) -> Explanation {
+    Explanation { claim, run: run.to_vec(), end, beside: Vec::new(), ending }
+}
+
+fn looping(steps: &[usize], binder: usize) -> Ending {
+    Ending::Loop { steps: steps.to_vec(), binder }
+}
+
+fn assert_told(told: &Told, explanation: Explanation, lines: &[&str]) {
+    assert_eq!(told.explanation, explanation, "{}", told.lines().join("\n"));
+    assert_eq!(told.lines(), lines);
+}
+
+/// Nodes: mu 0, and 1, <true> 2, true 3, [!close] 4, X 5. Behind the click it can hover and hover.
+#[test]
+fn a_loop_in_which_close_never_comes() {
+    let told = tell(HOVERING, DIALOG, "mu X. <true>true && [!close]X");
+    let explanation = run(fails(0, 0), &[0], fails(0, 1), looping(&[1], 0));
+    let lines = [
+        "`mu X. <true>true && [!close]X` fails in open:",
+        "  open -- click --> closing",
+        "and from there on for ever:",
+        "  closing -- hover --> closing",
+        "But it holds only where such a run comes to an end.",
+    ];
+    assert_told(&told, explanation, &lines);
+}
+
+/// Behind the click there is no step at all, so `<true>true` fails there.
+#[test]
+fn a_deadlock_before_close() {
+    let told = tell(STUCK, TWO, "mu X. <true>true && [!close]X");
+    let explanation = run(fails(0, 0), &[0], fails(2, 1), Ending::NoTransition);
+    let lines = [
+        "`mu X. <true>true && [!close]X` fails in open:",
+        "  open -- click --> closing",
+        "and there `<true>true` fails: no transition leaves closing.",
+    ];
+    assert_told(&told, explanation, &lines);
+}
+
+/// Nodes: [close] 0, false 1.
+#[test]
+fn a_step_that_is_ruled_out() {
+    let told = tell("des (1, 3, 3)\n(0, click, 1)\n(1, hover, 1)\n(1, close, 2)\n", DIALOG, "[close]false");
+    let explanation = run(fails(0, 1), &[2], fails(1, 2), Ending::Constant);
+    let lines = [
+        "`[close]false` fails in closing:",
+        "  closing -- close --> closed",
+        "and this step is one that it rules out.",
+    ];
+    assert_told(&told, explanation, &lines);
+}
+
+/// Nodes: mu 0, or 1, <close> 2, true 3, <true> 4, Z 5. It is the witness that close is possible.
+#[test]
+fn a_witness() {
+    let told = tell(HOVERING, DIALOG, "<true* . close>true");
+    let explanation = run(holds(0, 0), &[0, 2], holds(3, 2), Ending::Constant);
+    let lines = [
+        "`<true* . close>true` holds in open:",
+        "  open -- click --> closing",
+        "  closing -- close --> closed",
+        "and the last step is one that `<close> true` asks for.",
+    ];
+    assert_told(&told, explanation, &lines);
+}
+
+/// Nodes: nu 0, and 1, mu 2, or 3, <close> 4, true 5, <true> 6, Y 7, [true] 8, Z 9. Once it hovers, only the states 2 and
+/// 3 come. There are two ways on from 2, so that no single run shows it, but all states that come do.
+#[test]
+fn a_run_to_where_nothing_helps() {
+    let model = "des (0, 6, 4)\n(0, click, 1)\n(1, close, 0)\n(1, hover, 2)\n(2, hover, 2)\n(2, leave, 3)\n(3, hover, 2)\n";
+    let told = tell(model, "0 open\n1 closing\n2 hovering\n3 left\n", "[true*]<true* . close>true");
+    let ending = Ending::Closed { states: vec![2, 3], parts: vec![fails(4, 2), fails(4, 3)] };
+    let lines = [
+        "`[true*]<true* . close>true` fails in open:",
+        "  open -- click --> closing",
+        "  closing -- hover --> hovering",
+        "and there `<true* . close>true` fails: whatever happens, only these states come: hovering, left; in none of them `<close> true` holds.",
+    ];
+    assert_told(&told, run(fails(0, 0), &[0, 2], fails(2, 2), ending), &lines);
+}
+
+/// Nodes: or 0, <close> 1, true 2, [click] 3, false 4. Both sides fail, each by itself.
+#[test]
+fn both_sides() {
+    let told = tell(HOVERING, DIALOG, "<close>true || [click]false");
+    let first = run(fails(1, 0), &[], fails(1, 0), Ending::NoTransition);
+    let second = run(fails(3, 0), &[0], fails(4, 1), Ending::Constant);
+    let lines = [
+        "`<close>true || [click]false` fails in open: none of its sides holds:",
+        "  `<close>true` fails in open: no transition from open is accepted by `close`; there are: click.",
+        "  `[click]false` fails in open:",
+        "    open -- click --> closing",
+        "  and this step is one that it rules out.",
+    ];
+    assert_told(&told, run(fails(0, 0), &[], fails(0, 0), Ending::Sides(vec![first, second])), &lines);
+}
+
+/// Nodes: <true> 0, [close] 1, false 2. From 0 two transitions lead to states with close; the first is recorded twice.
+#[test]
+fn each_transition() {
+    let model = "des (0, 5, 3)\n(0, a, 1)\n(0, a, 1)\n(0, b, 2)\n(1, close, 0)\n(2, close, 0)\n";
+    let told = tell(model, "", "<true>[close]false");
+    let lines = [
+        "`<true>[close]false` fails in state 0: each transition from state 0 leads to where `[close]false` fails: a to state 1, b to state 2.",
+    ];
+    assert_told(&told, run(fails(0, 0), &[], fails(0, 0), Ending::Each(vec![0, 2])), &lines);
+}
+
+/// Nodes: nu 0, <tick> 1, X 2. From 0 it ticks to 1 and on to 0, for ever.
+#[test]
+fn a_loop_that_lasts() {
+    let told = tell("des (0, 2, 2)\n(0, tick, 1)\n(1, tick, 0)\n", "", "nu X. <tick>X");
+    let lines = [
+        "`nu X. <tick>X` holds in state 0: this can go on for ever:",
+        "  state 0 -- tick --> state 1",
+        "  state 1 -- tick --> state 0",
+        "And it asks only that such a run can go on.",
+    ];
+    assert_told(&told, run(holds(0, 0), &[], holds(0, 0), looping(&[0, 1], 0)), &lines);
+}
+
+/// Nodes: nu 0, and 1, <true> 2, true 3, [true] 4, Z 5. There is one way only, and `<true>true` holds all along it.
+#[test]
+fn facts_beside_a_loop() {
+    let told = tell("des (0, 2, 2)\n(0, tick, 1)\n(1, tick, 0)\n", "", "[true*]<true>true");
+    let mut explanation = run(holds(0, 0), &[], holds(0, 0), looping(&[0, 1], 0));
+    explanation.beside = vec![holds(2, 0), holds(2, 1)];
+    let lines = [
+        "`[true*]<true>true` holds in state 0: this can go on for ever:",
+        "  state 0 -- tick --> state 1",
+        "  state 1 -- tick --> state 0",
+        "And it asks only that such a run can go on.",
+        "On the way `<true>true` holds in state 0, state 1, too.",
+    ];
+    assert_told(&told, explanation, &lines);
+}
+
+/// Nodes: mu 0, and 1, <true> 2, true 3, [!close] 4, X 5. From 0 there are two ways, both to states with a close. What
+/// counts is the states 0, 1 and 2, in each of which there is a step, and that no loop is in them.
+#[test]
+fn close_comes_by_all_ways() {
+    let model = "des (0, 4, 4)\n(0, click, 1)\n(0, key, 2)\n(1, close, 3)\n(2, close, 3)\n";
+    let told = tell(model, "0 open\n1 clicked\n2 pressed\n3 closed\n", "mu X. <true>true && [!close]X");
+    let parts = vec![holds(2, 0), holds(2, 1), holds(2, 2)];
+    let lines = [
+        "`mu X. <true>true && [!close]X` holds in open: by transitions that `!close` accepts only these states come: open, clicked, pressed; in each of them `<true>true` holds; and no run through them comes back to `X` for ever.",
+    ];
+    let ending = Ending::Closed { states: vec![0, 1, 2], parts };
+    assert_told(&told, run(holds(0, 0), &[], holds(0, 0), ending), &lines);
+}
+
+/// Nodes: mu 0, or 1, <close> 2, true 3, [true] 4, <true> 5, X 6. From 0 there are two ways, and then again a choice of
+/// the one who explains.
+#[test]
+fn no_single_run() {
+    let model = "des (0, 5, 4)\n(0, a, 1)\n(0, b, 2)\n(1, a, 3)\n(2, a, 3)\n(3, close, 3)\n";
+    let told = tell(model, "", "mu X. <close>true || [true]<true>X");
+    let lines = [
+        "`mu X. <close>true || [true]<true>X` holds in state 0: there `[true]<true>X` holds: no single run shows this, for it rests on each transition from state 0: a to state 1, b to state 2.",
+    ];
+    assert_told(&told, run(holds(0, 0), &[], holds(4, 0), Ending::NoSingleRun), &lines);
+}
+
+/// Nodes: mu 0, X 1. The loop has no step.
+#[test]
+fn defined_by_itself() {
+    let told = tell(STUCK, TWO, "mu X. X");
+    let lines = ["`mu X. X` fails in open: `X` is only defined by itself, and with mu that holds nowhere."];
+    assert_told(&told, run(fails(0, 0), &[], fails(0, 0), looping(&[], 0)), &lines);
+    let told = tell(STUCK, TWO, "nu X. X");
+    let lines = ["`nu X. X` holds in open: `X` is only defined by itself, and with nu that holds everywhere."];
+    assert_told(&told, run(holds(0, 0), &[], holds(0, 0), looping(&[], 0)), &lines);
+}
+
+#[test]
+fn constants() {
+    let told = tell(STUCK, TWO, "true");
+    let lines = ["`true` holds in open: there nothing more is asked: `true` holds everywhere."];
+    assert_told(&told, run(holds(0, 0), &[], holds(0, 0), Ending::Constant), &lines);
+    let told = tell(STUCK, TWO, "<click>false");
+    let lines = [
+        "`<click>false` fails in open:",
+        "  open -- click --> closing",
+        "and there `false` is asked, which holds nowhere.",
+    ];
+    assert_told(&told, run(fails(0, 0), &[0], fails(1, 1), Ending::Constant), &lines);
+}
+
+#[test]
+fn a_box_without_transitions() {
+    let told = tell(HOVERING, DIALOG, "[close]false");
+    let lines =
+        ["`[close]false` holds in open: no transition from open is accepted by `close`; there are: click."];
+    assert_told(&told, run(holds(0, 0), &[], holds(0, 0), Ending::NoTransition), &lines);
+}
+
+/// Nodes: nu 0, mu 1, and 2, [close] 3, X 4, [!close] 5, Y 6. The loop passes Y, never X.
+#[test]
+fn a_loop_of_an_inner_binder() {
+    let told = tell(HOVERING, DIALOG, "nu X. mu Y. [close]X && [!close]Y");
+    let lines = [
+        "`nu X. mu Y. [close]X && [!close]Y` fails in open:",
+        "  open -- click --> closing",
+        "and from there on for ever:",
+        "  closing -- hover --> closing",
+        "But `mu Y. [close]X && [!close]Y` holds only where such a run comes to an end.",
+    ];
+    assert_told(&told, run(fails(0, 0), &[0], fails(1, 1), looping(&[1], 1)), &lines);
+}
+
+/// The same nodes. There is one run, in which close comes again and again. Both sides of the `&&` are open, so it rests
+/// on both; nothing is a fact by itself, and each loop passes X, which is further out than Y.
+#[test]
+fn close_comes_again_and_again() {
+    let told = tell("des (0, 2, 2)\n(0, click, 1)\n(1, close, 0)\n", TWO, "nu X. mu Y. [close]X && [!close]Y");
+    let ending = Ending::Closed { states: vec![0, 1], parts: Vec::new() };
+    let lines = [
+        "`nu X. mu Y. [close]X && [!close]Y` holds in open: whatever happens, only these states come: open, closing; nothing in them can make it fail; and no run through them comes back to `Y` for ever.",
+    ];
+    assert_told(&told, run(holds(0, 0), &[], holds(0, 0), ending), &lines);
+}
+
+/// Nodes: nu 0, mu 1, or 2, <a> 3, X 4, <b> 5, Y 6. The loop by b at 0 is shorter, but it passes Y alone, which mu
+/// forbids; the right one is by a at 1.
+#[test]
+fn a_shorter_loop_that_proves_nothing() {
+    let told = tell("des (0, 3, 2)\n(0, b, 0)\n(0, a, 1)\n(1, a, 1)\n", "", "nu X. mu Y. <a>X || <b>Y");
+    assert_eq!(told.explanation, run(holds(0, 0), &[1], holds(0, 1), looping(&[2], 0)));
+}
+
+/// Nodes: mu 0, or 1, <close> 2, true 3, <true> 4, X 5. The only run ends in 2, and close is possible nowhere on it.
+#[test]
+fn facts_beside_a_run() {
+    let told = tell("des (0, 2, 3)\n(0, a, 1)\n(1, a, 2)\n", "", "mu X. <close>true || <true>X");
+    let mut explanation = run(fails(0, 0), &[0, 1], fails(4, 2), Ending::NoTransition);
+    explanation.beside = vec![fails(2, 0), fails(2, 1), fails(2, 2)];
+    let lines = [
+        "`mu X. <close>true || <true>X` fails in state 0:",
+        "  state 0 -- a --> state 1",
+        "  state 1 -- a --> state 2",
+        "and there `<true>X` fails: no transition leaves state 2.",
+        "On the way `<close>true` fails in state 0, state 1, state 2, too.",
+    ];
+    assert_told(&told, explanation, &lines);
+}
+
+/// Nodes: <true> 0, [true] 1, false 2. Both transitions from 0 lead to 1, so that is a single way.
+#[test]
+fn two_labels_to_one_state() {
+    let told = tell("des (0, 3, 2)\n(0, a, 1)\n(0, b, 1)\n(1, a, 0)\n", "", "<true>[true]false");
+    assert_eq!(told.explanation, run(fails(0, 0), &[0, 2], fails(2, 0), Ending::Constant));
+}
+
+/// A long list says how many more there are: 10 labels, of which 8 are named. `<z>true` fails at 0.
+#[test]
+fn a_long_list_is_cut() {
+    let steps: String = ('a'..='j').map(|label| format!("(0, {label}, 0)\n")).collect();
+    let told = tell(&format!("des (0, 10, 1)\n{steps}"), "", "<z>true");
+    let lines = ["`<z>true` fails in state 0: no transition from state 0 is accepted by `z`; there are: a, b, c, d, e, f, g, h and 2 more."];
+    assert_told(&told, run(fails(0, 0), &[], fails(0, 0), Ending::NoTransition), &lines);
+}

@@ -1,0 +1,12 @@
+//! Explanations: worked out by hand, replayed by rules of their own, and from models that are cut down to what they print.
+
+mod by_chance;
+mod by_hand;
+mod chance;
+mod cut_down;
+mod region;
+mod replay;
+mod rules;
+mod shortest;
+mod told;
+mod truth;

@@ -9,7 +9,6 @@ use crate::label::Label;
 use crate::model::Model;
 use crate::source::{Fault, Source, Span};
 use crate::table::{Kind, Table};
-pub use action_table::sizes as action_sizes;
 use action_table::ActionTable;
 use label_numbers::LabelNumbers;
 use std::sync::Arc;

@@ -7,43 +7,34 @@ use std::collections::{HashMap, HashSet};
 /// A node's kind and argument, a label by its number in the case.
 type Numbers = [usize; 2];
 
+/// A node with the shapes of its operands: two subtrees of one shape are equal.
+type Shape = (Numbers, Vec<usize>);
+
 /// The nodes that are written, and where each node of the formula's own table stands among them.
 pub struct ActionTable {
     pub nodes: Vec<Numbers>,
     places: Vec<usize>,
 }
 
-/// A node with the shapes of its operands: two subtrees of one shape are equal.
-type Shape = (Numbers, Vec<usize>);
-
-/// The subtrees of an action table in prefix order.
-struct Subtrees {
-    /// For each node the number of its subtree's shape.
-    shapes: Vec<usize>,
-    /// For each node the first node behind its subtree.
-    ends: Vec<usize>,
-    /// The nodes at which whole formulas begin, in order.
-    roots: Vec<usize>,
-}
-
 impl ActionTable {
     pub fn new(table: &Table, labels: &LabelNumbers) -> ActionTable {
         let nodes: Vec<Numbers> = table.actions.iter().map(|&node| numbers(node, labels)).collect();
-        let subtrees = Subtrees::new(&table.actions, &nodes);
-        let within = subtrees.within();
-        let mut written = ActionTable { nodes: Vec::new(), places: Vec::new() };
+        let shapes = shapes(table, &nodes);
+        let within = within(table, &shapes);
+        let mut written = Vec::new();
+        // For each shape, where its subtree is written first.
         let mut places: HashMap<usize, usize> = HashMap::new();
-        for &root in subtrees.roots.iter().filter(|&&root| !within.contains(&subtrees.shapes[root])) {
-            if places.contains_key(&subtrees.shapes[root]) {
+        for root in roots(table) {
+            if within.contains(&shapes[root]) || places.contains_key(&shapes[root]) {
                 continue;
             }
-            for at in root..subtrees.ends[root] {
-                places.entry(subtrees.shapes[at]).or_insert(written.nodes.len());
-                written.nodes.push(nodes[at]);
+            for at in root..table.action_end(root) {
+                places.entry(shapes[at]).or_insert(written.len());
+                written.push(nodes[at]);
             }
         }
-        written.places = subtrees.shapes.iter().map(|shape| places.get(shape).copied().unwrap_or(usize::MAX)).collect();
-        written
+        let place = |shape| places.get(shape).copied().unwrap_or(usize::MAX);
+        ActionTable { nodes: written, places: shapes.iter().map(place).collect() }
     }
 
     /// Where the action formula at a node of the formula's own table is written.
@@ -52,44 +43,29 @@ impl ActionTable {
     }
 }
 
-/// For each node of an action table, how many nodes its subtree has.
-pub fn sizes(actions: &[ActionNode]) -> Vec<usize> {
-    let nodes = vec![[0, 0]; actions.len()];
-    Subtrees::new(actions, &nodes).ends.iter().enumerate().map(|(at, end)| end - at).collect()
+/// The nodes at which whole action formulas begin, in order.
+fn roots(table: &Table) -> impl Iterator<Item = usize> + '_ {
+    let within = |at: &usize| *at < table.actions.len();
+    std::iter::successors(Some(0).filter(within), move |&root| Some(table.action_end(root)).filter(within))
 }
 
-impl Subtrees {
-    /// Works from the last node to the first, so that operands are known before the node that has them.
-    fn new(actions: &[ActionNode], nodes: &[Numbers]) -> Subtrees {
-        let mut known: HashMap<Shape, usize> = HashMap::new();
-        let (mut shapes, mut ends) = (vec![0; actions.len()], vec![0; actions.len()]);
-        let mut roots = Vec::new();
-        for at in (0..actions.len()).rev() {
-            // The subtrees that begin behind this node, the nearest last: its operands are the nearest of them.
-            let operands: Vec<usize> = (0..operand_count(actions[at])).filter_map(|_| roots.pop()).collect();
-            ends[at] = operands.last().map_or(at + 1, |&last| ends[last]);
-            let next = known.len();
-            let shape = (nodes[at], operands.iter().map(|&operand| shapes[operand]).collect());
-            shapes[at] = *known.entry(shape).or_insert(next);
-            roots.push(at);
-        }
-        roots.reverse();
-        Subtrees { shapes, ends, roots }
+/// For each node the number of its subtree's shape: from the last node to the first, so that the operands' are known.
+fn shapes(table: &Table, nodes: &[Numbers]) -> Vec<usize> {
+    let mut known: HashMap<Shape, usize> = HashMap::new();
+    let mut shapes = vec![0; nodes.len()];
+    for at in (0..nodes.len()).rev() {
+        let operands = table.action_operands(at).into_iter().filter_map(|operand| shapes.get(operand).copied());
+        let shape = (nodes[at], operands.collect());
+        let next = known.len();
+        shapes[at] = *known.entry(shape).or_insert(next);
     }
-
-    /// The shapes that stand within a larger formula.
-    fn within(&self) -> HashSet<usize> {
-        let roots: HashSet<usize> = self.roots.iter().copied().collect();
-        (0..self.shapes.len()).filter(|at| !roots.contains(at)).map(|at| self.shapes[at]).collect()
-    }
+    shapes
 }
 
-fn operand_count(node: ActionNode) -> usize {
-    match node {
-        ActionNode::False | ActionNode::True | ActionNode::Label(_) => 0,
-        ActionNode::Not => 1,
-        ActionNode::And | ActionNode::Or | ActionNode::Implies => 2,
-    }
+/// The shapes that stand within a larger action formula.
+fn within(table: &Table, shapes: &[usize]) -> HashSet<usize> {
+    let roots: HashSet<usize> = roots(table).collect();
+    (0..shapes.len()).filter(|at| !roots.contains(at)).map(|at| shapes[at]).collect()
 }
 
 /// An action node's kind and argument.

@@ -38,18 +38,18 @@ fn counted(table: &Table, binders: &[usize], added: usize) -> String {
 /// change how it is written.
 fn written(table: &Table, node: usize) -> Option<String> {
     let node = table.nodes.get(node)?;
-    let text = without_brackets(table.source.text.get(node.span.start..node.span.end)?);
+    let text = behind_brackets(table.source.text.get(node.span.start..node.span.end)?);
     let word = ["mu", "nu"].into_iter().find(|word| begins_with_word(text, word))?;
     let name: String =
         text[word.len()..].trim_start().chars().take_while(|sign| !sign.is_whitespace() && *sign != '.').collect();
     Some(format!("{word} {name}"))
 }
 
-/// A part's text behind brackets, blanks and comments at its start.
-fn without_brackets(text: &str) -> &str {
+/// A part's text behind brackets, negations, blanks and comments at its start.
+fn behind_brackets(text: &str) -> &str {
     let mut rest = text;
     loop {
-        let inner = rest.trim_start_matches(|sign: char| sign == '(' || sign.is_whitespace());
+        let inner = rest.trim_start_matches(|sign: char| matches!(sign, '(' | '!') || sign.is_whitespace());
         match inner.strip_prefix('%') {
             Some(comment) => rest = comment.split_once('\n').map_or("", |(_, behind)| behind),
             None => return inner,

@@ -3,7 +3,7 @@
 use super::model_numbers::{header_number, HeaderNumber};
 use super::names::label_fault;
 use crate::amount;
-use crate::case::{action_sizes, Case};
+use crate::case::Case;
 use crate::limits;
 use crate::source::{Fault, Span};
 use crate::table::{Kind, Table};
@@ -80,9 +80,8 @@ fn action_nodes(case: &Case, count: usize) -> Option<Fault> {
 
 /// The first modality with an action formula that none is larger than.
 fn largest_action(table: &Table) -> Option<Span> {
-    let sizes = action_sizes(&table.actions);
     let size = |kind: Kind| match kind {
-        Kind::Box(action) | Kind::Diamond(action) => sizes.get(action).copied().unwrap_or(0),
+        Kind::Box(action) | Kind::Diamond(action) => table.action_end(action).saturating_sub(action),
         _ => 0,
     };
     table.nodes.iter().rev().max_by_key(|node| size(node.kind)).map(|node| node.span)

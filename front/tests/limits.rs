@@ -1,0 +1,302 @@
+//! Both sides of each limit, as text: what is within is accepted, and what is not is refused by the library's number, in
+//! words, at its place.
+
+#[path = "support/case_texts.rs"]
+mod case_texts;
+
+use bithrowy_front::limits::{self, ROUNDS};
+use bithrowy_front::source::Fault;
+use case_texts::{case, case_of, checked, refused};
+
+/// A model of so many states, without transitions.
+fn states(count: usize) -> String {
+    format!("des (0, 0, {count})\n")
+}
+
+/// A model of a state with a loop for each of so many labels, `a0`, `a1` and so on.
+fn loops(count: usize) -> String {
+    labelled((0..count).map(|label| format!("a{label}")))
+}
+
+/// A model of a state with a loop for each label.
+fn labelled(labels: impl Iterator<Item = String>) -> String {
+    let lines: Vec<String> = labels.map(|label| format!("(0, \"{label}\", 0)\n")).collect();
+    format!("des (0, {}, 1)\n{}", lines.len(), lines.concat())
+}
+
+/// The refusal of a model and a formula, labels without a transition allowed: its number, message, and marked text.
+fn refusal(model: &str, formula: &str) -> (u64, String, String) {
+    told(refused(&case_of(model, formula, true).unwrap(), ROUNDS))
+}
+
+fn told(fault: Fault) -> (u64, String, String) {
+    assert!(fault.help.is_some(), "{fault}");
+    (fault.refusal.unwrap(), fault.message.clone(), fault.source.slice(fault.span).to_string())
+}
+
+fn tells(refusal: (u64, String, String), number: u64, message: &str, marked: &str) {
+    assert_eq!(refusal, (number, message.to_string(), marked.to_string()));
+}
+
+fn accepts(model: &str, formula: &str) {
+    let answer = checked(&case_of(model, formula, true).unwrap(), ROUNDS);
+    assert!(answer.count <= answer.holds.len() as u64);
+}
+
+#[test]
+fn states_in_range() {
+    accepts(&states(1), "true");
+    accepts(&states(256), "true");
+    tells(refusal(&states(0), "true"), 3, "0 states: the checker takes 1 to 256", "0");
+    for (count, words) in
+        [(257, "257 states"), (70_000, "70,000 states"), (usize::MAX, "18,446,744,073,709,551,615 states")]
+    {
+        let message = format!("{words}: the checker takes 1 to 256");
+        tells(refusal(&states(count), "true"), 3, &message, &count.to_string());
+    }
+}
+
+#[test]
+fn the_first_count_of_the_header_as_people_see_it() {
+    assert_eq!(
+        refused(&case("des (0, 0, 300)\n", "true"), ROUNDS).to_string(),
+        "m.aut:1:12: 300 states: the checker takes 1 to 256 (refusal 3)\n  |\n1 | des (0, 0, 300)\n  |            ^^^\n  = \
+         help: leave out what the formula does not speak of, or merge states that behave alike, as `ltsconvert \
+         --equivalence=bisim` of mCRL2 does"
+    );
+}
+
+#[test]
+fn transitions_in_range() {
+    // So many records of one transition, and so many different ones: 46 times 46 are 2,116.
+    let copies = |count: usize| format!("des (0, {count}, 1)\n{}", "(0, a, 0)\n".repeat(count));
+    let pairs = (0..46).flat_map(|source| (0..46).map(move |target| format!("({source}, a, {target})\n")));
+    let different = |count: usize| format!("des (0, {count}, 46)\n{}", pairs.clone().take(count).collect::<String>());
+    accepts(&copies(2_048), "true");
+    accepts(&different(2_048), "true");
+    let message = "2,049 transitions: the checker takes at most 2,048";
+    tells(refusal(&copies(2_049), "true"), 3, message, "2049");
+    tells(refusal(&different(2_049), "true"), 3, message, "2049");
+    let help = |model: &str| refused(&case(model, "true"), ROUNDS).help.unwrap();
+    assert_eq!(help(&copies(2_049)), "only 1 of them are different: leave out the copies");
+    assert!(help(&different(2_049)).starts_with("leave out what the formula does not speak of"));
+}
+
+/// More records than 16 bits count: the table is left out, and the count alone is refused.
+#[test]
+fn transitions_beyond_16_bits() {
+    for count in [65_535, 65_536, 70_000] {
+        let model = format!("des (0, {count}, 1)\n{}", "(0,a,0)\n".repeat(count));
+        let (number, message, _) = refusal(&model, "true");
+        assert_eq!(number, 3);
+        assert!(message.ends_with("transitions: the checker takes at most 2,048"), "{message}");
+    }
+}
+
+#[test]
+fn labels_in_range() {
+    accepts(&loops(64), "[a0] true");
+    accepts(&loops(63), "[b] true");
+    tells(refusal(&loops(65), "true"), 3, "65 labels: the checker takes at most 64", "(0, \"a64\", 0)");
+    // 63 of the model and two more: the second is the first too many.
+    tells(
+        refusal(&loops(63), "[b] true && [c] true"),
+        3,
+        "65 labels (2 of them named by the formula alone): the checker takes at most 64",
+        "c",
+    );
+    // A label of the formula that has the names of one of the model needs no number.
+    let joined = labelled((0..63).map(|label| format!("a{label}")).chain(["b|c".to_string()]));
+    accepts(&joined, "[c|b] true");
+}
+
+/// A not for each of so many nodes, and a label.
+fn nots(count: usize) -> String {
+    format!("[{}a] true", "!".repeat(count - 1))
+}
+
+#[test]
+fn action_nodes_in_range() {
+    accepts(&loops(1), "true");
+    accepts(&loops(1), &nots(128));
+    // Two formulas that share what is equal: `!...!a` of 128 nodes holds the one of 127.
+    accepts(&loops(1), &format!("{} && {}", nots(128), nots(127)));
+    let (number, message, marked) = refusal(&loops(1), &format!("[b] true && {}", nots(129)));
+    assert_eq!((number, message.as_str()), (3, "130 action nodes: the checker takes at most 128"));
+    assert!(marked.contains("!!!") && !marked.contains("[b]"), "{marked}");
+}
+
+#[test]
+fn formula_nodes_in_range() {
+    accepts(&loops(1), "true");
+    accepts(&loops(1), &format!("{}true", "[a0]".repeat(63)));
+    // The 65th node is the last, true.
+    let long = format!("{}true", "[a0]".repeat(64));
+    tells(refusal(&loops(1), &long), 3, "65 formula nodes: the checker takes 1 to 64", "true");
+}
+
+/// Each of forty choices between sequences writes what follows twice: 2 to the 40 boxes at least, each with `true` behind
+/// it or another box. They are counted and not written out.
+#[test]
+fn formulas_too_large_to_write_out() {
+    let formula = format!("{}true", "[a0.a0 + a0.a0.a0]".repeat(40));
+    let (number, message, marked) = refusal(&loops(1), &formula);
+    assert_eq!((number, marked), (3, formula));
+    assert!(
+        message.ends_with("nodes: the checker takes 1 to 64") || message.ends_with("takes at most 128"),
+        "{message}"
+    );
+}
+
+#[test]
+fn counts_are_named_in_the_headers_order() {
+    let long = format!("{}true", "[a]".repeat(64));
+    assert_eq!(refusal("des (0, 0, 257)\n", &long).1, "257 states: the checker takes 1 to 256");
+    assert_eq!(
+        refusal(&loops(65), &long).1,
+        "66 labels (1 of them named by the formula alone): the checker takes at most 64"
+    );
+    assert_eq!(
+        refusal(&loops(1), &format!("{}{}", "[a]".repeat(64), nots(129))).1,
+        "129 action nodes: the checker takes at most 128"
+    );
+}
+
+#[test]
+fn states_below_the_number_of_states() {
+    accepts("des (1, 1, 2)\n(1, a, 1)\n", "true");
+    let states = "but the header says 2 states, which are 0 to 1";
+    tells(refusal("des (2, 0, 2)\n", "true"), 6, &format!("the initial state is 2, {states}"), "2");
+    for number in ["2", "65536", "70000", "18446744073709551615"] {
+        let source = format!("des (0, 2, 2)\n(0, a, 1)\n({number}, a1, 1)\n");
+        tells(refusal(&source, "true"), 6, &format!("the transition begins in state {number}, {states}"), number);
+        let target = format!("des (0, 1, 2)\n(0, a1, {number})\n");
+        tells(refusal(&target, "true"), 6, &format!("the transition ends in state {number}, {states}"), number);
+    }
+}
+
+#[test]
+fn a_state_that_is_not_there_as_people_see_it() {
+    assert_eq!(
+        refused(&case("des (0, 1, 2)\n(0, \"close\", 2)\n", "true"), ROUNDS).to_string(),
+        "m.aut:2:14: the transition ends in state 2, but the header says 2 states, which are 0 to 1 (refusal 6)\n  |\n2 | (0, \
+         \"close\", 2)\n  |              ^\n  = help: write a state from 0 to 1 here, or 3 as the last number of the header"
+    );
+}
+
+/// Blocks: one for each mu, nu, star and plus, and one more if the formula begins with none of them.
+#[test]
+fn blocks_in_range() {
+    let binders = |count: usize| (0..count).map(|i| format!("nu X{i}. ")).collect::<String>();
+    accepts(&loops(1), &format!("{}true", binders(6)));
+    accepts(&loops(1), &format!("true && {}true", binders(5)));
+    accepts(&loops(1), &format!("{}true", "[a0*]".repeat(6)));
+    let message = "7 fixed points: the checker takes at most 6";
+    tells(refusal(&loops(1), &format!("{}true", binders(7))), 10, message, "nu X6. true");
+    let help = |formula: &str| refused(&case(&loops(1), formula), ROUNDS).help.unwrap();
+    assert_eq!(
+        help(&format!("mu Y. <a0> {}[a0+] (! mu Z. [a0] Z)", "[a0*]".repeat(4))),
+        "counted were mu Y, mu Z, 5 of `*` and `+` behind steps, which need one each. Check the parts of the formula one \
+         by one"
+    );
+    assert!(help(&format!("<a0> {}true", binders(6))).contains(", 1 more because the formula begins with neither"));
+}
+
+#[test]
+fn names_of_a_label() {
+    accepts(&labelled(["a|b|c|d".to_string()].into_iter()), "[a] true");
+    // The silent step is no name.
+    accepts(&labelled(["a|b|tau|c|d|tau".to_string()].into_iter()), "[a] true");
+    let five = labelled(["a".to_string(), "a|b|c|a|d".to_string()].into_iter());
+    let fault = case_of(&five, "[a] true", false).unwrap_err();
+    assert_eq!(fault.refusal, None, "no record holds it, so that the library was not asked");
+    assert_eq!(
+        fault.to_string(),
+        "m.aut:3:1: the label `a|b|c|a|d` has 5 names: the checker takes at most 4 that happen together\n  |\n3 | (0, \
+         \"a|b|c|a|d\", 0)\n  | ^^^^^^^^^^^^^^^^^^^\n  = help: give several of the events one name together, in the model \
+         and in the formula, for instance `focus_and_blur`"
+    );
+    let fault = case_of(&loops(1), "[a0] true && <a|b|c|d|e> true", true).unwrap_err();
+    assert_eq!(fault.source.slice(fault.span), "a|b|c|d|e");
+}
+
+/// 64 labels of four names each have 256 different names, unless one comes twice.
+#[test]
+fn different_names() {
+    let label = |first: usize| (first..first + 4).map(|name| format!("n{name}")).collect::<Vec<_>>().join("|");
+    let labels = |last: String| labelled((0..63).map(|i| label(4 * i)).chain([last]));
+    accepts(&labels("n0|n252|n253|n254".to_string()), "true");
+    let message = "256 different names: the checker takes at most 255";
+    tells(refusal(&labels(label(252)), "true"), 15, message, "(0, \"n252|n253|n254|n255\", 0)");
+    let in_formula = labelled((0..63).map(|i| label(4 * i)));
+    tells(refusal(&in_formula, "[n252|n253|n254|n255] true"), 15, message, "n252|n253|n254|n255");
+    // One more label, and the count of labels is refused first.
+    let (number, ..) = refusal(&labelled((0..65).map(|i| label(4 * i))), "true");
+    assert_eq!(number, 3);
+}
+
+/// P4 takes one round by the equation route and none by direct (the paper).
+#[test]
+fn rounds_and_one_less() {
+    let (model, formula) = (&states(1), "true");
+    assert_eq!(checked(&case(model, formula), 1).equation_rounds, 1);
+    let (number, message, marked) = told(refused(&case(model, formula), 0));
+    assert_eq!((number, message.as_str(), marked.as_str()), (14, "more than 0 rounds by the equation route", "true"));
+}
+
+/// A chain of n states: the last one has no step, the one before it comes in the second round and so on: n rounds, and one
+/// that finds nothing new.
+#[test]
+fn rounds_of_a_chain() {
+    let lines: String = (0..200).map(|state| format!("({state}, a, {})\n", state + 1)).collect();
+    let model = format!("des (0, 200, 201)\n{lines}");
+    let case = case(&model, "mu X. [true] X");
+    let answer = checked(&case, 202);
+    assert_eq!((answer.equation_rounds, answer.direct_rounds), (202, 202));
+    let (number, message, _) = told(refused(&case, 201));
+    assert_eq!((number, message.as_str()), (14, "more than 201 rounds by either route"));
+}
+
+#[test]
+fn the_limits_are_the_formats() {
+    // The least and the most of each, as the paper's section on the case file gives them.
+    assert_eq!((limits::STATES, limits::TRANSITIONS, limits::LABELS), (256, 2048, 64));
+    assert_eq!((limits::ACTION_NODES, limits::FORMULA_NODES, limits::BLOCKS), (128, 64, 6));
+    // 36 + 8d + 12c + 4p at the most blocks, cells and operands: 36 + 48 + 199,680 + 532,480.
+    assert_eq!(limits::EQUATION_FILE, 732_244);
+}
+
+#[test]
+fn a_label_that_no_transition_has() {
+    let model = "des (0, 2, 2)\n(0, \"click\", 1)\n(1, \"close\", 0)\n";
+    let fault = case_of(model, "[click] <clsoe> true", false).unwrap_err();
+    assert_eq!(
+        fault.to_string(),
+        "f.mcf:1:10: no transition has the label `clsoe`\n  |\n1 | [click] <clsoe> true\n  |          ^^^^^\n  = help: did \
+         you mean `close`? The model's labels: `click`, `close`. Where it is meant, --allow-unknown-labels or the line `% \
+         unknown labels: allow` in the formula's file allows it"
+    );
+    assert_eq!(fault.refusal, None);
+    // It then is a label like any other, which no transition has: the box holds.
+    let answer = checked(&case_of(model, "[clsoe] false", true).unwrap(), ROUNDS);
+    assert_eq!(answer.holds, [true, true]);
+}
+
+#[test]
+fn labels_are_known_by_their_names() {
+    let model = "des (0, 1, 1)\n(0, \"focus|blur\", 0)\n";
+    assert!(checked(&case(model, "<blur|focus> true"), ROUNDS).verdict);
+    assert!(checked(&case(model, "<blur|tau|focus> true"), ROUNDS).verdict);
+    let fault = case_of(model, "<blur> true", false).unwrap_err();
+    assert_eq!(fault.message, "no transition has the label `blur`");
+    assert!(fault.help.unwrap().starts_with("The model's labels: `focus|blur`."));
+}
+
+#[test]
+fn the_help_lists_a_dozen_labels() {
+    let fault = case_of(&loops(40), "<nothing_like_it> true", false).unwrap_err();
+    let listed: Vec<String> = (0..12).map(|label| format!("`a{label}`")).collect();
+    assert!(fault.help.unwrap().starts_with(&format!("The model's labels: {} and 28 more. Where", listed.join(", "))));
+    let fault = case_of(&states(1), "<a> true", false).unwrap_err();
+    assert!(fault.help.unwrap().starts_with("The model has no transitions. Where it is meant,"));
+}

@@ -110,8 +110,8 @@ fn p7_has_seven_blocks() {
     let (_, model, formula) = TEXTS[6];
     assert_eq!(
         refused(&case(model, formula), ROUNDS).to_string(),
-        "f.mcf:1:42: 7 fixed points: the checker takes at most 6 (refusal 10)\n  |\n1 | (nu A. nu B. nu C. true) && nu \
-         D. nu E. nu F. true\n  |                                          ^^^^^^^^^^\n  = help: counted were nu A, nu B, nu C, \
+        "f.mcf:1:41: 7 fixed points: the checker takes at most 6 (refusal 10)\n  |\n1 | (nu A. nu B. nu C. true) && nu \
+         D. nu E. nu F. true\n  |                                         ^^^^^^^^^^\n  = help: counted were nu A, nu B, nu C, \
          nu D, nu E, nu F, 1 more because the formula begins with neither mu nor nu. Check the parts of the formula one \
          by one"
     );

@@ -1,5 +1,8 @@
 //! From two texts to a case and its answer, as the program goes.
 
+// Each file of tests uses some of these.
+#![allow(dead_code)]
+
 use bithrowy_front::case::{self, Case};
 use bithrowy_front::check::{check, Checked, Trouble};
 use bithrowy_front::expand::expand;

@@ -18,8 +18,8 @@ const STYLE: &str = include_str!("page/page.css");
 const SCRIPT: &str = include_str!("page/page.js");
 
 /// The SHA-256 of the style and of the script. They change with each change of these files; a test says to what.
-const STYLE_HASH: &str = "sha256-TODO";
-const SCRIPT_HASH: &str = "sha256-TODO";
+const STYLE_HASH: &str = "sha256-JCpgoNsPaiWlCmPqh9CnszXEFB/qtawRYVYQmO0zLHA=";
+const SCRIPT_HASH: &str = "sha256-vl8xyNeyUcGjerg3OQBbPZhixzvQDoGKa6lwYRE3siQ=";
 
 /// The page. A click on a part of the formula fills and ticks the states where that part holds.
 pub fn page(title: &str, model: &Model, answer: &Checked, explanation: &[String]) -> String {
@@ -89,9 +89,9 @@ fn drawing(model: &Model, answer: &Checked) -> Element {
 fn why(explanation: &[String]) -> Option<Element> {
     let line = |line: &String| {
         let inner = line.starts_with(char::is_whitespace).then_some("inner");
-        Element::new("li").with_some("class", inner).text(line.trim())
+        words::with_code(Element::new("li").with_some("class", inner), line.trim())
     };
-    let list = Element::new("ul").with("class", "why").lines(explanation.iter().map(line));
+    let list = Element::new("ul").with("class", "lines").lines(explanation.iter().map(line));
     (!explanation.is_empty()).then(|| section("why", "Why").lines([list]))
 }
 

@@ -42,7 +42,8 @@ fn part(answer: &Checked, node: usize) -> Vec<Rest> {
         Piece::Own(own) => Rest::Markup(button(answer, node, &text, own).to_string()),
         Piece::Operand(place) => Rest::Node(operands[place]),
     });
-    let open = Rest::Markup("<span class=\"part\">".to_string());
+    let class = if node == 0 { "part chosen" } else { "part" };
+    let open = Rest::Markup(format!("<span class=\"{class}\">"));
     let close = Rest::Markup("</span>".to_string());
     std::iter::once(open).chain(written).chain([close]).collect()
 }
@@ -111,7 +112,7 @@ fn split_last<'a>(text: &'a str, operand: &str) -> Option<(&'a str, &'a str)> {
 }
 
 /// A node's own text between brackets and blanks.
-fn own(text: &str) -> Vec<Piece> {
+fn own(text: &str) -> Vec<Piece<'_>> {
     let start = text.len() - text.trim_start_matches([')', ' ']).len();
     let end = text.trim_end_matches(['(', ' ']).len().max(start);
     vec![Piece::Plain(&text[..start]), Piece::Own(&text[start..end]), Piece::Plain(&text[end..])]

@@ -8,12 +8,16 @@ use crate::table::Kind;
 
 /// The verdict at the initial state.
 pub(super) fn verdict(model: &Model, answer: &Checked) -> Element {
-    let words = if answer.verdict { "✓ The formula holds in " } else { "✗ The formula fails in " };
+    let words = if answer.verdict {
+        "✓ The formula holds in the initial state, "
+    } else {
+        "✗ The formula fails in the initial state, "
+    };
     Element::new("p")
         .with("class", if answer.verdict { "verdict holds" } else { "verdict" })
         .text(words)
         .child(name(model, model.initial))
-        .text(", where the model begins.")
+        .text(".")
 }
 
 /// In how many of the states that can be reached the formula holds.
@@ -73,4 +77,20 @@ pub(super) fn name(model: &Model, state: usize) -> Element {
 
 fn code(text: &str) -> Element {
     Element::new("code").text(text)
+}
+
+/// A text in which formulas stand between backquotes.
+pub(super) fn with_code(element: Element, text: &str) -> Element {
+    let pieces: Vec<&str> = text.split('`').collect();
+    if pieces.len() % 2 == 0 {
+        return element.text(text);
+    }
+    let add = |element: Element, (place, piece): (usize, &&str)| {
+        if place % 2 == 0 {
+            element.text(piece)
+        } else {
+            element.child(code(piece))
+        }
+    };
+    pieces.iter().enumerate().fold(element, add)
 }

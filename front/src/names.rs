@@ -92,11 +92,11 @@ impl Named {
     fn add(&mut self, source: &Arc<Source>, entry: Entry) -> Result<(), Fault> {
         let Entry { state, number, name, place } = entry;
         if let Some(earlier) = self.names.get(&state) {
-            let message = format!("state {state} is named already: {}", shown(earlier));
+            let message = format!("state {state} is called `{}` already", shown(earlier));
             return Err(Fault::new(source, number, message).with_help("keep one of its two names"));
         }
         if let Some(other) = self.states.get(name).copied().or(unnamed_as(name)).filter(|&other| other != state) {
-            let message = format!("state {other} is called {} already", shown(name));
+            let message = format!("state {other} is called `{}` already", shown(name));
             return Err(Fault::new(source, place, message).with_help("give each state a name of its own"));
         }
         self.states.insert(name.to_string(), state);

@@ -142,7 +142,7 @@ fn state_that_is_named_twice() {
         3,
         "0 open\n1 closing\n0 shown\n",
         &[
-            "dialog.names:3:1: state 0 is named already: open",
+            "dialog.names:3:1: state 0 is called `open` already",
             "  |",
             "3 | 0 shown",
             "  | ^",
@@ -157,7 +157,7 @@ fn name_that_is_given_twice() {
         3,
         "0 open\n1 open\n",
         &[
-            "dialog.names:2:3: state 0 is called open already",
+            "dialog.names:2:3: state 0 is called `open` already",
             "  |",
             "2 | 1 open",
             "  |   ^^^^",
@@ -173,7 +173,7 @@ fn name_that_is_another_state_s_number() {
         3,
         "1 state 2\n",
         &[
-            "dialog.names:1:3: state 2 is called state 2 already",
+            "dialog.names:1:3: state 2 is called `state 2` already",
             "  |",
             "1 | 1 state 2",
             "  |   ^^^^^^^",

@@ -166,6 +166,7 @@ fn words_that_are_far() {
     let labels = ["click", "close", "focus"];
     assert_eq!(nearest("clozzze", labels), None, "three changes, and a third of seven is two");
     assert_eq!(nearest("cslei", labels), None);
+    assert_eq!(nearest("ab", ["bac"]), None, "an exchange and one more are two changes, and one is allowed");
     assert_eq!(nearest("hover", labels), None);
     assert_eq!(nearest("", ["ab"]), None);
     assert_eq!(nearest("click", []), None);

@@ -5,6 +5,7 @@ use bithrowy_front::case::{self, Case};
 use bithrowy_front::check::{check, Checked, Trouble};
 use bithrowy_front::directives::{self, Directives};
 use bithrowy_front::expand::expand;
+use bithrowy_front::explain::{explain, lines, Ending};
 use bithrowy_front::formula::{Action, ActionFormula, Regular, RegularFormula, State, StateFormula};
 use bithrowy_front::label::SILENT;
 use bithrowy_front::model::Model;
@@ -210,6 +211,55 @@ fn focus_and_blur_make_cases_of_version_2() {
         for (model, _) in example.models() {
             let version = if model.starts_with("focus") { 2 } else { 1 };
             assert_eq!(independent(&example.case(&model)).labels.version(), version, "{}", example.source.name);
+        }
+    }
+}
+
+/// For verdicts that are false, the labels of the run that shows it: the shortest there is, worked out by hand on the
+/// drawn model.
+const RUNS: [(&str, &str, &str); 10] = [
+    ("dialog-close-comes.mcf", "dialog-no-close.aut", "click toggle keydown cancel"),
+    ("dialog-close-comes.mcf", "dialog-hover.aut", "click toggle submit"),
+    ("dialog-never-stuck.mcf", "dialog-no-close.aut", "click toggle keydown cancel"),
+    ("drag-one-at-a-time.mcf", "drag-lost.aut", "dragstart dragenter dragover drop tau dragstart"),
+    ("focus-never-nowhere.mcf", "focus-gap.aut", "click blur|focus blur|focus blur"),
+    ("form-no-submit-after-invalid.mcf", "form-careless.aut", "click invalid submit"),
+    ("form-sent-once.mcf", "form-double.aut", "input click submit click submit"),
+    ("form-submit-due.mcf", "form-careless.aut", "click invalid"),
+    ("menu-focus-back.mcf", "menu-lost.aut", "keydown ArrowDown focus menu click"),
+    ("retarget-one-click.mcf", "retarget-again.aut", "click click"),
+];
+
+#[test]
+fn false_verdicts_are_shown_by_the_shortest_runs() {
+    for (formula, model, labels) in RUNS {
+        let case = Example::new(formula).case(model);
+        let explanation = explain(&case.model, &answer(&case));
+        let run = explanation.run.iter().map(|&step| case.model.transitions[step].label);
+        let run: Vec<&str> = run.map(|label| case.model.labels[label].text.as_str()).collect();
+        assert_eq!(run.join(" "), labels, "{formula} in {model}");
+    }
+}
+
+/// While it fades the pointer may move again and again: the loop is that step alone.
+#[test]
+fn a_dialog_that_hovers_is_shown_by_a_loop() {
+    let case = Example::new("dialog-close-comes.mcf").case("dialog-hover.aut");
+    let Ending::Loop { steps, .. } = explain(&case.model, &answer(&case)).ending else { panic!("no loop") };
+    let ends: Vec<_> = steps.iter().map(|&step| case.model.transitions[step]).map(|t| (t.source, t.target)).collect();
+    assert_eq!(ends, [(4, 4)]);
+}
+
+/// No example leaves its reader without a reason.
+#[test]
+fn each_verdict_is_explained() {
+    for example in examples() {
+        for (model, _) in example.models() {
+            let case = example.case(&model);
+            let (answer, said) = (answer(&case), format!("{} for {model}", example.source.name));
+            let explanation = explain(&case.model, &answer);
+            assert_ne!(explanation.ending, Ending::NoSingleRun, "{said}");
+            assert!(!lines(&case.model, &answer, &explanation).is_empty(), "{said}");
         }
     }
 }

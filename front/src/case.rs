@@ -32,12 +32,14 @@ pub struct Counts {
 }
 
 impl Case {
-    /// The case's counts, whether its tables were written out or not.
+    /// The case's counts, whether its tables were written out or not. A formula that is too large to be written out counts
+    /// as one without action nodes: it is refused for its own nodes.
     pub fn counts(&self) -> Counts {
         let labels = LabelNumbers::new(&self.model, self.table());
         let (action_nodes, formula_nodes) = match &self.expansion {
             Expansion::Table(table) => (ActionTable::new(table, &labels).nodes.len(), table.nodes.len()),
-            Expansion::TooLarge { nodes, actions, .. } => (*actions, *nodes),
+            // Equal action formulas are one, and how many differ is known of a formula only that is written out.
+            Expansion::TooLarge { nodes, .. } => (0, *nodes),
         };
         let (states, transitions) = (self.model.states, self.model.transitions.len());
         Counts { states, transitions, labels: labels.count(), action_nodes, formula_nodes }

@@ -117,3 +117,48 @@ fn node_values(table: &Table, states: usize, cells: &[bool]) -> Vec<Vec<bool>> {
     let added = table.blocks() - table.binders().len();
     cells.chunks(states.max(1)).skip(added).map(<[bool]>::to_vec).collect()
 }
+
+#[cfg(test)]
+mod tests {
+    use super::*;
+
+    fn run() -> Run {
+        let marks = vec![true, false, true];
+        Run { verdict: true, count: 2, rounds: 4, records: 3, distinct: 2, cents: 5, marks, ..Run::default() }
+    }
+
+    /// What the routes have by themselves: rounds, the price, and the values of cells.
+    #[test]
+    fn runs_that_agree() {
+        let direct = Run { rounds: 3, cents: 0, values: vec![true], ..run() };
+        assert_eq!(difference(&run(), &direct), None);
+        let refused = |cents| Run { refusal: 3, cents, ..Run::default() };
+        assert_eq!(difference(&refused(0), &refused(7)), None);
+    }
+
+    #[test]
+    fn each_difference_is_noticed() {
+        let told = |direct: Run| difference(&run(), &direct).unwrap();
+        assert_eq!(
+            told(Run { verdict: false, ..run() }),
+            "the verdict by the equation route is true, by the direct route false"
+        );
+        assert_eq!(
+            told(Run { marks: vec![true, true, true], ..run() }),
+            "only one of the routes says that the formula holds in state 1"
+        );
+        assert_eq!(told(Run { count: 1, ..run() }), "the count by the equation route is 2, by the direct route 1");
+        assert_eq!(
+            told(Run { records: 4, ..run() }),
+            "the number of records by the equation route is 3, by the direct route 4"
+        );
+        assert_eq!(
+            told(Run { distinct: 3, ..run() }),
+            "the number of distinct transitions by the equation route is 2, by the direct route 3"
+        );
+        assert_eq!(
+            told(Run { refusal: 6, ..Run::default() }),
+            "the equation route accepts the case, the direct route refuses it with 6"
+        );
+    }
+}

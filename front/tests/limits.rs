@@ -5,8 +5,10 @@
 mod case_texts;
 
 use bithrowy_front::limits::{self, ROUNDS};
+use bithrowy_front::refusal;
 use bithrowy_front::source::Fault;
 use case_texts::{case, case_of, checked, refused};
+use std::collections::HashSet;
 
 /// A model of so many states, without transitions.
 fn states(count: usize) -> String {
@@ -25,7 +27,7 @@ fn labelled(labels: impl Iterator<Item = String>) -> String {
 }
 
 /// The refusal of a model and a formula, labels without a transition allowed: its number, message, and marked text.
-fn refusal(model: &str, formula: &str) -> (u64, String, String) {
+fn refusal_of(model: &str, formula: &str) -> (u64, String, String) {
     told(refused(&case_of(model, formula, true).unwrap(), ROUNDS))
 }
 
@@ -34,8 +36,8 @@ fn told(fault: Fault) -> (u64, String, String) {
     (fault.refusal.unwrap(), fault.message.clone(), fault.source.slice(fault.span).to_string())
 }
 
-fn tells(refusal: (u64, String, String), number: u64, message: &str, marked: &str) {
-    assert_eq!(refusal, (number, message.to_string(), marked.to_string()));
+fn tells(told: (u64, String, String), number: u64, message: &str, marked: &str) {
+    assert_eq!(told, (number, message.to_string(), marked.to_string()));
 }
 
 fn accepts(model: &str, formula: &str) {
@@ -47,12 +49,12 @@ fn accepts(model: &str, formula: &str) {
 fn states_in_range() {
     accepts(&states(1), "true");
     accepts(&states(256), "true");
-    tells(refusal(&states(0), "true"), 3, "0 states: the checker takes 1 to 256", "0");
+    tells(refusal_of(&states(0), "true"), 3, "0 states: the checker takes 1 to 256", "0");
     for (count, words) in
         [(257, "257 states"), (70_000, "70,000 states"), (usize::MAX, "18,446,744,073,709,551,615 states")]
     {
         let message = format!("{words}: the checker takes 1 to 256");
-        tells(refusal(&states(count), "true"), 3, &message, &count.to_string());
+        tells(refusal_of(&states(count), "true"), 3, &message, &count.to_string());
     }
 }
 
@@ -75,10 +77,10 @@ fn transitions_in_range() {
     accepts(&copies(2_048), "true");
     accepts(&different(2_048), "true");
     let message = "2,049 transitions: the checker takes at most 2,048";
-    tells(refusal(&copies(2_049), "true"), 3, message, "2049");
-    tells(refusal(&different(2_049), "true"), 3, message, "2049");
+    tells(refusal_of(&copies(2_049), "true"), 3, message, "2049");
+    tells(refusal_of(&different(2_049), "true"), 3, message, "2049");
     let help = |model: &str| refused(&case(model, "true"), ROUNDS).help.unwrap();
-    assert_eq!(help(&copies(2_049)), "only 1 of them are different: leave out the copies");
+    assert_eq!(help(&copies(2_049)), "leave out the copies: without them there are 1");
     assert!(help(&different(2_049)).starts_with("leave out what the formula does not speak of"));
 }
 
@@ -87,7 +89,7 @@ fn transitions_in_range() {
 fn transitions_beyond_16_bits() {
     for count in [65_535, 65_536, 70_000] {
         let model = format!("des (0, {count}, 1)\n{}", "(0,a,0)\n".repeat(count));
-        let (number, message, _) = refusal(&model, "true");
+        let (number, message, _) = refusal_of(&model, "true");
         assert_eq!(number, 3);
         assert!(message.ends_with("transitions: the checker takes at most 2,048"), "{message}");
     }
@@ -97,10 +99,10 @@ fn transitions_beyond_16_bits() {
 fn labels_in_range() {
     accepts(&loops(64), "[a0] true");
     accepts(&loops(63), "[b] true");
-    tells(refusal(&loops(65), "true"), 3, "65 labels: the checker takes at most 64", "(0, \"a64\", 0)");
+    tells(refusal_of(&loops(65), "true"), 3, "65 labels: the checker takes at most 64", "(0, \"a64\", 0)");
     // 63 of the model and two more: the second is the first too many.
     tells(
-        refusal(&loops(63), "[b] true && [c] true"),
+        refusal_of(&loops(63), "[b] true && [c] true"),
         3,
         "65 labels (2 of them named by the formula alone): the checker takes at most 64",
         "c",
@@ -121,7 +123,7 @@ fn action_nodes_in_range() {
     accepts(&loops(1), &nots(128));
     // Two formulas that share what is equal: `!...!a` of 128 nodes holds the one of 127.
     accepts(&loops(1), &format!("{} && {}", nots(128), nots(127)));
-    let (number, message, marked) = refusal(&loops(1), &format!("[b] true && {}", nots(129)));
+    let (number, message, marked) = refusal_of(&loops(1), &format!("[b] true && {}", nots(129)));
     assert_eq!((number, message.as_str()), (3, "130 action nodes: the checker takes at most 128"));
     assert!(marked.contains("!!!") && !marked.contains("[b]"), "{marked}");
 }
@@ -132,32 +134,35 @@ fn formula_nodes_in_range() {
     accepts(&loops(1), &format!("{}true", "[a0]".repeat(63)));
     // The 65th node is the last, true.
     let long = format!("{}true", "[a0]".repeat(64));
-    tells(refusal(&loops(1), &long), 3, "65 formula nodes: the checker takes 1 to 64", "true");
+    tells(refusal_of(&loops(1), &long), 3, "65 formula nodes: the checker takes 1 to 64", "true");
 }
 
-/// Each of forty choices between sequences writes what follows twice: 2 to the 40 boxes at least, each with `true` behind
-/// it or another box. They are counted and not written out.
+/// A choice between two and three steps writes what follows twice: an and, five boxes, and two times what follows. From 1
+/// node, forty of them make 7 times 2 to the 40, less 6. They are counted and not written out.
 #[test]
 fn formulas_too_large_to_write_out() {
     let formula = format!("{}true", "[a0.a0 + a0.a0.a0]".repeat(40));
-    let (number, message, marked) = refusal(&loops(1), &formula);
-    assert_eq!((number, marked), (3, formula));
-    assert!(
-        message.ends_with("nodes: the checker takes 1 to 64") || message.ends_with("takes at most 128"),
-        "{message}"
+    tells(refusal_of(&loops(1), &formula), 3, "7,696,581,394,426 formula nodes: the checker takes 1 to 64", &formula);
+    // Seventy are beyond the numbers there are.
+    let formula = format!("{}true", "[a0.a0 + a0.a0.a0]".repeat(70));
+    tells(
+        refusal_of(&loops(1), &formula),
+        3,
+        "18,446,744,073,709,551,615 formula nodes: the checker takes 1 to 64",
+        &formula,
     );
 }
 
 #[test]
 fn counts_are_named_in_the_headers_order() {
     let long = format!("{}true", "[a]".repeat(64));
-    assert_eq!(refusal("des (0, 0, 257)\n", &long).1, "257 states: the checker takes 1 to 256");
+    assert_eq!(refusal_of("des (0, 0, 257)\n", &long).1, "257 states: the checker takes 1 to 256");
     assert_eq!(
-        refusal(&loops(65), &long).1,
+        refusal_of(&loops(65), &long).1,
         "66 labels (1 of them named by the formula alone): the checker takes at most 64"
     );
     assert_eq!(
-        refusal(&loops(1), &format!("{}{}", "[a]".repeat(64), nots(129))).1,
+        refusal_of(&loops(1), &format!("{}{}", "[a]".repeat(64), nots(129))).1,
         "129 action nodes: the checker takes at most 128"
     );
 }
@@ -166,12 +171,12 @@ fn counts_are_named_in_the_headers_order() {
 fn states_below_the_number_of_states() {
     accepts("des (1, 1, 2)\n(1, a, 1)\n", "true");
     let states = "but the header says 2 states, which are 0 to 1";
-    tells(refusal("des (2, 0, 2)\n", "true"), 6, &format!("the initial state is 2, {states}"), "2");
+    tells(refusal_of("des (2, 0, 2)\n", "true"), 6, &format!("the initial state is 2, {states}"), "2");
     for number in ["2", "65536", "70000", "18446744073709551615"] {
         let source = format!("des (0, 2, 2)\n(0, a, 1)\n({number}, a1, 1)\n");
-        tells(refusal(&source, "true"), 6, &format!("the transition begins in state {number}, {states}"), number);
+        tells(refusal_of(&source, "true"), 6, &format!("the transition begins in state {number}, {states}"), number);
         let target = format!("des (0, 1, 2)\n(0, a1, {number})\n");
-        tells(refusal(&target, "true"), 6, &format!("the transition ends in state {number}, {states}"), number);
+        tells(refusal_of(&target, "true"), 6, &format!("the transition ends in state {number}, {states}"), number);
     }
 }
 
@@ -192,14 +197,13 @@ fn blocks_in_range() {
     accepts(&loops(1), &format!("true && {}true", binders(5)));
     accepts(&loops(1), &format!("{}true", "[a0*]".repeat(6)));
     let message = "7 fixed points: the checker takes at most 6";
-    tells(refusal(&loops(1), &format!("{}true", binders(7))), 10, message, "nu X6. true");
+    tells(refusal_of(&loops(1), &format!("{}true", binders(7))), 10, message, "nu X6. true");
     let help = |formula: &str| refused(&case(&loops(1), formula), ROUNDS).help.unwrap();
     assert_eq!(
         help(&format!("mu Y. <a0> {}[a0+] (! mu Z. [a0] Z)", "[a0*]".repeat(4))),
-        "counted were mu Y, mu Z, 5 of `*` and `+` behind steps, which need one each. Check the parts of the formula one \
-         by one"
+        "counted are: mu Y; mu Z; 5 for `*` and `+` behind steps, one each. Check the parts of the formula one by one"
     );
-    assert!(help(&format!("<a0> {}true", binders(6))).contains(", 1 more because the formula begins with neither"));
+    assert!(help(&format!("<a0> {}true", binders(6))).contains("; 1 because the formula begins with neither"));
 }
 
 #[test]
@@ -227,11 +231,11 @@ fn different_names() {
     let labels = |last: String| labelled((0..63).map(|i| label(4 * i)).chain([last]));
     accepts(&labels("n0|n252|n253|n254".to_string()), "true");
     let message = "256 different names: the checker takes at most 255";
-    tells(refusal(&labels(label(252)), "true"), 15, message, "(0, \"n252|n253|n254|n255\", 0)");
+    tells(refusal_of(&labels(label(252)), "true"), 15, message, "(0, \"n252|n253|n254|n255\", 0)");
     let in_formula = labelled((0..63).map(|i| label(4 * i)));
-    tells(refusal(&in_formula, "[n252|n253|n254|n255] true"), 15, message, "n252|n253|n254|n255");
+    tells(refusal_of(&in_formula, "[n252|n253|n254|n255] true"), 15, message, "n252|n253|n254|n255");
     // One more label, and the count of labels is refused first.
-    let (number, ..) = refusal(&labelled((0..65).map(|i| label(4 * i))), "true");
+    let (number, ..) = refusal_of(&labelled((0..65).map(|i| label(4 * i))), "true");
     assert_eq!(number, 3);
 }
 
@@ -299,4 +303,27 @@ fn the_help_lists_a_dozen_labels() {
     assert!(fault.help.unwrap().starts_with(&format!("The model's labels: {} and 28 more. Where", listed.join(", "))));
     let fault = case_of(&states(1), "<a> true", false).unwrap_err();
     assert!(fault.help.unwrap().starts_with("The model has no transitions. Where it is meant,"));
+}
+
+#[test]
+fn numbers_that_text_does_not_bring_about() {
+    let case = case(&states(1), "true");
+    for number in [1, 2, 4, 5, 7, 8, 9, 11, 12, 13, 16, 17] {
+        let fault = refusal::fault(&case, number, ROUNDS);
+        let meaning = refusal::meaning(number);
+        assert_eq!(fault.refusal, Some(number));
+        assert_eq!(fault.message, format!("the library refuses the case file: {meaning}"));
+        assert!(fault.help.unwrap().contains("please report it"));
+    }
+    // A condition that holds of no count, number or name of this case is not made up.
+    for number in [3, 6, 10, 15] {
+        assert!(refusal::fault(&case, number, ROUNDS).help.unwrap().contains("please report it"));
+    }
+}
+
+#[test]
+fn each_number_has_a_meaning_of_its_own() {
+    let meanings: HashSet<&str> = (0..=18).map(refusal::meaning).collect();
+    assert_eq!(meanings.len(), 19);
+    assert_eq!(refusal::meaning(18), refusal::meaning(u64::MAX));
 }

@@ -111,8 +111,7 @@ fn p7_has_seven_blocks() {
     assert_eq!(
         refused(&case(model, formula), ROUNDS).to_string(),
         "f.mcf:1:41: 7 fixed points: the checker takes at most 6 (refusal 10)\n  |\n1 | (nu A. nu B. nu C. true) && nu \
-         D. nu E. nu F. true\n  |                                         ^^^^^^^^^^\n  = help: counted were nu A, nu B, nu C, \
-         nu D, nu E, nu F, 1 more because the formula begins with neither mu nor nu. Check the parts of the formula one \
-         by one"
+         D. nu E. nu F. true\n  |                                         ^^^^^^^^^^\n  = help: counted are: nu A; nu B; nu C; nu \
+         D; nu E; nu F; 1 because the formula begins with neither mu nor nu. Check the parts of the formula one by one"
     );
 }

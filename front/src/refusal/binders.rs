@@ -22,16 +22,15 @@ pub fn fault(case: &Case) -> Option<Fault> {
 
 /// Where the fixed points come from.
 fn counted(table: &Table, binders: &[usize], added: usize) -> String {
-    let written: Vec<String> = binders.iter().filter_map(|&node| written(table, node)).collect();
-    let repeated = binders.len() - written.len();
-    let mut parts = written;
+    let mut parts: Vec<String> = binders.iter().filter_map(|&node| written(table, node)).collect();
+    let repeated = binders.len() - parts.len();
     if repeated > 0 {
-        parts.push(format!("{} of `*` and `+` behind steps, which need one each", repeated));
+        parts.push(format!("{repeated} for `*` and `+` behind steps, one each"));
     }
     if added > 0 {
-        parts.push("1 more because the formula begins with neither mu nor nu".to_string());
+        parts.push("1 because the formula begins with neither mu nor nu".to_string());
     }
-    format!("counted were {}. Check the parts of the formula one by one", parts.join(", "))
+    format!("counted are: {}. Check the parts of the formula one by one", parts.join("; "))
 }
 
 /// A binder as the text has it, if it stands there: not so for the binder of a `*`. A negation in front of it does not

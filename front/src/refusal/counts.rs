@@ -39,7 +39,7 @@ fn transitions(case: &Case, count: usize) -> Option<Fault> {
     }
     let different: HashSet<_> = case.model.transitions.iter().map(|t| (t.source, t.label, t.target)).collect();
     let help = match different.len() <= most {
-        true => format!("only {} of them are different: leave out the copies", different.len()),
+        true => format!("leave out the copies: without them there are {}", amount::thousands(different.len())),
         false => MERGE.to_string(),
     };
     let message = format!("{}: {}", amount::of(count, "transition"), at_most(most));

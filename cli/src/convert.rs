@@ -2,38 +2,22 @@
 
 use crate::arguments::ConvertArguments;
 use crate::exit::Exit;
-use crate::files;
-use crate::load::{Formula, Rules};
+use crate::files::{self, Kind};
+use crate::load::{self, Formula, Rules};
 use crate::output;
 use crate::trouble::Trouble;
 use bithrowy_front::case::Case;
-use bithrowy_front::{aut, back, library, limits, refusal};
+use bithrowy_front::{aut, back, library, refusal};
 use std::io::{self, IsTerminal};
 
 pub fn run(arguments: &ConvertArguments) -> Result<Exit, Trouble> {
     let bytes = files::bytes(&arguments.file)?;
-    match kind(&bytes) {
-        Kind::Model => from_text(arguments, bytes)?,
+    match files::kind(&bytes) {
+        Kind::Text => from_text(arguments, bytes)?,
         Kind::Case => from_case(arguments, &bytes)?,
         Kind::Equations => from_equations(arguments, &bytes)?,
     }
     Ok(Exit::Good)
-}
-
-enum Kind {
-    Model,
-    Case,
-    Equations,
-}
-
-/// What a file holds. Text is a model. An equation file begins with its version in 32 bits, and so with three zeros behind
-/// the 1; a case file has its states there, and at least one.
-fn kind(bytes: &[u8]) -> Kind {
-    match bytes {
-        [1, 0, 0, 0, ..] => Kind::Equations,
-        _ if !bytes.contains(&0) && std::str::from_utf8(bytes).is_ok() => Kind::Model,
-        _ => Kind::Case,
-    }
 }
 
 fn from_text(arguments: &ConvertArguments, bytes: Vec<u8>) -> Result<(), Trouble> {
@@ -46,16 +30,11 @@ fn from_text(arguments: &ConvertArguments, bytes: Vec<u8>) -> Result<(), Trouble
     let rules = Rules::settle(&arguments.readings, Some(&formula.directives));
     let model = aut::read(&files::text(&arguments.file, bytes)?, &rules.silent)?;
     let case = formula.case(&model, &rules)?;
-    let equations = translated(&case)?;
+    let equations = load::equations(&case)?;
     if arguments.equations {
         return write_equations(arguments, &equations);
     }
     write_case(arguments, &case)
-}
-
-/// The equation file of a case that the library accepts.
-fn translated(case: &Case) -> Result<Vec<u8>, Trouble> {
-    library::translate(&case.bytes).map_err(|number| refusal::fault(case, number, limits::ROUNDS).into())
 }
 
 fn write_case(arguments: &ConvertArguments, case: &Case) -> Result<(), Trouble> {

@@ -17,6 +17,7 @@ pub fn run(arguments: &DrawArguments) -> Result<Exit, Trouble> {
     let rules = Rules::settle(&arguments.readings, formula.as_ref().map(|formula| &formula.directives))
         .limited(arguments.limit);
     let model = load::model(&arguments.model, arguments.names.as_deref(), &rules)?;
+    load::accepted(&model, &rules)?;
     let answer = formula.map(|formula| formula.check(&model, &rules)).transpose()?;
     let checked = answer.as_ref().map(|answer| &answer.checked);
     if let Some(file) = &arguments.html {

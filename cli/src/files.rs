@@ -2,6 +2,7 @@
 
 use crate::output::visible;
 use crate::trouble::Trouble;
+use bithrowy_front::amount::thousands;
 use bithrowy_front::source::Source;
 use std::fs::{self, File};
 use std::io::{self, Read};
@@ -10,6 +11,26 @@ use std::sync::Arc;
 
 /// Larger files are not read: the checker's limits are reached long before.
 const LARGEST: u64 = 64 << 20;
+
+/// What a file holds.
+#[derive(Clone, Copy, Debug, PartialEq, Eq)]
+pub enum Kind {
+    Text,
+    Case,
+    Equations,
+}
+
+/// What the bytes of a file are. An equation file begins with its version in 32 bits, and so with three zeros behind the 1;
+/// a case file has its states there, and at least one. Text has no zero byte, unless it is UTF-16, which says so at its
+/// start and is refused as text.
+pub fn kind(bytes: &[u8]) -> Kind {
+    match bytes {
+        [1, 0, 0, 0, ..] => Kind::Equations,
+        [0xff, 0xfe, ..] | [0xfe, 0xff, ..] => Kind::Text,
+        _ if bytes.contains(&0) => Kind::Case,
+        _ => Kind::Text,
+    }
+}
 
 /// A path as people read it.
 pub fn shown(path: &Path) -> String {
@@ -21,7 +42,11 @@ pub fn bytes(path: &Path) -> Result<Vec<u8>, Trouble> {
     let read = if path == Path::new("-") { read_some(io::stdin().lock()) } else { read_file(path) };
     let bytes = read.map_err(|error| Trouble::plain(format!("{} cannot be read: {}", shown(path), reason(&error))))?;
     if bytes.len() as u64 > LARGEST {
-        return Err(Trouble::plain(format!("{} is not read: it has more than {LARGEST} bytes", shown(path))));
+        return Err(Trouble::plain(format!(
+            "{} is not read: it has more than {} bytes",
+            shown(path),
+            thousands(LARGEST)
+        )));
     }
     Ok(bytes)
 }

@@ -1,7 +1,7 @@
 //! From arguments to models, formulas, cases and answers.
 
 use crate::arguments::{FormulaArguments, Readings};
-use crate::files;
+use crate::files::{self, Kind};
 use crate::trouble::Trouble;
 use bithrowy_front::case::{self, Case};
 use bithrowy_front::check::{self, Checked};
@@ -13,7 +13,7 @@ use bithrowy_front::label;
 use bithrowy_front::limits;
 use bithrowy_front::model::Model;
 use bithrowy_front::source::Source;
-use bithrowy_front::{aut, names, parser};
+use bithrowy_front::{aut, library, names, parser, refusal};
 use std::path::{Path, PathBuf};
 use std::sync::Arc;
 
@@ -104,7 +104,12 @@ pub fn needed(arguments: &FormulaArguments) -> Result<Formula, Trouble> {
 
 /// A model with the names of its states: those of the file given, or of the file beside the model, if there is one.
 pub fn model(path: &Path, names_file: Option<&Path>, rules: &Rules) -> Result<Model, Trouble> {
-    let mut model = aut::read(&files::source(path)?, &rules.silent)?;
+    let bytes = files::bytes(path)?;
+    if files::kind(&bytes) != Kind::Text {
+        let message = format!("{} is a case file or an equation file, and no model as text", files::shown(path));
+        return Err(Trouble::plain(message).with_help("`bithrowy convert` makes text of it"));
+    }
+    let mut model = aut::read(&files::text(path, bytes)?, &rules.silent)?;
     if let Some(file) = names_file.map(Path::to_path_buf).or_else(|| beside(path)) {
         names::read(&files::source(&file)?, &mut model)?;
     }
@@ -114,4 +119,15 @@ pub fn model(path: &Path, names_file: Option<&Path>, rules: &Rules) -> Result<Mo
 fn beside(path: &Path) -> Option<PathBuf> {
     let file = path.with_extension("names");
     (file != path && file.is_file()).then_some(file)
+}
+
+/// The equation file of a case, if the library accepts the case.
+pub fn equations(case: &Case) -> Result<Vec<u8>, Trouble> {
+    library::translate(&case.bytes).map_err(|number| refusal::fault(case, number, limits::ROUNDS).into())
+}
+
+/// Is the model alone within what the checker takes?
+pub fn accepted(model: &Model, rules: &Rules) -> Result<(), Trouble> {
+    let anything = Formula::new(Source::new("", "true"))?;
+    equations(&anything.case(model, rules)?).map(|_| ())
 }

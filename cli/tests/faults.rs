@@ -55,6 +55,78 @@ fn files_that_cannot_be_read_or_written() {
     folder.run(&["check", ".", "ends.mcf"]).expect_exit(2);
 }
 
+/// A case file in place of a model, and a file that does not end.
+#[test]
+fn files_that_are_no_text() {
+    let folder = Folder::with_dialog("fault-kinds");
+    folder.run(&["convert", "dialog.aut", "ends.mcf", "-o", "case.bin"]).expect_exit(0);
+    let ran = folder.run(&["check", "case.bin", "ends.mcf"]).expect_exit(2);
+    assert!(ran.err.contains("help: `bithrowy convert` makes text of it"), "{}", ran.err);
+    folder.write("utf16.aut", b"\xff\xfed\0e\0s\0");
+    let ran = folder.run(&["check", "utf16.aut", "ends.mcf"]).expect_exit(2);
+    assert!(ran.err.contains("UTF-16") && ran.err.contains("--> utf16.aut:1:1\n"), "{}", ran.err);
+    if cfg!(unix) {
+        let ran = folder.run(&["check", "/dev/zero", "ends.mcf"]).expect_exit(2);
+        assert_eq!(ran.err, "error: /dev/zero is not read: it has more than 67,108,864 bytes\n");
+    }
+}
+
+/// However long a line is, what is shown of it is short, and the caret stands below its place.
+#[test]
+fn long_lines_are_cut() {
+    let folder = Folder::with_dialog("fault-long");
+    folder.write("long.mcf", " ".repeat(100_000) + "nu X [true] X" + &" ".repeat(100_000));
+    let ran = folder.run(&["check", "dialog.aut", "long.mcf"]).expect_exit(2);
+    assert!(ran.err.len() < 2_000, "{} bytes", ran.err.len());
+    assert!(ran.err.contains("--> long.mcf:1:100006\n"), "{}", ran.err);
+    let column = |sign: char| ran.err.lines().skip(3).find_map(|line| line.chars().position(|c| c == sign));
+    assert!(column('[').is_some() && column('[') == column('^'), "{}", ran.err);
+}
+
+/// Numbers far beyond the limits are refused by each command, at once.
+#[test]
+fn enormous_numbers() {
+    let folder = Folder::with_dialog("fault-enormous");
+    for header in ["des (0, 0, 18446744073709551615)", "des (18446744073709551615, 0, 1)", "des (0, 0, 0)"] {
+        folder.write("m.aut", header);
+        for arguments in
+            [vec!["check", "m.aut", "ends.mcf"], vec!["draw", "m.aut"], vec!["convert", "m.aut", "ends.mcf"]]
+        {
+            let ran = folder.run(&arguments).expect_exit(2);
+            assert!(ran.err.starts_with("error[refusal "), "{header}: {}", ran.err);
+        }
+    }
+}
+
+/// Random bytes and pieces of text, as models, formulas and case files.
+#[test]
+fn random_files() {
+    let folder = Folder::with_dialog("fault-random");
+    let pieces = [
+        "des", "(0,", "\"", "mu X.", "[", "]", "X", "\0", "\u{1}", "\u{fffd}", "\n", "%", "models:", "1", "3", ")",
+        "&&",
+    ];
+    let mut random: u64 = 12345;
+    for _ in 0..60 {
+        let mut content = String::new();
+        for _ in 0..20 {
+            random = random.wrapping_mul(6364136223846793005).wrapping_add(1442695040888963407);
+            content += pieces[(random >> 33) as usize % pieces.len()];
+        }
+        folder.write("random", content);
+        for arguments in [
+            vec!["check", "random", "ends.mcf"],
+            vec!["check", "dialog.aut", "random"],
+            vec!["convert", "random"],
+            vec!["show", "random"],
+            vec!["test", "random"],
+        ] {
+            let ran = folder.run(&arguments);
+            assert!(ran.exit.is_some_and(|exit| exit <= 2), "{}: {ran:?}", folder.read("random"));
+        }
+    }
+}
+
 #[test]
 fn wrong_arguments() {
     let folder = Folder::with_dialog("fault-arguments");
@@ -119,22 +191,36 @@ fn a_reader_who_has_gone_away() {
     assert_eq!((output.status.code(), output.stderr), (Some(0), Vec::new()));
 }
 
-/// On a terminal, which the program `script` plays, faults have colours, and a test run has a bar; not with NO_COLOR.
+/// A bar is drawn on a terminal only, and cleared in the end.
+#[test]
+fn a_bar_on_a_terminal_only() {
+    let folder = Folder::with_dialog("fault-bar");
+    folder.write("bar.mcf", "% models: dialog.aut\ntrue\n");
+    let piped = folder.run(&["test", "bar.mcf"]).expect_exit(0);
+    assert!(piped.err.is_empty() && !piped.out.contains('\u{1b}'), "{piped:?}");
+    match on_terminal(&folder, "test bar.mcf", &[]) {
+        Some(shown) => assert!(shown.contains("1 of 1") && shown.contains('\u{1b}'), "{shown:?}"),
+        None => println!("not tested: the program `script` is not here, or it is another one"),
+    }
+}
+
+/// On a terminal, which the program `script` plays, faults have colours; not with NO_COLOR.
 #[test]
 fn colours_on_a_terminal_only() {
     let folder = Folder::with_dialog("fault-colours");
-    let Some(plain) = on_terminal(&folder, &[("NO_COLOR", "1")]) else {
+    let wrong = "check nothing.aut ends.mcf";
+    let Some(plain) = on_terminal(&folder, wrong, &[("NO_COLOR", "1")]) else {
         println!("not tested: the program `script` is not here, or it is another one");
         return;
     };
-    let coloured = on_terminal(&folder, &[]).expect("it was here before");
+    let coloured = on_terminal(&folder, wrong, &[]).expect("it was here before");
     assert!(plain.contains("error: nothing.aut cannot be read"), "{plain:?}");
     assert!(!plain.contains('\u{1b}'), "{plain:?}");
     assert!(coloured.contains("\u{1b}["), "{coloured:?}");
 }
 
-fn on_terminal(folder: &Folder, variables: &[(&str, &str)]) -> Option<String> {
-    let line = format!("'{PROGRAM}' check nothing.aut ends.mcf");
+fn on_terminal(folder: &Folder, arguments: &str, variables: &[(&str, &str)]) -> Option<String> {
+    let line = format!("'{PROGRAM}' {arguments}");
     let mut command = Command::new("script");
     command.args(["-qec", &line, "/dev/null"]).current_dir(folder.path("")).env_remove("NO_COLOR").env("TERM", "xterm");
     command.envs(variables.iter().copied()).stdin(Stdio::null());

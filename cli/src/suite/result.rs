@@ -87,3 +87,25 @@ impl Report {
         self.planned - self.results.len()
     }
 }
+
+#[cfg(test)]
+mod tests {
+    use super::*;
+
+    fn checked(trouble: Trouble) -> Checked {
+        let (name, formula) = ("a name".to_string(), "f.mcf".to_string());
+        Checked { name, formula, model: None, expected: true, outcome: Err(trouble), time: Duration::ZERO }
+    }
+
+    /// It is proved that the routes do not differ, so no text can show what is said if they do.
+    #[test]
+    fn routes_that_differ_count_most() {
+        let differ = checked(Trouble::Differ("verdict 1 and 0".to_string()));
+        assert_eq!((differ.standing(), differ.exit()), (Standing::Differ, Exit::Differ));
+        assert_eq!(differ.words(), "the routes differ: verdict 1 and 0");
+        let results = vec![differ, checked(Trouble::plain("a fault"))];
+        let report = Report { results, planned: 3, seconds: 0.0 };
+        assert_eq!((report.exit(), report.exit().number()), (Exit::Differ, 3));
+        assert_eq!((report.count(Standing::Differ), report.count(Standing::Fault), report.skipped()), (1, 1, 1));
+    }
+}

@@ -178,7 +178,7 @@ impl Table {
 }
 
 /// The words of a part of a formula's text, with one blank where there are blanks or comments.
-fn own_words(source: &Source, part: Span) -> Option<String> {
+pub(crate) fn own_words(source: &Source, part: Span) -> Option<String> {
     let source = Source::new("", source.slice(lexer::unbracketed(source, part)));
     let mut single = String::new();
     let mut end = 0;

@@ -9,6 +9,8 @@ mod cycles;
 mod game;
 mod graph;
 mod lasso;
+mod naming;
+mod reasons;
 mod sentences;
 mod words;
 

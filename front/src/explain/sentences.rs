@@ -1,26 +1,30 @@
 //! An explanation in sentences, for people who have never seen a mu-calculus formula.
 
-use super::words::{listed, Words};
+use super::reasons::Reasons;
+use super::words::Words;
 use super::{Claim, Ending, Explanation, Step};
 use crate::check::Checked;
 use crate::model::Model;
+use crate::source::visible_letter;
 use crate::table::Kind;
 
 /// The lines of an explanation.
 pub fn all(model: &Model, checked: &Checked, explanation: &Explanation) -> Vec<String> {
-    let mut sentences = Sentences { words: Words::new(model, checked), lines: Vec::new() };
+    let words = Words::new(model, checked);
+    let mut sentences = Sentences { reasons: Reasons { words: &words }, words: &words, lines: Vec::new() };
     sentences.explanation(explanation, "");
     sentences.lines
 }
 
 struct Sentences<'a> {
-    words: Words<'a>,
+    words: &'a Words<'a>,
+    reasons: Reasons<'a>,
     lines: Vec<String>,
 }
 
 impl Sentences<'_> {
-    fn say(&mut self, indent: &str, text: String) {
-        self.lines.push(format!("{indent}{text}"));
+    fn say(&mut self, indent: &str, text: &str) {
+        self.lines.push(indent.chars().chain(text.chars().map(visible_letter)).collect());
     }
 
     fn explanation(&mut self, explanation: &Explanation, indent: &str) {
@@ -28,98 +32,98 @@ impl Sentences<'_> {
             Ending::Loop { steps, binder } => self.in_a_loop(explanation, steps, *binder, indent),
             Ending::Constant => self.constant(explanation, indent),
             Ending::Sides(_) => self.sides(explanation, indent),
-            _ => self.plain(explanation, indent),
+            _ => self.to_part(explanation, &self.reasons.of(explanation), indent),
         }
-        self.beside(explanation, indent);
+        for fact in self.reasons.beside(explanation) {
+            self.say(indent, &fact);
+        }
     }
 
     fn steps(&mut self, steps: &[Step], indent: &str) {
         for &step in steps {
             let text = self.words.step(step);
-            self.say(indent, format!("  {text}"));
+            self.say(indent, &format!("  {text}"));
         }
     }
 
-    /// The claim, and the run if there is one: what is said next says why.
-    fn run_then(&mut self, explanation: &Explanation, why: String, indent: &str) {
+    /// The claim, with the run if there is one; what is said next says why.
+    fn run_then(&mut self, explanation: &Explanation, why: &str, indent: &str) {
         let claim = self.words.claim(&explanation.claim);
         if explanation.run.is_empty() {
-            self.say(indent, format!("{claim}: {why}"));
+            self.say(indent, &format!("{claim}{why}"));
         } else {
-            self.say(indent, format!("{claim}:"));
+            let only = if self.words.is_only_run(explanation) { ", and this is the only run" } else { "" };
+            self.say(indent, &format!("{claim}{only}:"));
             self.steps(&explanation.run, indent);
-            self.say(indent, format!("and {why}"));
+            self.say(indent, &format!("and{why}"));
         }
     }
 
-    /// A run to a part, and why that part is as it is.
-    fn to_part(&mut self, explanation: &Explanation, reason: String, indent: &str) {
-        let (claim, end) = (&explanation.claim, &explanation.end);
-        let why = if claim == end { reason } else { format!("there {}: {reason}", self.words.part_is(end)) };
-        self.run_then(explanation, why, indent);
-    }
-
-    fn plain(&mut self, explanation: &Explanation, indent: &str) {
-        let (words, end) = (&self.words, &explanation.end);
-        let reason = match &explanation.ending {
-            Ending::NoTransition => words.no_transition(end),
-            Ending::Each(steps) => words.each(end, steps),
-            Ending::Closed { states, parts } => words.whatever_happens(end, states, parts),
-            _ => words.no_single_run(end),
+    /// A run to a part, and why that part is as it is, the first reason in the same line.
+    fn to_part(&mut self, explanation: &Explanation, reasons: &[String], indent: &str) {
+        let end = self.words.spoken(&explanation.end);
+        let first = reasons.first().map_or("", String::as_str);
+        let why = match (explanation.run.is_empty(), end == explanation.claim) {
+            (true, true) => format!(": {first}"),
+            (true, false) => format!(", since {} there: {first}", self.words.part_is(&end)),
+            (false, _) => format!(" there {}: {first}", self.words.part_is(&end)),
         };
-        self.to_part(explanation, format!("{reason}."), indent);
+        self.run_then(explanation, &why, indent);
+        for reason in reasons.iter().skip(1) {
+            self.say(indent, reason);
+        }
     }
 
     /// Sides within sides are told side by side.
     fn sides(&mut self, explanation: &Explanation, indent: &str) {
-        let reason = if explanation.claim.holds { "each of its sides holds:" } else { "none of its sides holds:" };
-        self.to_part(explanation, reason.to_string(), indent);
+        let sides = flattened(explanation);
+        let these = if sides.len() == 2 { "both of these" } else { "all of these" };
+        let verb = if explanation.claim.holds { "hold" } else { "fail" };
+        self.to_part(explanation, &[format!("{these} {verb}:")], indent);
         let deeper = format!("{indent}  ");
-        for side in flattened(explanation) {
+        for side in sides {
             self.explanation(side, &deeper);
         }
     }
 
     /// What says `true` or `false` is reached by a step that is asked for or ruled out, or else says so by itself.
     fn constant(&mut self, explanation: &Explanation, indent: &str) {
+        let holds = explanation.end.holds;
         let why = match self.words.decided_by_step(explanation) {
             Some(modality) => {
                 let step = if explanation.run.len() == 1 { "this step" } else { "the last step" };
-                let does = if explanation.end.holds { "asks for" } else { "rules out" };
-                let part = self.words.or_it(modality, explanation);
-                format!("{step} is one that {part} {does}.")
+                let does = if holds { "asks for" } else { "rules out" };
+                format!(" {step} is one that {} {does}.", self.words.or_it(modality, explanation))
             }
-            None if explanation.end.holds => "there nothing more is asked: `true` holds everywhere.".to_string(),
-            None => "there `false` is asked, which holds nowhere.".to_string(),
+            None if explanation.claim == explanation.end => ", as everywhere.".to_string(),
+            None if explanation.run.is_empty() => self.asks_for_constant(holds, ", since it asks for"),
+            None => self.asks_for_constant(holds, " there it asks for"),
         };
-        self.run_then(explanation, why, indent);
+        self.run_then(explanation, &why, indent);
+    }
+
+    fn asks_for_constant(&self, holds: bool, asks: &str) -> String {
+        match holds {
+            true => format!("{asks} `true`, which holds everywhere."),
+            false => format!("{asks} `false`, which holds nowhere."),
+        }
     }
 
     fn in_a_loop(&mut self, explanation: &Explanation, steps: &[Step], binder: usize, indent: &str) {
         if steps.is_empty() {
-            let reason = self.words.only_by_itself(binder);
-            return self.to_part(explanation, reason, indent);
+            return self.to_part(explanation, &[self.reasons.only_by_itself(binder)], indent);
         }
-        let first = if explanation.run.is_empty() { "this can go on for ever:" } else { "from there on for ever:" };
-        self.run_then(explanation, first.to_string(), indent);
+        let first = match (explanation.run.is_empty(), self.words.is_only_run(explanation)) {
+            (true, true) => ": the only run goes on for ever:",
+            (true, false) => ": this can go on for ever:",
+            (false, _) => " from there on for ever:",
+        };
+        self.run_then(explanation, first, indent);
         self.steps(steps, indent);
         let part = self.words.or_it(binder, explanation);
-        let meaning = match self.words.kind(binder) {
-            Kind::Mu => format!("But {part} holds only where such a run comes to an end."),
-            _ => format!("And {part} asks only that such a run can go on."),
-        };
-        self.say(indent, meaning);
-    }
-
-    /// The facts beside the run, those of one part together.
-    fn beside(&mut self, explanation: &Explanation, indent: &str) {
-        let moved = !explanation.run.is_empty()
-            || matches!(&explanation.ending, Ending::Loop { steps, .. } if !steps.is_empty());
-        let place = if moved { "On the way " } else { "" };
-        for (node, states) in by_part(&explanation.beside) {
-            let names = listed(states.iter().map(|&state| self.words.state(state)));
-            let (part, is) = (self.words.part(node), self.words.is(explanation.claim.holds));
-            self.say(indent, format!("{place}{part} {is} in {names}, too."));
+        match self.words.kind(binder) {
+            Kind::Mu => self.say(indent, &format!("But {part} does not allow this to go on for ever.")),
+            _ => self.say(indent, &format!("And {part} allows this to go on for ever.")),
         }
     }
 }

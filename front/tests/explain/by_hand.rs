@@ -43,7 +43,7 @@ fn a_loop_in_which_close_never_comes() {
         "  open -- click --> closing",
         "and from there on for ever:",
         "  closing -- hover --> closing",
-        "But it holds only where such a run comes to an end.",
+        "But it does not allow this to go on for ever.",
     ];
     assert_told(&told, explanation, &lines);
 }
@@ -54,7 +54,7 @@ fn a_deadlock_before_close() {
     let told = tell(STUCK, TWO, "mu X. <true>true && [!close]X");
     let explanation = run(fails(0, 0), &[0], fails(2, 1), Ending::NoTransition);
     let lines = [
-        "`mu X. <true>true && [!close]X` fails in open:",
+        "`mu X. <true>true && [!close]X` fails in open, and this is the only run:",
         "  open -- click --> closing",
         "and there `<true>true` fails: no transition leaves closing.",
     ];
@@ -83,7 +83,7 @@ fn a_witness() {
         "`<true* . close>true` holds in open:",
         "  open -- click --> closing",
         "  closing -- close --> closed",
-        "and the last step is one that `<close> true` asks for.",
+        "and the last step is one that `<close>true` asks for.",
     ];
     assert_told(&told, explanation, &lines);
 }
@@ -99,7 +99,8 @@ fn a_run_to_where_nothing_helps() {
         "`[true*]<true* . close>true` fails in open:",
         "  open -- click --> closing",
         "  closing -- hover --> hovering",
-        "and there `<true* . close>true` fails: whatever happens, only these states come: hovering, left; in none of them `<close> true` holds.",
+        "and there `<true* . close>true` fails: whatever happens, only these states come: hovering, left.",
+        "In none of them `<close>true` holds.",
     ];
     assert_told(&told, run(fails(0, 0), &[0, 2], fails(2, 2), ending), &lines);
 }
@@ -111,7 +112,7 @@ fn both_sides() {
     let first = run(fails(1, 0), &[], fails(1, 0), Ending::NoTransition);
     let second = run(fails(3, 0), &[0], fails(4, 1), Ending::Constant);
     let lines = [
-        "`<close>true || [click]false` fails in open: none of its sides holds:",
+        "`<close>true || [click]false` fails in open: both of these fail:",
         "  `<close>true` fails in open: no transition from open is accepted by `close`; there are: click.",
         "  `[click]false` fails in open:",
         "    open -- click --> closing",
@@ -136,10 +137,10 @@ fn each_transition() {
 fn a_loop_that_lasts() {
     let told = tell("des (0, 2, 2)\n(0, tick, 1)\n(1, tick, 0)\n", "", "nu X. <tick>X");
     let lines = [
-        "`nu X. <tick>X` holds in state 0: this can go on for ever:",
+        "`nu X. <tick>X` holds in state 0: the only run goes on for ever:",
         "  state 0 -- tick --> state 1",
         "  state 1 -- tick --> state 0",
-        "And it asks only that such a run can go on.",
+        "And it allows this to go on for ever.",
     ];
     assert_told(&told, run(holds(0, 0), &[], holds(0, 0), looping(&[0, 1], 0)), &lines);
 }
@@ -151,10 +152,10 @@ fn facts_beside_a_loop() {
     let mut explanation = run(holds(0, 0), &[], holds(0, 0), looping(&[0, 1], 0));
     explanation.beside = vec![holds(2, 0), holds(2, 1)];
     let lines = [
-        "`[true*]<true>true` holds in state 0: this can go on for ever:",
+        "`[true*]<true>true` holds in state 0: the only run goes on for ever:",
         "  state 0 -- tick --> state 1",
         "  state 1 -- tick --> state 0",
-        "And it asks only that such a run can go on.",
+        "And it allows this to go on for ever.",
         "On the way `<true>true` holds in state 0, state 1, too.",
     ];
     assert_told(&told, explanation, &lines);
@@ -168,7 +169,9 @@ fn close_comes_by_all_ways() {
     let told = tell(model, "0 open\n1 clicked\n2 pressed\n3 closed\n", "mu X. <true>true && [!close]X");
     let parts = vec![holds(2, 0), holds(2, 1), holds(2, 2)];
     let lines = [
-        "`mu X. <true>true && [!close]X` holds in open: by transitions that `!close` accepts only these states come: open, clicked, pressed; in each of them `<true>true` holds; and no run through them comes back to `X` for ever.",
+        "`mu X. <true>true && [!close]X` holds in open: by transitions that `!close` accepts only these states come: open, clicked, pressed.",
+        "In each of them `<true>true` holds.",
+        "No run that it follows goes on for ever.",
     ];
     let ending = Ending::Closed { states: vec![0, 1, 2], parts };
     assert_told(&told, run(holds(0, 0), &[], holds(0, 0), ending), &lines);
@@ -181,7 +184,7 @@ fn no_single_run() {
     let model = "des (0, 5, 4)\n(0, a, 1)\n(0, b, 2)\n(1, a, 3)\n(2, a, 3)\n(3, close, 3)\n";
     let told = tell(model, "", "mu X. <close>true || [true]<true>X");
     let lines = [
-        "`mu X. <close>true || [true]<true>X` holds in state 0: there `[true]<true>X` holds: no single run shows this, for it rests on each transition from state 0: a to state 1, b to state 2.",
+        "`mu X. <close>true || [true]<true>X` holds in state 0, since `[true]<true>X` holds there: no single run shows this. It rests on each transition from state 0: a to state 1, b to state 2.",
     ];
     assert_told(&told, run(holds(0, 0), &[], holds(4, 0), Ending::NoSingleRun), &lines);
 }
@@ -200,13 +203,13 @@ fn defined_by_itself() {
 #[test]
 fn constants() {
     let told = tell(STUCK, TWO, "true");
-    let lines = ["`true` holds in open: there nothing more is asked: `true` holds everywhere."];
+    let lines = ["`true` holds in open, as everywhere."];
     assert_told(&told, run(holds(0, 0), &[], holds(0, 0), Ending::Constant), &lines);
     let told = tell(STUCK, TWO, "<click>false");
     let lines = [
         "`<click>false` fails in open:",
         "  open -- click --> closing",
-        "and there `false` is asked, which holds nowhere.",
+        "and there it asks for `false`, which holds nowhere.",
     ];
     assert_told(&told, run(fails(0, 0), &[0], fails(1, 1), Ending::Constant), &lines);
 }
@@ -228,7 +231,7 @@ fn a_loop_of_an_inner_binder() {
         "  open -- click --> closing",
         "and from there on for ever:",
         "  closing -- hover --> closing",
-        "But `mu Y. [close]X && [!close]Y` holds only where such a run comes to an end.",
+        "But `mu Y. [close]X && [!close]Y` does not allow this to go on for ever.",
     ];
     assert_told(&told, run(fails(0, 0), &[0], fails(1, 1), looping(&[1], 1)), &lines);
 }
@@ -240,7 +243,9 @@ fn close_comes_again_and_again() {
     let told = tell("des (0, 2, 2)\n(0, click, 1)\n(1, close, 0)\n", TWO, "nu X. mu Y. [close]X && [!close]Y");
     let ending = Ending::Closed { states: vec![0, 1], parts: Vec::new() };
     let lines = [
-        "`nu X. mu Y. [close]X && [!close]Y` holds in open: whatever happens, only these states come: open, closing; nothing in them can make it fail; and no run through them comes back to `Y` for ever.",
+        "`nu X. mu Y. [close]X && [!close]Y` holds in open: whatever happens, only these states come: open, closing.",
+        "Nothing in them can make it fail.",
+        "No run that it follows goes round in `mu Y. [close]X && [!close]Y` alone for ever.",
     ];
     assert_told(&told, run(holds(0, 0), &[], holds(0, 0), ending), &lines);
 }
@@ -260,7 +265,7 @@ fn facts_beside_a_run() {
     let mut explanation = run(fails(0, 0), &[0, 1], fails(4, 2), Ending::NoTransition);
     explanation.beside = vec![fails(2, 0), fails(2, 1), fails(2, 2)];
     let lines = [
-        "`mu X. <close>true || <true>X` fails in state 0:",
+        "`mu X. <close>true || <true>X` fails in state 0, and this is the only run:",
         "  state 0 -- a --> state 1",
         "  state 1 -- a --> state 2",
         "and there `<true>X` fails: no transition leaves state 2.",

@@ -1,0 +1,137 @@
+//! Why a part is as it is in a state where a run ends.
+
+use super::sentences::by_part;
+use super::words::{listed, Words};
+use super::{Claim, Ending, Explanation, Step};
+use crate::table::Kind;
+
+pub struct Reasons<'a> {
+    pub words: &'a Words<'a>,
+}
+
+impl Reasons<'_> {
+    /// The reasons for what is neither a loop nor sides nor a constant.
+    pub fn of(&self, explanation: &Explanation) -> Vec<String> {
+        let end = &explanation.end;
+        match &explanation.ending {
+            Ending::NoTransition => vec![self.no_transition(end)],
+            Ending::Each(steps) => vec![self.each(end, steps)],
+            Ending::Closed { states, parts } => self.all_that_comes(end, states, parts),
+            _ => vec![self.no_single_run(end)],
+        }
+    }
+
+    fn no_transition(&self, end: &Claim) -> String {
+        let state = self.words.state(end.state);
+        let labels = self.words.labels_from(end.state);
+        if labels.is_empty() {
+            return format!("no transition leaves {state}.");
+        }
+        let action = self.words.action_text(end.node);
+        format!("no transition from {state} is accepted by `{action}`; there are: {}.", listed(labels))
+    }
+
+    /// All transitions that a modality accepts, and what they are called.
+    fn transitions(&self, end: &Claim, steps: &[Step]) -> (String, String) {
+        let each = match self.words.action_text(end.node).as_str() {
+            "true" => format!("each transition from {}", self.words.state(end.state)),
+            action => format!("each transition from {} that `{action}` accepts", self.words.state(end.state)),
+        };
+        (each, listed(steps.iter().map(|&step| self.words.label_and_target(step))))
+    }
+
+    fn each(&self, end: &Claim, steps: &[Step]) -> String {
+        let operand = Claim { node: end.node + 1, ..*end };
+        let (each, list) = self.transitions(end, steps);
+        format!("{each} leads to where {}: {list}.", self.words.part_is(&operand))
+    }
+
+    fn no_single_run(&self, end: &Claim) -> String {
+        let rests = match (self.words.action(end.node), self.words.operands(end.node).as_slice()) {
+            (Some(action), _) => {
+                let steps = self.words.accepted_from(end.state, action);
+                let (each, list) = self.transitions(end, &steps);
+                format!("{each}: {list}")
+            }
+            (None, &[first, second]) => format!("both {} and {}", self.words.part(first), self.words.part(second)),
+            _ => "more than one".to_string(),
+        };
+        format!("no single run shows this. It rests on {rests}.")
+    }
+
+    /// Of a binder whose variable comes back without any step.
+    pub fn only_by_itself(&self, binder: usize) -> String {
+        let name = self.words.variable(binder);
+        match self.words.kind(binder) {
+            Kind::Mu => format!("`{name}` is only defined by itself, and with mu that holds nowhere."),
+            _ => format!("`{name}` is only defined by itself, and with nu that holds everywhere."),
+        }
+    }
+
+    /// The facts beside a run, those of one part together.
+    pub fn beside(&self, explanation: &Explanation) -> Vec<String> {
+        let turns = matches!(&explanation.ending, Ending::Loop { steps, .. } if !steps.is_empty());
+        let place = if turns || !explanation.run.is_empty() { "On the way " } else { "" };
+        let is = self.words.is(explanation.claim.holds);
+        let fact = |(node, states): (usize, Vec<usize>)| {
+            format!("{place}{} {is} in {}, too.", self.words.part(node), self.words.states(&states))
+        };
+        by_part(&explanation.beside).into_iter().map(fact).collect()
+    }
+
+    /// That only these states come, and what is so in them.
+    fn all_that_comes(&self, end: &Claim, states: &[usize], parts: &[Claim]) -> Vec<String> {
+        let parts = by_part(parts);
+        let mut facts: Vec<String> =
+            parts.iter().filter_map(|(node, at)| self.fact(*node, at, states, end.holds)).collect();
+        if facts.is_empty() {
+            let opposite = if end.holds { "fail" } else { "hold" };
+            facts.push(format!("Nothing in them can make it {opposite}."));
+        }
+        let only = vec![self.only_these(end, states)];
+        only.into_iter().chain(facts).chain(self.never_for_ever(end)).collect()
+    }
+
+    /// Whether these are all the states that can come, by any transitions or by those that are followed, or just those
+    /// that count.
+    fn only_these(&self, end: &Claim, states: &[usize]) -> String {
+        let names = self.words.states(states);
+        let inside = |step: &Step| states.contains(&self.words.target(*step));
+        let leave = |accepted: &dyn Fn(Step) -> bool| {
+            let steps = states.iter().flat_map(|&state| self.words.leaving(state));
+            !steps.filter(|&step| accepted(step)).all(|step| inside(&step))
+        };
+        match self.words.followed(end.node).as_slice() {
+            _ if !leave(&|_| true) => format!("whatever happens, only these states come: {names}."),
+            &[action] if !leave(&|step| self.words.accepts(action, step)) => {
+                let action = self.words.action_words(action);
+                format!("by transitions that `{action}` accepts only these states come: {names}.")
+            }
+            _ => format!("only these states count: {names}."),
+        }
+    }
+
+    /// What a part is in some of the states that come; nothing of `true` and `false`.
+    fn fact(&self, node: usize, at: &[usize], states: &[usize], holds: bool) -> Option<String> {
+        let (part, is) = (self.words.part(node), self.words.is(holds));
+        match self.words.kind(node) {
+            Kind::False | Kind::True => None,
+            _ if at.len() < states.len() => Some(format!("{part} {is} in {}.", self.words.states(at))),
+            _ if at.len() == 1 => Some(format!("There {part} {is}.")),
+            _ if holds => Some(format!("In each of them {part} holds.")),
+            _ => Some(format!("In none of them {part} holds.")),
+        }
+    }
+
+    /// That no run goes on for ever by a binder of the kind that this would speak against.
+    fn never_for_ever(&self, end: &Claim) -> Option<String> {
+        let nodes = self.words.open_nodes(end.node);
+        let of_kind = |kind: Kind| nodes.iter().copied().find(|&node| self.words.kind(node) == kind);
+        let (against, harmless) = if end.holds { (Kind::Mu, Kind::Nu) } else { (Kind::Nu, Kind::Mu) };
+        let binder = of_kind(against)?;
+        Some(match of_kind(harmless) {
+            None => "No run that it follows goes on for ever.".to_string(),
+            Some(_) => format!("No run that it follows goes round in {} alone for ever.", self.words.part(binder)),
+        })
+    }
+}

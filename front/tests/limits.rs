@@ -327,3 +327,19 @@ fn each_number_has_a_meaning_of_its_own() {
     assert_eq!(meanings.len(), 19);
     assert_eq!(refusal::meaning(18), refusal::meaning(u64::MAX));
 }
+
+#[test]
+fn a_formula_too_large_as_people_see_it() {
+    // An and, a box and true, and 61 boxes are 64 nodes, and the last true is the 65th.
+    let boxes = "[a0]".repeat(61);
+    let formula = format!("[a0] true &&\n{boxes}true");
+    assert_eq!(
+        refused(&case(&loops(1), &formula), ROUNDS).to_string(),
+        format!(
+            "f.mcf:2:245: 65 formula nodes: the checker takes 1 to 64 (refusal 3)\n  |\n2 | …{}true\n  | {}^^^^\n  = help: node \
+             65 begins at the mark; check the parts of the formula one by one",
+            &boxes[164..],
+            " ".repeat(81)
+        )
+    );
+}

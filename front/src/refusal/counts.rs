@@ -24,7 +24,7 @@ const MERGE: &str = "leave out what the formula does not speak of, or merge stat
 
 fn states(case: &Case, count: usize) -> Option<Fault> {
     let help = match count {
-        0 => "a model has at least its initial state",
+        0 => "a model has at least its initial state: write how many states there are",
         _ if count > limits::STATES => MERGE,
         _ => return None,
     };
@@ -94,10 +94,16 @@ fn formula_nodes(case: &Case, count: usize) -> Option<Fault> {
     }
     let message = format!("{}: the checker takes 1 to {most}", amount::of(count, "formula node"));
     let (source, whole) = case.formula();
-    let place = case.table().and_then(|table| table.nodes.get(most)).map_or(whole, |node| node.span);
-    Some(Fault::new(source, place, message).with_help(
-        "check the parts of the formula one by one; `+` between steps, and `+` behind one, write what follows twice",
-    ))
+    let (place, help) = match case.table().and_then(|table| table.nodes.get(most)) {
+        Some(node) => {
+            (node.span, format!("node {} begins at the mark; check the parts of the formula one by one", most + 1))
+        }
+        None => (
+            whole,
+            "a `+` between runs of several steps writes what follows it twice: check its sides one by one".into(),
+        ),
+    };
+    Some(Fault::new(source, place, message).with_help(help))
 }
 
 fn at_most(most: usize) -> String {

@@ -30,20 +30,20 @@ const SIGNS: [&str; 24] = [
 /// Begins a comment, which the end of the line ends.
 const COMMENT: char = '%';
 
-/// The words in order with their places, the last of them `End`. Blanks and comments (`%` to the end of the line) are
-/// left out.
+/// The words in order with their places, the last of them `End`, which stands right behind the word before it. Blanks and
+/// comments (`%` to the end of the line) are left out.
 pub fn words(source: &Arc<Source>) -> Result<Vec<(Word, Span)>, Fault> {
     let mut words = Vec::new();
-    let mut at = 0;
+    let mut end = 0;
     loop {
-        at = behind_blanks(&source.text, at);
-        let (word, length) = word(source, at)?;
-        let is_last = word == Word::End;
-        words.push((word, Span::new(at, at + length)));
-        if is_last {
+        let start = behind_blanks(&source.text, end);
+        let (word, length) = word(source, start)?;
+        if word == Word::End {
+            words.push((word, Span::new(end, end)));
             return Ok(words);
         }
-        at += length;
+        end = start + length;
+        words.push((word, Span::new(start, end)));
     }
 }
 

@@ -5,8 +5,9 @@
 //! in an action formula `=>`, `||`, `&&`, `!`, and `|` between the names of a label. A star stands behind a whole action
 //! formula: `!a*` is `(!a)*`. A `+` stands behind a formula if what follows it begins none.
 
-mod chain;
+mod connective;
 mod cursor;
+mod operators;
 mod refused;
 mod state;
 mod steps;
@@ -16,9 +17,9 @@ use crate::source::{Fault, Source};
 use cursor::Cursor;
 use std::sync::Arc;
 
-/// So many parts of a formula stand one inside the other at most, and so many brackets and binders. A formula that the
-/// checker takes needs fewer: one path through all its nodes is shorter.
-pub const NESTED: usize = 200;
+/// So many parts of a formula stand one inside the other at most. A formula that the checker takes needs fewer: a path
+/// through all nodes that it may have is shorter.
+pub const NESTED: usize = 500;
 
 /// So many parts (operators, names and constants) a formula has at most. A formula that the checker takes has fewer,
 /// even if each of its modalities has an action formula of all the nodes that there may be.

@@ -2,7 +2,7 @@
 //! and labels that they came from.
 
 use crate::label::Label;
-use crate::lexer::{self, Word};
+use crate::lexer;
 use crate::print;
 use crate::source::{Source, Span};
 use std::sync::Arc;
@@ -182,8 +182,8 @@ pub(crate) fn own_words(source: &Source, part: Span) -> Option<String> {
     let source = Source::new("", source.slice(lexer::unbracketed(source, part)));
     let mut single = String::new();
     let mut end = 0;
-    for (word, span) in lexer::words(&source).ok()? {
-        if end < span.start && word != Word::End {
+    for (_, span) in lexer::words(&source).ok()? {
+        if end < span.start && !single.is_empty() {
             single.push(' ');
         }
         single.push_str(source.slice(span));

@@ -81,9 +81,9 @@ impl<'a> Check<'a> {
     fn opposite(&self, binder: &Binder, span: Span) -> Fault {
         let name = shown(&binder.name.text);
         let word = binder.word;
-        let message = format!("`{name}` stands under a negation that its {word} does not stand under");
+        let message = format!("`{name}` stands under a negation inside its {word} {name}");
         let help = format!(
-            "between {word} {name} and this {name} each \"!\" and each left side of \"=>\" is a negation, and their \
+            "each \"!\" and each left side of \"=>\" between {word} {name} and this {name} is a negation, and their \
              number has to be even: a set that is defined by its own opposite need not exist"
         );
         self.fault(span, message).with_help(help)

@@ -101,7 +101,7 @@ impl<'a> Writer<'a> {
                 left.extend(rest.into_iter().rev().map(|goal| Work { goal, stars: stars + 1 }));
             }
             Goal::Variable { binder, origin } => {
-                self.node(Kind::Variable(binder), origin);
+                self.last(Kind::Variable(binder), origin);
             }
         }
     }
@@ -114,46 +114,29 @@ impl<'a> Writer<'a> {
         origin: Origin,
     ) -> Vec<Goal<'a>> {
         let operand = |formula, negated| Goal::State { formula, negated, scope, negation: None };
-        let joined = |kind: Kind| if negated { dual(kind) } else { kind };
+        let kind = connective(formula, negated);
         match &formula.kind {
-            State::False | State::True => {
-                self.node(constant(matches!(formula.kind, State::True) != negated), origin);
-                Vec::new()
-            }
-            State::Variable(name) => {
-                self.variable(name, scope, origin);
-                Vec::new()
-            }
+            State::False | State::True => self.last(kind, origin),
+            State::Variable(name) => self.variable(name, scope, origin),
             State::Not(inner) => {
                 let negation = origin.literal.then_some(origin.span);
                 vec![Goal::State { formula: inner, negated: !negated, scope, negation }]
             }
-            State::And(one, other) => {
-                self.node(joined(Kind::And), origin);
-                vec![operand(one, negated), operand(other, negated)]
-            }
-            State::Or(one, other) => {
-                self.node(joined(Kind::Or), origin);
+            State::And(one, other) | State::Or(one, other) => {
+                self.node(kind, origin);
                 vec![operand(one, negated), operand(other, negated)]
             }
             State::Implies(one, other) => {
-                self.node(joined(Kind::Or), origin);
+                self.node(kind, origin);
                 vec![operand(one, !negated), operand(other, negated)]
             }
-            State::Must(steps, behind) => {
+            State::Must(steps, behind) | State::May(steps, behind) => {
+                let must = matches!(formula.kind, State::Must(..)) != negated;
                 let then = self.later(operand(behind, negated));
-                vec![Goal::Modality { must: !negated, steps, then, origin }]
+                vec![Goal::Modality { must, steps, then, origin }]
             }
-            State::May(steps, behind) => {
-                let then = self.later(operand(behind, negated));
-                vec![Goal::Modality { must: negated, steps, then, origin }]
-            }
-            State::Mu(name, body) => {
-                let scope = self.binder(joined(Kind::Mu), name, scope, origin);
-                vec![Goal::State { formula: body, negated, scope, negation: None }]
-            }
-            State::Nu(name, body) => {
-                let scope = self.binder(joined(Kind::Nu), name, scope, origin);
+            State::Mu(name, body) | State::Nu(name, body) => {
+                let scope = self.binder(kind, name, scope, origin);
                 vec![Goal::State { formula: body, negated, scope, negation: None }]
             }
         }
@@ -217,11 +200,18 @@ impl<'a> Writer<'a> {
         Some(self.scopes.len() - 1)
     }
 
-    fn variable(&mut self, name: &str, scope: Option<usize>, origin: Origin) {
+    fn variable(&mut self, name: &str, scope: Option<usize>, origin: Origin) -> Vec<Goal<'a>> {
         let bound = self.scopes_from(scope).find(|scope| scope.name == name);
         let binder = bound.map_or(0, |scope| scope.binder);
         let node = self.node(Kind::Variable(binder), origin);
         self.renamed[node] = self.renamed[binder];
+        Vec::new()
+    }
+
+    /// Writes a node behind which nothing of its goal is left.
+    fn last(&mut self, kind: Kind, origin: Origin) -> Vec<Goal<'a>> {
+        self.node(kind, origin);
+        Vec::new()
     }
 
     /// The scopes around a place, the innermost first.
@@ -257,21 +247,21 @@ impl<'a> Writer<'a> {
     }
 }
 
-fn constant(holds: bool) -> Kind {
-    if holds {
-        Kind::True
+/// The kind of a formula's first node, or of its negation's. A modality, a negation and a variable have none of these.
+fn connective(formula: &StateFormula, negated: bool) -> Kind {
+    let (kind, dual) = match formula.kind {
+        State::True => (Kind::True, Kind::False),
+        State::And(..) => (Kind::And, Kind::Or),
+        State::Or(..) | State::Implies(..) => (Kind::Or, Kind::And),
+        State::Mu(..) => (Kind::Mu, Kind::Nu),
+        State::Nu(..) => (Kind::Nu, Kind::Mu),
+        State::False | State::Variable(_) | State::Not(_) | State::Must(..) | State::May(..) => {
+            (Kind::False, Kind::True)
+        }
+    };
+    if negated {
+        dual
     } else {
-        Kind::False
-    }
-}
-
-/// The other one of two connectives, or of two binders.
-fn dual(kind: Kind) -> Kind {
-    match kind {
-        Kind::And => Kind::Or,
-        Kind::Or => Kind::And,
-        Kind::Mu => Kind::Nu,
-        Kind::Nu => Kind::Mu,
-        other => other,
+        kind
     }
 }

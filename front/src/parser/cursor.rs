@@ -19,14 +19,12 @@ pub(super) struct Cursor<'a> {
     pub(super) silent: &'a str,
     words: Vec<(Word, Span)>,
     next: usize,
-    /// The brackets and binders that are open.
-    open: usize,
     parts: usize,
 }
 
 impl<'a> Cursor<'a> {
     pub(super) fn new(source: &'a Arc<Source>, silent: &'a str) -> Result<Cursor<'a>, Fault> {
-        Ok(Cursor { source, silent, words: lexer::words(source)?, next: 0, open: 0, parts: 0 })
+        Ok(Cursor { source, silent, words: lexer::words(source)?, next: 0, parts: 0 })
     }
 
     pub(super) fn word(&self) -> &Word {
@@ -76,18 +74,6 @@ impl<'a> Cursor<'a> {
         }
     }
 
-    /// What was read between two brackets or behind a binder is inside one more of them.
-    pub(super) fn inside<T>(&mut self, read: fn(&mut Cursor<'a>) -> Result<T, Fault>) -> Result<T, Fault> {
-        if self.open >= NESTED {
-            let what = "brackets, mu and nu stand one inside the other";
-            return Err(self.too_much(self.span(), NESTED, what));
-        }
-        self.open += 1;
-        let part = read(self);
-        self.open -= 1;
-        part
-    }
-
     /// A part around others, of which the highest is so high. The place is for the fault.
     pub(super) fn around<T>(&mut self, part: T, height: usize, span: Span) -> Result<Read<T>, Fault> {
         self.parts += 1;
@@ -120,10 +106,15 @@ impl<'a> Cursor<'a> {
         refused::word(self).unwrap_or_else(|| Fault::new(self.source, self.span(), message).with_help(help))
     }
 
-    fn unclosed(&self, opening: Span, sign: &str) -> Fault {
+    /// An opening bracket's closing one is not the next word.
+    pub(super) fn unclosed(&self, opening: Span, sign: &str) -> Fault {
         let place = self.source.place(opening.start);
         let bracket = self.source.slice(opening);
-        let help = format!("the \"{bracket}\" in line {}, column {} needs its \"{sign}\"", place.line, place.column);
+        let mut help =
+            format!("the \"{bracket}\" in line {}, column {} needs its \"{sign}\"", place.line, place.column);
+        if matches!(self.word(), Word::Name(_) | Word::Other(_)) && bracket != "(" {
+            help.push_str("; a label with blanks or other signs in it stands in quotes");
+        }
         self.expected(&format!("\"{sign}\""), self.last(), &help)
     }
 

@@ -11,21 +11,12 @@ const SIGNS: [(&str, &str); 8] =
     [("&", "&&"), ("=", "=>"), ("==", "=>"), ("->", "=>"), ("-->", "=>"), ("==>", "=>"), ("/\\", "&&"), ("\\/", "||")];
 
 /// Characters, and what is written for them here.
-const CHARACTERS: [(char, &str); 13] = [
-    ('¬', "!"),
-    ('∧', "&&"),
-    ('∨', "||"),
-    ('⇒', "=>"),
-    ('→', "=>"),
-    ('·', "."),
-    ('⋅', "."),
-    ('⟨', "<"),
-    ('⟩', ">"),
-    ('“', "\""),
-    ('”', "\""),
-    ('„', "\""),
-    ('\'', "\""),
-];
+const CHARACTERS: [(char, &str); 9] =
+    [('¬', "!"), ('∧', "&&"), ('∨', "||"), ('⇒', "=>"), ('→', "=>"), ('·', "."), ('⋅', "."), ('⟨', "<"), ('⟩', ">")];
+
+const NO_SIGN: &str = "is no sign of formulas";
+
+const TWO_FORMULAS: &str = "write \"&&\", \"||\" or \"=>\" between two formulas";
 
 /// Names, and what is written for them here.
 const NAMES: [(&str, &str); 8] = [
@@ -46,15 +37,16 @@ const SPECIFICATION: [&str; 9] = ["form", "act", "map", "eqn", "sort", "cons", "
 pub(super) fn word(cursor: &Cursor) -> Option<Fault> {
     match cursor.word() {
         Word::Name(name) => name_refused(cursor, name),
-        Word::Number(number) => Some(fault(
-            cursor,
-            &format!("{} is a number: data are not supported", shown(number)),
-            &format!("a label with numbers in it stands in quotes, as in <\"{}\">true", shown(number)),
-        )),
+        Word::Number(number) => Some(number_refused(cursor, &shown(number))),
         Word::Sign(sign) => sign_refused(cursor, sign),
-        Word::Other(character) => Some(character_refused(cursor, *character)),
+        Word::Other(character) => character_refused(cursor, *character),
         Word::Quoted(_) | Word::End => None,
     }
+}
+
+fn number_refused(cursor: &Cursor, number: &str) -> Fault {
+    let help = format!("a label that begins with a digit stands in quotes, as in <\"{number}\">true");
+    fault(cursor, &format!("\"{number}\" is a number: data are not supported"), &help)
 }
 
 fn name_refused(cursor: &Cursor, name: &str) -> Option<Fault> {
@@ -76,21 +68,20 @@ fn sign_refused(cursor: &Cursor, sign: &str) -> Option<Fault> {
         None if sign == "<=>" => "write (a => b) && (b => a)".to_string(),
         None => return None,
     };
-    Some(fault(cursor, &format!("\"{sign}\" is no sign of formulas"), &help))
+    Some(fault(cursor, &format!("\"{sign}\" {NO_SIGN}"), &help))
 }
 
-fn character_refused(cursor: &Cursor, character: char) -> Fault {
-    if character == '@' {
-        return fault(cursor, "\"@\" gives a time: time is not supported", "leave \"@\" and the time out");
-    }
-    let found = shown(&character.to_string());
-    let message = format!("\"{found}\" is no sign of formulas");
-    let help = match CHARACTERS.iter().find(|(other, _)| *other == character) {
-        Some((_, "\"")) => "a label stands in double quotes: \"a b\"".to_string(),
-        Some((_, meant)) => format!("did you mean \"{meant}\"?"),
-        None => "a label with such a character stands in quotes: <\"a,b\">true".to_string(),
+fn character_refused(cursor: &Cursor, character: char) -> Option<Fault> {
+    let (what, help) = match character {
+        '@' => ("gives a time: time is not supported", "leave \"@\" and the time out".to_string()),
+        '∀' | '∃' => ("is a quantifier: quantifiers are not supported", "write each case out".to_string()),
+        '“' | '”' | '„' | '\'' => (NO_SIGN, "a label stands in double quotes: \"a b\"".to_string()),
+        _ => {
+            let (_, meant) = CHARACTERS.iter().find(|(other, _)| *other == character)?;
+            (NO_SIGN, format!("did you mean \"{meant}\"?"))
+        }
     };
-    fault(cursor, &message, &help)
+    Some(fault(cursor, &format!("\"{character}\" {what}"), &help))
 }
 
 /// A word of the language where a label stands.
@@ -112,10 +103,10 @@ pub(super) fn word_for_variable(cursor: &Cursor) -> Fault {
 
 /// A label where a formula is expected.
 pub(super) fn label_for_formula(cursor: &Cursor) -> Fault {
-    let label = cursor.text(cursor.span());
-    let message = format!("expected a formula, found the label {label}");
-    let help = format!("for \"a step {label} is possible\" write <{label}>true");
-    fault(cursor, &message, &help)
+    let quoted = cursor.text(cursor.span());
+    let label = quoted.trim_matches('"');
+    let message = format!("expected a formula, found the label {quoted}");
+    fault(cursor, &message, &format!("for \"a step {label} is possible\" write <{quoted}>true"))
 }
 
 /// Something behind a whole formula.
@@ -127,15 +118,21 @@ pub(super) fn behind_formula(cursor: &Cursor) -> Fault {
             .with_help(format!("did you mean \"{meant}\"?"));
     }
     let help = match cursor.word() {
-        Word::Sign(")") => "no \"(\" is open here: leave it out, or write a \"(\" further left".to_string(),
+        Word::Sign(")") => not_open("("),
+        Word::Sign("]") => not_open("["),
+        Word::Sign(">") => not_open("<"),
         Word::Sign("|") => "did you mean \"||\"?".to_string(),
         Word::Name(name) => match NAMES.iter().find(|(other, _)| other == name) {
             Some((_, meant)) => format!("did you mean \"{meant}\"?"),
-            None => "write \"&&\", \"||\" or \"=>\" between two formulas".to_string(),
+            None => TWO_FORMULAS.to_string(),
         },
-        _ => "write \"&&\", \"||\" or \"=>\" between two formulas".to_string(),
+        _ => TWO_FORMULAS.to_string(),
     };
     cursor.expected("\"&&\", \"||\", \"=>\" or the end of the text", cursor.last(), &help)
+}
+
+fn not_open(bracket: &str) -> String {
+    format!("no \"{bracket}\" is open here: leave this one out, or write a \"{bracket}\" further left")
 }
 
 /// The words of a specification, where a formula is expected to begin.

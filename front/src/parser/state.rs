@@ -1,140 +1,169 @@
 //! State formulas.
 
-use super::chain::{self, Joint, Sign};
+use super::connective::{self, Connective};
 use super::cursor::{Cursor, Read};
+use super::operators::{self, Grammar, Written};
 use super::{refused, steps};
 use crate::formula::{Name, RegularFormula, State, StateFormula};
 use crate::label;
 use crate::lexer::Word;
 use crate::source::{Fault, Span};
+use std::convert::Infallible;
+
+/// The levels, from loose to tight.
+const BINDER: u8 = 1;
+const IMPLIES: u8 = 2;
+const OR: u8 = 3;
+const AND: u8 = 4;
+const PREFIX: u8 = 5;
 
 const BEGINNINGS: &str = "a formula begins with true, false, a variable, mu, nu, \"!\", \"[\", \"<\" or \"(\"";
 
 /// Reads a formula, as far to the right as it goes.
 pub(super) fn formula(cursor: &mut Cursor) -> Result<Read<StateFormula>, Fault> {
-    chain::read(cursor, operand, join)
+    operators::read::<States>(cursor)
 }
 
-fn join(
-    cursor: &mut Cursor,
-    sign: Sign,
-    left: Read<StateFormula>,
-    right: Read<StateFormula>,
-) -> Result<Read<StateFormula>, Fault> {
-    let span = left.part.span.to(right.part.span);
-    let height = left.height.max(right.height);
-    let (left, right) = (Box::new(left.part), Box::new(right.part));
-    let kind = match sign.joint {
-        Joint::And => State::And(left, right),
-        Joint::Or => State::Or(left, right),
-        Joint::Implies => State::Implies(left, right),
-    };
-    cursor.around(StateFormula { kind, span }, height, sign.span)
-}
+struct States;
 
 /// What stands before an operand.
 enum Prefix {
     Not,
     Must(RegularFormula),
     May(RegularFormula),
+    Mu(Name),
+    Nu(Name),
 }
 
-/// Reads an operand with the modalities and negations before it.
-fn operand(cursor: &mut Cursor) -> Result<Read<StateFormula>, Fault> {
-    let mut prefixes = Vec::new();
-    let mut after = cursor.last();
-    while let Some((prefix, span, height)) = prefix(cursor)? {
-        after = Some(span);
-        prefixes.push((prefix, span, height));
+impl Grammar for States {
+    type Part = StateFormula;
+    type Before = Prefix;
+    type Between = Connective;
+    type Behind = Infallible;
+
+    const BEHIND: u8 = PREFIX;
+
+    fn level_before(operator: &Prefix) -> u8 {
+        match operator {
+            Prefix::Not | Prefix::Must(_) | Prefix::May(_) => PREFIX,
+            Prefix::Mu(_) | Prefix::Nu(_) => BINDER,
+        }
     }
-    let mut read = innermost(cursor, after)?;
-    while let Some((prefix, span, height)) = prefixes.pop() {
-        let height = height.max(read.height);
-        read = cursor.around(before(prefix, span, read.part), height, span)?;
+
+    fn level_between(operator: Connective) -> u8 {
+        match operator {
+            Connective::Implies => IMPLIES,
+            Connective::Or => OR,
+            Connective::And => AND,
+        }
     }
-    Ok(read)
+
+    fn before(cursor: &mut Cursor) -> Result<Option<Read<Written<Prefix>>>, Fault> {
+        match cursor.word() {
+            Word::Sign("!") => {
+                let not = Written { operator: Prefix::Not, span: cursor.advance() };
+                Ok(Some(Read { part: not, height: 0 }))
+            }
+            Word::Sign("[") => modality(cursor, "]", Prefix::Must).map(Some),
+            Word::Sign("<") => modality(cursor, ">", Prefix::May).map(Some),
+            Word::Name(name) if name == "mu" => binder(cursor, Prefix::Mu).map(Some),
+            Word::Name(name) if name == "nu" => binder(cursor, Prefix::Nu).map(Some),
+            _ => Ok(None),
+        }
+    }
+
+    fn between(cursor: &mut Cursor) -> Option<Written<Connective>> {
+        connective::read(cursor)
+    }
+
+    fn behind(_: &mut Cursor) -> Option<Written<Infallible>> {
+        None
+    }
+
+    fn single(cursor: &mut Cursor, after: Option<Span>) -> Result<Read<StateFormula>, Fault> {
+        match cursor.word().clone() {
+            Word::Name(name) => named(cursor, name),
+            Word::Quoted(_) => Err(refused::label_for_formula(cursor)),
+            _ => Err(cursor.expected("a formula", after, BEGINNINGS)),
+        }
+    }
+
+    fn put_before(
+        cursor: &mut Cursor,
+        before: Read<Written<Prefix>>,
+        operand: Read<StateFormula>,
+    ) -> Result<Read<StateFormula>, Fault> {
+        let Written { operator, span: sign } = before.part;
+        let span = sign.to(operand.part.span);
+        let height = before.height.max(operand.height);
+        let operand = Box::new(operand.part);
+        let kind = match operator {
+            Prefix::Not => State::Not(operand),
+            Prefix::Must(steps) => State::Must(steps, operand),
+            Prefix::May(steps) => State::May(steps, operand),
+            Prefix::Mu(name) => State::Mu(name, operand),
+            Prefix::Nu(name) => State::Nu(name, operand),
+        };
+        cursor.around(StateFormula { kind, span }, height, sign)
+    }
+
+    fn put_between(
+        cursor: &mut Cursor,
+        left: Read<StateFormula>,
+        sign: Written<Connective>,
+        right: Read<StateFormula>,
+    ) -> Result<Read<StateFormula>, Fault> {
+        let span = left.part.span.to(right.part.span);
+        let height = left.height.max(right.height);
+        let (left, right) = (Box::new(left.part), Box::new(right.part));
+        let kind = match sign.operator {
+            Connective::And => State::And(left, right),
+            Connective::Or => State::Or(left, right),
+            Connective::Implies => State::Implies(left, right),
+        };
+        cursor.around(StateFormula { kind, span }, height, sign.span)
+    }
+
+    fn put_behind(
+        _: &mut Cursor,
+        _: Read<StateFormula>,
+        sign: Written<Infallible>,
+    ) -> Result<Read<StateFormula>, Fault> {
+        match sign.operator {}
+    }
+
+    fn put_in_brackets(formula: &mut StateFormula, brackets: Span) {
+        formula.span = brackets;
+    }
 }
 
-fn before(prefix: Prefix, span: Span, operand: StateFormula) -> StateFormula {
-    let span = span.to(operand.span);
-    let operand = Box::new(operand);
-    let kind = match prefix {
-        Prefix::Not => State::Not(operand),
-        Prefix::Must(steps) => State::Must(steps, operand),
-        Prefix::May(steps) => State::May(steps, operand),
-    };
-    StateFormula { kind, span }
-}
-
-/// Reads one of the things that may stand before an operand, with its place and its height.
-fn prefix(cursor: &mut Cursor) -> Result<Option<(Prefix, Span, usize)>, Fault> {
-    if let Some(span) = cursor.take("!") {
-        return Ok(Some((Prefix::Not, span, 0)));
-    }
-    if let Some(opening) = cursor.take("[") {
-        let steps = steps::in_brackets(cursor, opening, "]")?;
-        return Ok(Some((Prefix::Must(steps.part.0), steps.part.1, steps.height)));
-    }
-    if let Some(opening) = cursor.take("<") {
-        let steps = steps::in_brackets(cursor, opening, ">")?;
-        return Ok(Some((Prefix::May(steps.part.0), steps.part.1, steps.height)));
-    }
-    Ok(None)
-}
-
-/// Reads what no modality and no negation stands before.
-fn innermost(cursor: &mut Cursor, after: Option<Span>) -> Result<Read<StateFormula>, Fault> {
-    if let Some(opening) = cursor.take("(") {
-        return in_brackets(cursor, opening);
-    }
-    match cursor.word().clone() {
-        Word::Name(name) => named(cursor, name),
-        Word::Quoted(_) => Err(refused::label_for_formula(cursor)),
-        _ => Err(cursor.expected("a formula", after, BEGINNINGS)),
-    }
-}
-
-fn in_brackets(cursor: &mut Cursor, opening: Span) -> Result<Read<StateFormula>, Fault> {
-    let mut read = cursor.inside(formula)?;
-    let closing = cursor.close(opening, ")")?;
-    read.part.span = opening.to(closing);
-    Ok(read)
-}
-
-fn named(cursor: &mut Cursor, name: String) -> Result<Read<StateFormula>, Fault> {
-    if let Some(fault) = refused::word(cursor) {
-        return Err(fault);
-    }
-    let span = cursor.advance();
-    let kind = match name.as_str() {
-        "true" => State::True,
-        "false" => State::False,
-        "mu" => return bound(cursor, span, State::Mu),
-        "nu" => return bound(cursor, span, State::Nu),
-        _ if cursor.is_at("(") => return Err(refused::parameters(cursor, span)),
-        _ => State::Variable(name),
-    };
-    cursor.around(StateFormula { kind, span }, 0, span)
-}
-
-/// Reads what stands behind `mu` or `nu`.
-fn bound(
+fn modality(
     cursor: &mut Cursor,
-    word: Span,
-    kind: fn(Name, Box<StateFormula>) -> State,
-) -> Result<Read<StateFormula>, Fault> {
+    closing: &str,
+    kind: fn(RegularFormula) -> Prefix,
+) -> Result<Read<Written<Prefix>>, Fault> {
+    let opening = cursor.advance();
+    if cursor.is_at(closing) {
+        return Err(refused::empty_modality(cursor, opening));
+    }
+    let steps = steps::regular(cursor)?;
+    let span = opening.to(cursor.close(opening, closing)?);
+    Ok(Read { part: Written { operator: kind(steps.part), span }, height: steps.height })
+}
+
+/// Reads `mu X.` or `nu X.`.
+fn binder(cursor: &mut Cursor, kind: fn(Name) -> Prefix) -> Result<Read<Written<Prefix>>, Fault> {
+    let word = cursor.advance();
     let name = variable(cursor, word)?;
     let both = word.to(name.span);
     if cursor.is_at("(") {
         return Err(refused::parameters(cursor, both));
     }
-    if cursor.take(".").is_none() {
+    let Some(dot) = cursor.take(".") else {
         let help = format!("write {}. and behind it the formula", cursor.text(both));
         return Err(cursor.expected("\".\"", Some(both), &help));
-    }
-    let body = cursor.inside(formula)?;
-    let span = word.to(body.part.span);
-    cursor.around(StateFormula { kind: kind(name, Box::new(body.part)), span }, body.height, span)
+    };
+    Ok(Read { part: Written { operator: kind(name), span: word.to(dot) }, height: 0 })
 }
 
 /// Reads the variable that a binder binds.
@@ -144,4 +173,19 @@ fn variable(cursor: &mut Cursor, binder: Span) -> Result<Name, Fault> {
         Word::Name(text) => Ok(Name { text, span: cursor.advance() }),
         _ => Err(cursor.expected("a variable", Some(binder), "write a name behind it, as in mu X. [true] X")),
     }
+}
+
+/// Reads a constant or a variable.
+fn named(cursor: &mut Cursor, name: String) -> Result<Read<StateFormula>, Fault> {
+    if let Some(fault) = refused::word(cursor) {
+        return Err(fault);
+    }
+    let span = cursor.advance();
+    let kind = match name.as_str() {
+        "true" => State::True,
+        "false" => State::False,
+        _ if cursor.is_at("(") => return Err(refused::parameters(cursor, span)),
+        _ => State::Variable(name),
+    };
+    cursor.around(StateFormula { kind, span }, 0, span)
 }

@@ -1,84 +1,159 @@
 //! What stands in a modality: regular formulas over action formulas. Round brackets may hold either, so all is read as a
 //! regular formula, and several steps are refused where only the labels of one can stand.
 
-use super::chain::{self, Joint, Sign};
+use super::connective::{self, Connective};
 use super::cursor::{Cursor, Read};
+use super::operators::{self, Grammar, Written};
 use super::refused;
 use crate::formula::{Action, ActionFormula, Regular, RegularFormula};
 use crate::label::Label;
 use crate::lexer::Word;
 use crate::source::{Fault, Span};
 
+/// The levels, from loose to tight.
+const CHOICE: u8 = 1;
+const SEQUENCE: u8 = 2;
+const REPETITION: u8 = 3;
+const IMPLIES: u8 = 4;
+const OR: u8 = 5;
+const AND: u8 = 6;
+const NOT: u8 = 7;
+
 const BEGINNINGS: &str =
     "a step is a label, true (any label), false, or joined from these by \"!\", \"&&\", \"||\", \"=>\"";
 
-/// Reads a modality whose opening bracket was read: what stands in it, and the place of the whole.
-pub(super) fn in_brackets(
-    cursor: &mut Cursor,
-    opening: Span,
-    sign: &str,
-) -> Result<Read<(RegularFormula, Span)>, Fault> {
-    if cursor.is_at(sign) {
-        return Err(refused::empty_modality(cursor, opening));
-    }
-    let steps = cursor.inside(regular)?;
-    let closing = cursor.close(opening, sign)?;
-    Ok(Read { part: (steps.part, opening.to(closing)), height: steps.height })
+/// Reads what stands in a modality.
+pub(super) fn regular(cursor: &mut Cursor) -> Result<Read<RegularFormula>, Fault> {
+    operators::read::<Steps>(cursor)
 }
 
-fn regular(cursor: &mut Cursor) -> Result<Read<RegularFormula>, Fault> {
-    to_the_right(cursor, "+", sequence, Regular::Choice)
+struct Steps;
+
+#[derive(Clone, Copy)]
+struct Not;
+
+#[derive(Clone, Copy)]
+enum Between {
+    Choice,
+    Sequence,
+    Labels(Connective),
 }
 
-fn sequence(cursor: &mut Cursor) -> Result<Read<RegularFormula>, Fault> {
-    to_the_right(cursor, ".", repeated, Regular::Sequence)
+#[derive(Clone, Copy)]
+enum Repetition {
+    Star,
+    Plus,
 }
 
-/// Reads operands with a sign between them, and groups them to the right.
-fn to_the_right<'a>(
-    cursor: &mut Cursor<'a>,
-    sign: &str,
-    operand: chain::Operand<'a, RegularFormula>,
-    kind: fn(Box<RegularFormula>, Box<RegularFormula>) -> Regular,
-) -> Result<Read<RegularFormula>, Fault> {
-    let mut before = Vec::new();
-    let mut last = operand(cursor)?;
-    while let Some(span) = cursor.take(sign) {
-        before.push((last, span));
-        last = operand(cursor)?;
-    }
-    while let Some((left, sign)) = before.pop() {
-        let span = left.part.span.to(last.part.span);
-        let height = left.height.max(last.height);
-        let kind = kind(Box::new(left.part), Box::new(last.part));
-        last = cursor.around(RegularFormula { kind, span }, height, sign)?;
-    }
-    Ok(last)
-}
+impl Grammar for Steps {
+    type Part = RegularFormula;
+    type Before = Not;
+    type Between = Between;
+    type Behind = Repetition;
 
-/// Reads an action formula, or steps in brackets, with the stars and pluses behind it.
-fn repeated(cursor: &mut Cursor) -> Result<Read<RegularFormula>, Fault> {
-    let mut read = chain::read(cursor, operand, join)?;
-    while let Some((kind, sign)) = repetition(cursor) {
-        let span = read.part.span.to(sign);
-        read = cursor.around(RegularFormula { kind: kind(Box::new(read.part)), span }, read.height, sign)?;
-    }
-    if matches!(cursor.word(), Word::Sign("&&" | "||" | "=>")) {
-        return Err(refused::several_steps(cursor, &read.part, cursor.span()));
-    }
-    Ok(read)
-}
+    const BEHIND: u8 = REPETITION;
 
-type Repetition = fn(Box<RegularFormula>) -> Regular;
+    fn level_before(_: &Not) -> u8 {
+        NOT
+    }
 
-fn repetition(cursor: &mut Cursor) -> Option<(Repetition, Span)> {
-    if let Some(span) = cursor.take("*") {
-        return Some((Regular::Star, span));
+    fn level_between(operator: Between) -> u8 {
+        match operator {
+            Between::Choice => CHOICE,
+            Between::Sequence => SEQUENCE,
+            Between::Labels(Connective::Implies) => IMPLIES,
+            Between::Labels(Connective::Or) => OR,
+            Between::Labels(Connective::And) => AND,
+        }
     }
-    if cursor.is_at("+") && !begins_steps(cursor.word_after(1)) {
-        return Some((Regular::Plus, cursor.advance()));
+
+    fn before(cursor: &mut Cursor) -> Result<Option<Read<Written<Not>>>, Fault> {
+        let sign = cursor.take("!");
+        Ok(sign.map(|span| Read { part: Written { operator: Not, span }, height: 0 }))
     }
-    None
+
+    fn between(cursor: &mut Cursor) -> Option<Written<Between>> {
+        if let Some(span) = cursor.take("+") {
+            return Some(Written { operator: Between::Choice, span });
+        }
+        if let Some(span) = cursor.take(".") {
+            return Some(Written { operator: Between::Sequence, span });
+        }
+        let Written { operator, span } = connective::read(cursor)?;
+        Some(Written { operator: Between::Labels(operator), span })
+    }
+
+    fn behind(cursor: &mut Cursor) -> Option<Written<Repetition>> {
+        if let Some(span) = cursor.take("*") {
+            return Some(Written { operator: Repetition::Star, span });
+        }
+        if cursor.is_at("+") && !begins_steps(cursor.word_after(1)) {
+            return Some(Written { operator: Repetition::Plus, span: cursor.advance() });
+        }
+        None
+    }
+
+    fn single(cursor: &mut Cursor, after: Option<Span>) -> Result<Read<RegularFormula>, Fault> {
+        let kind = match cursor.word() {
+            Word::Name(name) if name == "true" => Action::True,
+            Word::Name(name) if name == "false" => Action::False,
+            _ => return label(cursor, after),
+        };
+        let span = cursor.advance();
+        cursor.around(step(kind, span), 0, span)
+    }
+
+    fn put_before(
+        cursor: &mut Cursor,
+        not: Read<Written<Not>>,
+        operand: Read<RegularFormula>,
+    ) -> Result<Read<RegularFormula>, Fault> {
+        let sign = not.part.span;
+        let span = sign.to(operand.part.span);
+        let action = labels(cursor, operand.part, sign)?;
+        cursor.around(step(Action::Not(Box::new(action)), span), operand.height, sign)
+    }
+
+    fn put_between(
+        cursor: &mut Cursor,
+        left: Read<RegularFormula>,
+        sign: Written<Between>,
+        right: Read<RegularFormula>,
+    ) -> Result<Read<RegularFormula>, Fault> {
+        let span = left.part.span.to(right.part.span);
+        let height = left.height.max(right.height);
+        let (left, right) = (left.part, right.part);
+        let part = match sign.operator {
+            Between::Choice => RegularFormula { kind: Regular::Choice(Box::new(left), Box::new(right)), span },
+            Between::Sequence => RegularFormula { kind: Regular::Sequence(Box::new(left), Box::new(right)), span },
+            Between::Labels(connective) => {
+                let (left, right) = (labels(cursor, left, sign.span)?, labels(cursor, right, sign.span)?);
+                step(connected(connective, left, right), span)
+            }
+        };
+        cursor.around(part, height, sign.span)
+    }
+
+    fn put_behind(
+        cursor: &mut Cursor,
+        operand: Read<RegularFormula>,
+        sign: Written<Repetition>,
+    ) -> Result<Read<RegularFormula>, Fault> {
+        let span = operand.part.span.to(sign.span);
+        let repeated = Box::new(operand.part);
+        let kind = match sign.operator {
+            Repetition::Star => Regular::Star(repeated),
+            Repetition::Plus => Regular::Plus(repeated),
+        };
+        cursor.around(RegularFormula { kind, span }, operand.height, sign.span)
+    }
+
+    fn put_in_brackets(steps: &mut RegularFormula, brackets: Span) {
+        steps.span = brackets;
+        if let Regular::Step(action) = &mut steps.kind {
+            action.span = brackets;
+        }
+    }
 }
 
 /// Can a word begin a regular formula? One that is refused wherever it stands counts too, so that it is found.
@@ -90,30 +165,20 @@ fn begins_steps(word: &Word) -> bool {
     }
 }
 
-/// Joins two action formulas.
-fn join(
-    cursor: &mut Cursor,
-    sign: Sign,
-    left: Read<RegularFormula>,
-    right: Read<RegularFormula>,
-) -> Result<Read<RegularFormula>, Fault> {
-    let span = left.part.span.to(right.part.span);
-    let height = left.height.max(right.height);
-    let left = Box::new(single(cursor, left.part, sign.span)?);
-    let right = Box::new(single(cursor, right.part, sign.span)?);
-    let kind = match sign.joint {
-        Joint::And => Action::And(left, right),
-        Joint::Or => Action::Or(left, right),
-        Joint::Implies => Action::Implies(left, right),
-    };
-    cursor.around(step(kind, span), height, sign.span)
-}
-
 /// The action formula of a single step, which a sign needs.
-fn single(cursor: &Cursor, steps: RegularFormula, sign: Span) -> Result<ActionFormula, Fault> {
+fn labels(cursor: &Cursor, steps: RegularFormula, sign: Span) -> Result<ActionFormula, Fault> {
     match steps.kind {
         Regular::Step(action) => Ok(action),
         _ => Err(refused::several_steps(cursor, &steps, sign)),
+    }
+}
+
+fn connected(connective: Connective, left: ActionFormula, right: ActionFormula) -> Action {
+    let (left, right) = (Box::new(left), Box::new(right));
+    match connective {
+        Connective::And => Action::And(left, right),
+        Connective::Or => Action::Or(left, right),
+        Connective::Implies => Action::Implies(left, right),
     }
 }
 
@@ -121,69 +186,34 @@ fn step(kind: Action, span: Span) -> RegularFormula {
     RegularFormula { kind: Regular::Step(ActionFormula { kind, span }), span }
 }
 
-/// Reads an operand with the negations before it.
-fn operand(cursor: &mut Cursor) -> Result<Read<RegularFormula>, Fault> {
-    let mut negations = Vec::new();
-    while let Some(span) = cursor.take("!") {
-        negations.push(span);
-    }
-    let mut read = innermost(cursor)?;
-    while let Some(sign) = negations.pop() {
-        let span = sign.to(read.part.span);
-        let operand = single(cursor, read.part, sign)?;
-        read = cursor.around(step(Action::Not(Box::new(operand)), span), read.height, sign)?;
-    }
-    Ok(read)
-}
-
-fn innermost(cursor: &mut Cursor) -> Result<Read<RegularFormula>, Fault> {
-    if let Some(opening) = cursor.take("(") {
-        let mut read = cursor.inside(regular)?;
-        set_span(&mut read.part, opening.to(cursor.close(opening, ")")?));
-        return Ok(read);
-    }
-    let kind = match cursor.word() {
-        Word::Name(name) if name == "true" => Action::True,
-        Word::Name(name) if name == "false" => Action::False,
-        _ => return label(cursor),
-    };
-    let span = cursor.advance();
-    cursor.around(step(kind, span), 0, span)
-}
-
-/// Brackets belong to what stands in them.
-fn set_span(steps: &mut RegularFormula, span: Span) {
-    steps.span = span;
-    if let Regular::Step(action) = &mut steps.kind {
-        action.span = span;
-    }
-}
-
 /// Reads a label, with `|` between its names.
-fn label(cursor: &mut Cursor) -> Result<Read<RegularFormula>, Fault> {
-    let mut text = name(cursor, "a label")?;
-    let start = cursor.last().unwrap_or(cursor.span());
-    while cursor.take("|").is_some() {
+fn label(cursor: &mut Cursor, after: Option<Span>) -> Result<Read<RegularFormula>, Fault> {
+    let start = cursor.span();
+    let mut text = name(cursor, "a label", after)?;
+    let mut span = start;
+    while let Some(sign) = cursor.take("|") {
+        span = start.to(cursor.span());
         text.push('|');
-        text.push_str(&name(cursor, "a name")?);
+        text.push_str(&name(cursor, "a name", Some(start.to(sign)))?);
     }
-    let span = start.to(cursor.last().unwrap_or(start));
     if cursor.is_at("(") {
         return Err(refused::arguments(cursor, span));
     }
-    let label = Label::read(&text, cursor.silent).map_err(|message| refused::no_label(cursor, span, message))?;
-    cursor.around(step(Action::Label(label), span), 0, span)
+    match Label::read(&text, cursor.silent) {
+        Ok(label) => cursor.around(step(Action::Label(label), span), 0, span),
+        Err(message) => Err(refused::no_label(cursor, span, message)),
+    }
 }
 
 /// Reads one name of a label, or several in quotes.
-fn name(cursor: &mut Cursor, what: &str) -> Result<String, Fault> {
+fn name(cursor: &mut Cursor, what: &str, after: Option<Span>) -> Result<String, Fault> {
     let text = match cursor.word() {
         Word::Quoted(text) => text.clone(),
         Word::Name(text) => match refused::word_for_label(cursor) {
             Some(fault) => return Err(fault),
             None => text.clone(),
         },
-        _ => return Err(cursor.expected(what, cursor.last(), BEGINNINGS)),
+        _ => return Err(cursor.expected(what, after, BEGINNINGS)),
     };
     cursor.advance();
     Ok(text)

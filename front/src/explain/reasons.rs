@@ -10,15 +10,17 @@ pub struct Reasons<'a> {
 }
 
 impl Reasons<'_> {
-    /// The reasons for what is neither a loop nor sides nor a constant.
+    /// The reasons for what is neither a loop nor sides nor a constant, the first of them as it stands behind the claim.
     pub fn of(&self, explanation: &Explanation) -> Vec<String> {
         let end = &explanation.end;
-        match &explanation.ending {
+        let mut reasons = match &explanation.ending {
             Ending::NoTransition => vec![self.no_transition(end)],
             Ending::Each(steps) => vec![self.each(end, steps)],
             Ending::Closed { states, parts } => self.all_that_comes(end, states, parts),
             _ => vec![self.no_single_run(end)],
-        }
+        };
+        reasons.iter_mut().take(1).for_each(|first| first.insert_str(0, ": "));
+        reasons
     }
 
     fn no_transition(&self, end: &Claim) -> String {
@@ -53,7 +55,10 @@ impl Reasons<'_> {
                 let (each, list) = self.transitions(end, &steps);
                 format!("{each}: {list}")
             }
-            (None, &[first, second]) => format!("both {} and {}", self.words.part(first), self.words.part(second)),
+            (None, &[first, second]) => {
+                let that = |node: usize| self.words.part_is(&Claim { node, ..*end });
+                format!("both: {}, and {}", that(first), that(second))
+            }
             _ => "more than one".to_string(),
         };
         format!("no single run shows this. It rests on {rests}.")
@@ -72,9 +77,9 @@ impl Reasons<'_> {
     pub fn beside(&self, explanation: &Explanation) -> Vec<String> {
         let turns = matches!(&explanation.ending, Ending::Loop { steps, .. } if !steps.is_empty());
         let place = if turns || !explanation.run.is_empty() { "On the way " } else { "" };
-        let is = self.words.is(explanation.claim.holds);
         let fact = |(node, states): (usize, Vec<usize>)| {
-            format!("{place}{} {is} in {}, too.", self.words.part(node), self.words.states(&states))
+            let (part, holds) = self.words.saying(node, explanation.claim.holds);
+            format!("{place}{part} {} in {}, too.", self.words.is(holds), self.words.states(&states))
         };
         by_part(&explanation.beside).into_iter().map(fact).collect()
     }
@@ -113,11 +118,13 @@ impl Reasons<'_> {
 
     /// What a part is in some of the states that come; nothing of `true` and `false`.
     fn fact(&self, node: usize, at: &[usize], states: &[usize], holds: bool) -> Option<String> {
-        let (part, is) = (self.words.part(node), self.words.is(holds));
+        let (part, holds) = self.words.saying(node, holds);
         match self.words.kind(node) {
             Kind::False | Kind::True => None,
-            _ if at.len() < states.len() => Some(format!("{part} {is} in {}.", self.words.states(at))),
-            _ if at.len() == 1 => Some(format!("There {part} {is}.")),
+            _ if at.len() < states.len() => {
+                Some(format!("{part} {} in {}.", self.words.is(holds), self.words.states(at)))
+            }
+            _ if at.len() == 1 => Some(format!("There {part} {}.", self.words.is(holds))),
             _ if holds => Some(format!("In each of them {part} holds.")),
             _ => Some(format!("In none of them {part} holds.")),
         }
@@ -131,7 +138,10 @@ impl Reasons<'_> {
         let binder = of_kind(against)?;
         Some(match of_kind(harmless) {
             None => "No run that it follows goes on for ever.".to_string(),
-            Some(_) => format!("No run that it follows goes round in {} alone for ever.", self.words.part(binder)),
+            Some(_) => {
+                let (part, _) = self.words.saying(binder, end.holds);
+                format!("No run that it follows goes round in {part} alone for ever.")
+            }
         })
     }
 }

@@ -6,7 +6,6 @@ use super::{Claim, Ending, Explanation, Step};
 use crate::check::Checked;
 use crate::model::Model;
 use crate::source::visible_letter;
-use crate::table::Kind;
 
 /// The lines of an explanation.
 pub fn all(model: &Model, checked: &Checked, explanation: &Explanation) -> Vec<String> {
@@ -64,9 +63,9 @@ impl Sentences<'_> {
         let end = self.words.spoken(&explanation.end);
         let first = reasons.first().map_or("", String::as_str);
         let why = match (explanation.run.is_empty(), end == explanation.claim) {
-            (true, true) => format!(": {first}"),
-            (true, false) => format!(", since {} there: {first}", self.words.part_is(&end)),
-            (false, _) => format!(" there {}: {first}", self.words.part_is(&end)),
+            (true, true) => first.to_string(),
+            (true, false) => format!(", since {} there{first}", self.words.part_is(&end)),
+            (false, _) => format!(" there {}{first}", self.words.part_is(&end)),
         };
         self.run_then(explanation, &why, indent);
         for reason in reasons.iter().skip(1) {
@@ -77,9 +76,11 @@ impl Sentences<'_> {
     /// Sides within sides are told side by side.
     fn sides(&mut self, explanation: &Explanation, indent: &str) {
         let sides = flattened(explanation);
-        let these = if sides.len() == 2 { "both of these" } else { "all of these" };
-        let verb = if explanation.claim.holds { "hold" } else { "fail" };
-        self.to_part(explanation, &[format!("{these} {verb}:")], indent);
+        let reasons = match sides.len() {
+            2 => ", for two reasons:".to_string(),
+            count => format!(", for {count} reasons:"),
+        };
+        self.to_part(explanation, &[reasons], indent);
         let deeper = format!("{indent}  ");
         for side in sides {
             self.explanation(side, &deeper);
@@ -92,8 +93,8 @@ impl Sentences<'_> {
         let why = match self.words.decided_by_step(explanation) {
             Some(modality) => {
                 let step = if explanation.run.len() == 1 { "this step" } else { "the last step" };
-                let does = if holds { "asks for" } else { "rules out" };
-                format!(" {step} is one that {} {does}.", self.words.or_it(modality, explanation))
+                let (part, holds) = self.words.saying_or_it(modality, explanation);
+                format!(" {step} is one that {part} {}.", if holds { "asks for" } else { "rules out" })
             }
             None if explanation.claim == explanation.end => ", as everywhere.".to_string(),
             None if explanation.run.is_empty() => self.asks_for_constant(holds, ", since it asks for"),
@@ -111,7 +112,8 @@ impl Sentences<'_> {
 
     fn in_a_loop(&mut self, explanation: &Explanation, steps: &[Step], binder: usize, indent: &str) {
         if steps.is_empty() {
-            return self.to_part(explanation, &[self.reasons.only_by_itself(binder)], indent);
+            let reason = format!(": {}", self.reasons.only_by_itself(binder));
+            return self.to_part(explanation, &[reason], indent);
         }
         let first = match (explanation.run.is_empty(), self.words.is_only_run(explanation)) {
             (true, true) => ": the only run goes on for ever:",
@@ -120,10 +122,10 @@ impl Sentences<'_> {
         };
         self.run_then(explanation, first, indent);
         self.steps(steps, indent);
-        let part = self.words.or_it(binder, explanation);
-        match self.words.kind(binder) {
-            Kind::Mu => self.say(indent, &format!("But {part} does not allow this to go on for ever.")),
-            _ => self.say(indent, &format!("And {part} allows this to go on for ever.")),
+        let (part, holds) = self.words.saying_or_it(binder, explanation);
+        match holds {
+            true => self.say(indent, &format!("And {part} allows this to go on for ever.")),
+            false => self.say(indent, &format!("But {part} does not allow this to go on for ever.")),
         }
     }
 }

@@ -1,7 +1,7 @@
 //! The words for states, steps and parts.
 
 use super::game::leaving;
-use super::naming;
+use super::naming::{self, Name};
 use super::{Claim, Ending, Explanation, Step};
 use crate::check::Checked;
 use crate::model::Model;
@@ -102,21 +102,21 @@ impl<'a> Words<'a> {
         }
     }
 
-    pub fn part(&self, node: usize) -> String {
-        format!("`{}`{}", naming::name(self.table, node), self.unwritten_variables(node))
+    /// What to say for a part that holds or fails: what it is called, and whether that holds or fails.
+    pub fn saying(&self, node: usize, holds: bool) -> (String, bool) {
+        let Name { text, negated } = naming::name(self.table, node);
+        (format!("`{text}`{}", self.unwritten_variables(node)), holds != negated)
     }
 
-    /// A part, or `it` where the explanation is of just that part.
-    pub fn or_it(&self, node: usize, explanation: &Explanation) -> String {
-        if node == explanation.claim.node {
-            "it".to_string()
-        } else {
-            self.part(node)
-        }
+    /// The same, of the part as `it` where the explanation is of just that part.
+    pub fn saying_or_it(&self, node: usize, explanation: &Explanation) -> (String, bool) {
+        let (part, holds) = self.saying(node, explanation.claim.holds);
+        (if node == explanation.claim.node { "it".to_string() } else { part }, holds)
     }
 
     pub fn part_is(&self, claim: &Claim) -> String {
-        format!("{} {}", self.part(claim.node), self.is(claim.holds))
+        let (part, holds) = self.saying(claim.node, claim.holds);
+        format!("{part} {}", self.is(holds))
     }
 
     pub fn claim(&self, claim: &Claim) -> String {
@@ -153,14 +153,17 @@ impl<'a> Words<'a> {
 
     /// Did somebody write the binder, or does it come of a star?
     fn is_written(&self, binder: usize) -> bool {
-        let name = naming::name(self.table, binder);
+        let name = naming::name(self.table, binder).text;
         name.starts_with("mu ") || name.starts_with("nu ")
     }
 
     /// For variables that come of a star: what they stand for.
     fn unwritten_variables(&self, node: usize) -> String {
         let stars = self.free_binders(node).into_iter().filter(|&binder| !self.is_written(binder));
-        let stands = |star: usize| format!("{} for `{}`", self.variable(star), naming::name(self.table, star));
+        let stands = |star: usize| match naming::name(self.table, star) {
+            Name { text, negated: false } => format!("{} for `{text}`", self.variable(star)),
+            Name { text, negated: true } => format!("{} for the opposite of `{text}`", self.variable(star)),
+        };
         let told: Vec<String> = stars.map(stands).collect();
         if told.is_empty() {
             String::new()

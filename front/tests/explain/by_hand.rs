@@ -112,7 +112,7 @@ fn both_sides() {
     let first = run(fails(1, 0), &[], fails(1, 0), Ending::NoTransition);
     let second = run(fails(3, 0), &[0], fails(4, 1), Ending::Constant);
     let lines = [
-        "`<close>true || [click]false` fails in open: both of these fail:",
+        "`<close>true || [click]false` fails in open, for two reasons:",
         "  `<close>true` fails in open: no transition from open is accepted by `close`; there are: click.",
         "  `[click]false` fails in open:",
         "    open -- click --> closing",

@@ -3,17 +3,25 @@
 use crate::load::Answer;
 use bithrowy_front::amount::{self, thousands};
 
-/// Lists of states are broken into lines of about this many characters.
+/// What is longer is broken into lines of about this many characters.
 const WIDTH: usize = 100;
+
+/// How much further in a sentence goes on.
+const CONTINUED: usize = 4;
 
 /// The verdict, the facts, and why it is so.
 pub fn text(answer: &Answer) -> String {
-    format!("{}\n\n{}\n{}", verdict(answer), rows(&facts(answer)), lines(&answer.explanation, ""))
+    format!("{}\n\n{}\n{}", verdict(answer), rows(&facts(answer)), explanation(answer, ""))
 }
 
-/// Lines with something before each of them.
-pub fn lines(lines: &[String], before: &str) -> String {
-    lines.iter().map(|line| format!("{before}{line}\n")).collect()
+/// The lines of an explanation with something before each of them; a line that is too long goes on below, further in.
+pub fn explanation(answer: &Answer, before: &str) -> String {
+    let lines = answer.explanation.iter().map(|line| {
+        let words = line.trim_start();
+        let start = format!("{before}{:indent$}", "", indent = line.len() - words.len());
+        broken(&start, start.len() + CONTINUED, words)
+    });
+    lines.collect()
 }
 
 fn verdict(answer: &Answer) -> String {
@@ -75,24 +83,25 @@ fn unreached(answer: &Answer) -> Option<String> {
 /// Names with their values, which are lined up; a value that is too long for one line goes on below itself.
 pub fn rows(facts: &[(&str, String)]) -> String {
     let width = facts.iter().map(|(name, _)| name.len()).max().unwrap_or(0);
-    facts.iter().map(|(name, value)| row(&format!("  {name:width$}  "), value)).collect()
+    let row = |(name, value): &(&str, String)| broken(&format!("  {name:width$}  "), width + 4, value);
+    facts.iter().map(row).collect()
 }
 
-fn row(name: &str, value: &str) -> String {
-    let margin = name.len();
-    let mut row = name.to_string();
-    let mut column = margin;
-    for (number, word) in value.split(' ').enumerate() {
+/// Words behind a start, broken into lines; all but the first begin behind a margin.
+fn broken(start: &str, margin: usize, words: &str) -> String {
+    let mut text = start.to_string();
+    let mut column = start.chars().count();
+    for (number, word) in words.split(' ').enumerate() {
         let length = word.chars().count();
         if number > 0 && column + 1 + length > WIDTH {
-            row += &format!("\n{:margin$}", "");
+            text += &format!("\n{:margin$}", "");
             column = margin;
         } else if number > 0 {
-            row.push(' ');
+            text.push(' ');
             column += 1;
         }
-        row += word;
+        text += word;
         column += length;
     }
-    row + "\n"
+    text + "\n"
 }

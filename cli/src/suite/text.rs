@@ -37,7 +37,7 @@ fn line(result: &Checked, names: usize, models: usize) -> String {
     format!("{standing:<6} {:names$}  {:models$}  {words}\n", result.name, result.model())
 }
 
-/// Why a verdict is not as expected, or what is wrong and what to do.
+/// Why a verdict is not as expected, or what is wrong and what to do, for programs that show it in their own way.
 pub fn reasons(result: &Checked) -> Vec<String> {
     match &result.outcome {
         Ok(_) if result.standing() == Standing::AsExpected => Vec::new(),
@@ -47,7 +47,11 @@ pub fn reasons(result: &Checked) -> Vec<String> {
 }
 
 fn why(result: &Checked) -> String {
-    answer::lines(&reasons(result), MARGIN)
+    match &result.outcome {
+        Ok(_) if result.standing() == Standing::AsExpected => String::new(),
+        Ok(answer) => answer::explanation(answer, MARGIN),
+        Err(trouble) => faults::text(trouble).lines().map(|line| format!("{MARGIN}{line}\n")).collect(),
+    }
 }
 
 fn summary(report: &Report) -> String {

@@ -11,7 +11,7 @@ mod words;
 use crate::amount::{of, thousands};
 use crate::check::Checked;
 use crate::draw::svg;
-use crate::draw::xml::Element;
+use crate::draw::xml::{escaped, Element};
 use crate::model::Model;
 
 const STYLE: &str = include_str!("page/page.css");
@@ -71,10 +71,10 @@ fn as_written(answer: &Checked) -> Option<Element> {
     let plain = |text: &str| text.split_whitespace().collect::<Vec<&str>>().join(" ");
     let differs = answer.table.nodes.is_empty() || plain(text) != plain(&answer.table.text(0));
     differs.then(|| {
-        let lines: Vec<Element> = text.lines().map(|line| Element::new("span").text(line)).collect();
+        let lines: Vec<String> = text.lines().map(escaped).collect();
         Element::new("details").lines([
             Element::new("summary").text("As it was written"),
-            Element::new("pre").with("class", "written").lines(lines),
+            Element::new("pre").with("class", "written").markup(&lines.join("\n")),
         ])
     })
 }

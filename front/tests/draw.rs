@@ -74,12 +74,12 @@ fn dot_escapes_by_hand() {
 fn dot_is_read_by_graphviz() {
     let test = "that graphviz reads the DOT texts";
     let Some(program) = installed(&["dot"], test) else { return };
-    let (well, drawn, complained) = run(Command::new(program).arg("-Tsvg"), &dot(&hostile(), None), 60);
-    assert!(well && complained.is_empty(), "{complained}");
+    let ended = run(Command::new(program).arg("-Tsvg"), &dot(&hostile(), None), 60).expect("graphviz ends");
+    assert!(ended.well && ended.complained.is_empty(), "{}", ended.complained);
     let script = "import sys, xml.etree.ElementTree as tree\n\
         for text in tree.fromstring(sys.stdin.buffer.read()).iter('{http://www.w3.org/2000/svg}text'):\n\
         \x20   print(text.text.replace('\\u00a0', ' '))\n";
-    let Some(texts) = python(script, &drawn, test) else { return };
+    let Some(texts) = python(script, &ended.printed, test) else { return };
     let drawn: BTreeSet<String> = texts.lines().map(str::to_string).collect();
     assert_eq!(drawn, hostile_labels().into_iter().chain(hostile_names()).collect());
 }

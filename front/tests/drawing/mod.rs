@@ -2,7 +2,9 @@
 
 #![allow(dead_code)]
 
+pub mod browser;
 pub mod programs;
+pub mod sha256;
 pub mod xml;
 
 use bithrowy_front::aut;

@@ -9,6 +9,8 @@ pub struct Element {
     pub children: Vec<Element>,
     /// The text that stands in it directly.
     pub text: String,
+    /// That text, with the text of its children in their places.
+    pub whole_text: String,
 }
 
 impl Element {
@@ -51,13 +53,17 @@ fn element(rest: &mut &str) -> Element {
     let mut element = Element { name: name.to_string(), attributes: read_attributes(attributes), ..Element::default() };
     loop {
         let upto = rest.find('<').unwrap_or_else(|| panic!("{name} does not end"));
-        element.text.push_str(&unescaped(&rest[..upto]));
+        let text = unescaped(&rest[..upto]);
+        element.text.push_str(&text);
+        element.whole_text.push_str(&text);
         *rest = &rest[upto..];
         if rest.starts_with("</") {
             assert_eq!(between(rest, "</", ">"), name);
             return element;
         }
-        element.children.push(self::element(rest));
+        let child = self::element(rest);
+        element.whole_text.push_str(&child.whole_text);
+        element.children.push(child);
     }
 }
 

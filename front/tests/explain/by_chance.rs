@@ -38,7 +38,7 @@ fn each_explanation_is_a_proof() {
     let mut random = Random::new(1);
     let mut met: BTreeMap<(&str, bool), usize> = BTreeMap::new();
     let (mut confirmed, mut lines) = (0, 0);
-    for _ in 0..6_000 {
+    for _ in 0..8_000 {
         let (text, told) = told(&mut random, 6);
         let mut replay = Replay::of(&told.case);
         if let Err(wrong) = replay.check(&told.explanation) {

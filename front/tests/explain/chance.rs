@@ -3,15 +3,27 @@
 use bithrowy_tests::random::Random;
 
 const LABELS: [&str; 3] = ["a", "b", "c"];
+/// Labels of several names, alike and not, the silent step, and one that needs quotes.
+const OTHERS: [&str; 5] = ["a|b", "b|a", "a|a|b", "tau", "\"x y\""];
+
+/// A label as both texts write it: from the few, or, if others are wanted, now and then one of the others.
+fn label(random: &mut Random, others: bool) -> &'static str {
+    if others && random.chance(1, 3) {
+        random.pick(&OTHERS)
+    } else {
+        random.pick(&LABELS)
+    }
+}
 
 /// A model with at most so many states. Most have few transitions from each state.
 pub fn model(random: &mut Random, most_states: usize) -> String {
     let states = random.between(1, most_states);
+    let others = random.chance(1, 4);
     let mut lines = Vec::new();
     for source in 0..states {
         for _ in 0..random.pick(&[0, 1, 1, 1, 2, 2, 3]) {
             let target = if random.chance(1, 3) { (source + 1) % states } else { random.below(states) };
-            lines.push(format!("({source}, \"{}\", {target})\n", random.pick(&LABELS)));
+            lines.push(format!("({source}, {}, {target})\n", label(random, others)));
         }
     }
     if !lines.is_empty() && random.chance(1, 4) {
@@ -99,10 +111,11 @@ fn sides(random: &mut Random, depth: usize, sign: &str, variables: &mut Vec<Stri
 }
 
 fn action(random: &mut Random) -> String {
+    let others = random.chance(1, 8);
     match random.below(8) {
-        0..=2 => random.pick(&LABELS).to_string(),
-        3 => format!("!{}", random.pick(&LABELS)),
-        4 => format!("{} || {}", random.pick(&LABELS), random.pick(&LABELS)),
+        0..=2 => label(random, others).to_string(),
+        3 => format!("!({})", label(random, others)),
+        4 => format!("{} || {}", label(random, others), label(random, others)),
         _ => "true".to_string(),
     }
 }

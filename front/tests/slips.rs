@@ -10,7 +10,7 @@ use support::trial::Trial;
 use support::writing::Misgrammar;
 
 /// Within so many trials each slip is noticed.
-const TRIALS: u64 = 500;
+const TRIALS: u64 = 600;
 
 /// What formulas are taken to be.
 const OF_FORMULAS: [(&str, Taken); 15] = [

@@ -2,6 +2,7 @@
 //! the counts on the formula as it is written, and the independent checker of the case file.
 
 use super::counting::{self, Wrong};
+use super::expected::{is_about_label, is_about_variable, refusal, wrong_labels, File, LIMIT, SPENT};
 use super::labels;
 use super::relations::{self, Reading};
 use super::systems::System;
@@ -12,21 +13,12 @@ use bithrowy_front::case::{self, Case};
 use bithrowy_front::check::{self, Checked, Trouble};
 use bithrowy_front::expand::{self, Expansion};
 use bithrowy_front::formula::{State, StateFormula};
-use bithrowy_front::limits;
 use bithrowy_front::model::Model;
 use bithrowy_front::source::{Fault, Source};
 use bithrowy_front::table::{Kind, Table};
 use bithrowy_front::{aut, parser, print};
-use bithrowy_tests::{formats, meaning, reader, rounds, tables};
+use bithrowy_tests::{meaning, price, tables};
 use std::fmt::Debug;
-
-/// The round limit: small, so that some runs are spent.
-pub const LIMIT: u64 = 3_000;
-
-/// The library's numbers for a count outside its range, for too many blocks, and for spent rounds.
-const COUNT: u64 = 3;
-const BLOCKS: u64 = 10;
-const SPENT: u64 = 14;
 
 /// What the trial itself does; a slip is a wrong one.
 #[derive(Clone, Copy)]
@@ -47,8 +39,10 @@ pub enum Outcome {
     Accepted(Box<Checked>, usize),
     /// The library refused, as the counts say.
     Refused(u64),
-    /// A variable, or a label, is not what it has to be.
-    Faulty,
+    /// A variable that nothing binds, or that stands where it is not allowed.
+    WrongVariable,
+    /// A label with too many names, or on no transition.
+    WrongLabel,
 }
 
 /// What differs, and how.
@@ -83,84 +77,48 @@ pub fn compare(trial: &Trial, way: &Way) -> Compared<Outcome> {
     compare_model(&model, &trial.system)?;
     let source = Source::new("random.mcf", trial.mcf(way.grammar));
     let formula = fine("the formula's text", parser::read(&source, silent))?;
-    let expansion = match (expand::expand(&source, &formula), Wrong::of(&trial.formula)) {
-        (Ok(expansion), wrong) if wrong.is_none() => expansion,
-        (Err(fault), wrong) if !wrong.is_none() => return compare_fault(&fault, &wrong),
-        (Ok(_), wrong) => return differs("a wrong variable", format!("{wrong:?}")),
-        (Err(fault), _) => return differs("the expansion", fault.to_string()),
+    let wrong = Wrong::of(&trial.formula);
+    let expansion = match expand::expand(&source, &formula) {
+        Ok(expansion) if wrong.is_none() => expansion,
+        Err(fault) if is_about_variable(&fault, &wrong) => return Ok(Outcome::WrongVariable),
+        other => return differs("the fault of a variable", format!("{other:?}, and wrong are {wrong:?}")),
     };
-    let case = match (case::write(&model, &expansion, trial.unknown_labels), label_fault(trial)) {
-        (Ok(case), false) => case,
-        (Err(_), true) => return Ok(Outcome::Faulty),
-        (Ok(_), true) => return differs("a wrong label", "it is taken"),
-        (Err(fault), false) => return differs("the case", fault.to_string()),
+    let wrong = wrong_labels(trial);
+    let case = match case::write(&model, &expansion, trial.unknown_labels) {
+        Ok(case) if wrong.is_empty() => case,
+        Err(fault) if is_about_label(&fault, &wrong) => return Ok(Outcome::WrongLabel),
+        other => return differs("the fault of a label", format!("{other:?}, and wrong are {wrong:?}")),
     };
     compare_case(trial, way, &formula, &case)
-}
-
-/// A fault about a variable points at a wrong one.
-fn compare_fault(fault: &Fault, wrong: &Wrong) -> Compared<Outcome> {
-    let name = fault.source.slice(fault.span).to_string();
-    if wrong.unbound.contains(&name) || wrong.negative.contains(&name) {
-        return Ok(Outcome::Faulty);
-    }
-    differs("the place of a wrong variable", format!("{fault}, and these are wrong: {wrong:?}"))
-}
-
-/// Has a label too many names, or is a label of the formula on no transition, while that is not allowed? The labels of a
-/// formula that is too large to be written out do not matter.
-fn label_fault(trial: &Trial) -> bool {
-    let System { silent, transitions, .. } = &trial.system;
-    let many = |label: &str| labels::names(label, silent).len() > limits::NAMES_OF_A_LABEL;
-    let unknown = |label: &str| !transitions.iter().any(|t| labels::alike(label, &t.1, silent));
-    let written = counting::size(&trial.formula).nodes <= expand::WRITTEN_OUT as u64;
-    let of_formula = || counting::labels(&trial.formula).into_iter().filter(|_| written);
-    transitions.iter().any(|t| many(&t.1))
-        || of_formula().any(many)
-        || !trial.unknown_labels && of_formula().any(unknown)
 }
 
 fn compare_model(model: &Model, system: &System) -> Compared<()> {
     same("the counts of the model", (model.states, model.initial), (system.states, system.initial))?;
     let texts: Vec<&str> = model.labels.iter().map(|label| label.text.as_str()).collect();
     same("the model's labels", texts.clone(), system.labels())?;
+    let names: Vec<&[String]> = model.labels.iter().map(|label| label.names.as_slice()).collect();
+    let expected: Vec<Vec<&str>> = texts.iter().map(|text| labels::names(text, system.silent)).collect();
+    same("the labels' names", format!("{names:?}"), format!("{expected:?}"))?;
     let read = model.transitions.iter().map(|t| (t.source, texts[t.label].to_string(), t.target)).collect::<Vec<_>>();
     same("the transitions", &read, &system.transitions)
 }
 
-/// A case file as the independent checker reads it, with the rounds of the equation route and of the direct one.
-struct File {
-    read: Result<formats::Case, u64>,
-    rounds: Option<Result<(u64, u64), rounds::Spent>>,
-}
-
-impl File {
-    fn new(bytes: &[u8]) -> File {
-        let read = reader::read_case(bytes);
-        let rounds = read.as_ref().ok().map(File::rounds);
-        File { read, rounds }
-    }
-
-    fn rounds(case: &formats::Case) -> Result<(u64, u64), rounds::Spent> {
-        let equation = rounds::equations(&tables::equations(case), LIMIT)?.rounds;
-        Ok((equation, rounds::direct(case, LIMIT)?.1))
-    }
-}
-
 fn compare_case(trial: &Trial, way: &Way, formula: &StateFormula, case: &Case) -> Compared<Outcome> {
     let file = File::new(&case.bytes);
-    let outcome = match (check::check(case, LIMIT), expected_refusal(trial, &file)) {
-        (Ok(checked), 0) => {
+    let outcome = match (check::check(case, LIMIT), refusal(trial, &file)) {
+        (Ok(checked), None) => {
             compare_states(trial, way, &checked)?;
             compare_counts(trial, &checked)?;
             compare_opposites(trial, &case.model, &checked)?;
             compare_table(trial, &checked)?;
             Outcome::Accepted(Box::new(checked), version(case))
         }
-        (Err(Trouble::Refused(fault)), number) if number > 0 && fault.refusal == Some(number) => {
+        (Err(Trouble::Refused(fault)), Some((number, why)))
+            if fault.refusal == Some(number) && fault.message.contains(&why) =>
+        {
             Outcome::Refused(number)
         }
-        (answer, number) => return differs("the refusal", format!("{answer:?}, expected {number}")),
+        (answer, expected) => return differs("the refusal", format!("{answer:?}, expected {expected:?}")),
     };
     compare_sizes(trial, case)?;
     compare_version(trial, case)?;
@@ -171,24 +129,6 @@ fn compare_case(trial: &Trial, way: &Way, formula: &StateFormula, case: &Case) -
 
 fn version(case: &Case) -> usize {
     case.bytes.first().copied().map_or(0, usize::from)
-}
-
-/// The refusal number that the counts, and the rounds as the independent checker counts them, ask for.
-fn expected_refusal(trial: &Trial, file: &File) -> u64 {
-    let size = counting::size(&trial.formula);
-    let many_actions = counting::action_nodes(&trial.formula) > limits::ACTION_NODES;
-    if trial.system.states > limits::STATES || size.nodes > limits::FORMULA_NODES as u64 {
-        COUNT
-    } else if many_actions && file.read == Err(COUNT) {
-        // Action formulas may share nodes, so that it is the case file which says whether they are too many.
-        COUNT
-    } else if counting::blocks(&trial.formula) > limits::BLOCKS as u64 {
-        BLOCKS
-    } else if file.rounds == Some(Err(rounds::Spent)) {
-        SPENT
-    } else {
-        0
-    }
 }
 
 /// The states by the relations on the formula as it was meant.
@@ -275,7 +215,10 @@ fn compare_file(file: &File, outcome: &Outcome) -> Compared<()> {
     match (&file.read, outcome) {
         (Ok(read), Outcome::Accepted(checked, _)) => {
             same("the states by a parity game", &checked.holds, &meaning::states_by_game(read))?;
-            same("the rounds", file.rounds, Some(Ok((checked.equation_rounds, checked.direct_rounds))))
+            let rounds = checked.equation_rounds;
+            same("the rounds", file.rounds, Some(Ok((rounds, checked.direct_rounds))))?;
+            let cells = tables::equations(read).cells.len() as u64;
+            same("the price", checked.cents, price::cents(price::Run { refusal: 0, rounds, cells, limit: LIMIT }))
         }
         (Ok(_), Outcome::Refused(SPENT)) => Ok(()),
         (Err(number), Outcome::Refused(refused)) => same("the refusal of the case file", number, refused),

@@ -36,20 +36,53 @@ impl Writer<'_> {
             0..=9 => State::Not(Box::new(self.state(rest, !even))),
             10..=19 => State::And(Box::new(self.state(left, even)), Box::new(self.state(rest - left, even))),
             20..=29 => State::Or(Box::new(self.state(left, even)), Box::new(self.state(rest - left, even))),
-            30..=37 => State::Implies(Box::new(self.state(left, !even)), Box::new(self.state(rest - left, even))),
-            38..=57 => State::Must(self.run(rest), Box::new(self.state(rest, even))),
-            58..=77 => State::May(self.run(rest), Box::new(self.state(rest, even))),
+            30..=39 => State::Implies(Box::new(self.state(left, !even)), Box::new(self.state(rest - left, even))),
+            40..=58 => State::Must(self.run(rest), Box::new(self.state(rest, even))),
+            59..=77 => State::May(self.run(rest), Box::new(self.state(rest, even))),
             _ => self.binder(rest, even),
         };
         state(kind)
     }
 
+    /// A binder, in a fifth of the cases with one of the other kind right below it.
     fn binder(&mut self, parts: usize, even: bool) -> State {
+        let least = self.random.chance(1, 2);
+        if self.random.chance(4, 5) {
+            return self.bound(least, even, |writer, _| writer.state(parts.max(2), even));
+        }
+        self.bound(least, even, |writer, outer| {
+            state(writer.bound(!least, even, |writer, inner| {
+                let alternating = writer.alternating(least, outer, inner);
+                let further = writer.state(parts / 4, even);
+                match writer.random.below(4) {
+                    0 => state(State::And(Box::new(alternating), Box::new(further))),
+                    1 => state(State::Or(Box::new(alternating), Box::new(further))),
+                    _ => alternating,
+                }
+            }))
+        })
+    }
+
+    /// What the body of two binders of different kinds often says: that a step comes again and again, or that it does not.
+    fn alternating(&mut self, least: bool, outer: &str, inner: &str) -> StateFormula {
+        let variable = |name: &str| Box::new(state(State::Variable(name.to_string())));
+        let (one, other) = (self.regular(1), self.regular(1));
+        if least {
+            let must = |run, name| Box::new(state(State::Must(run, variable(name))));
+            state(State::And(must(one, outer), must(other, inner)))
+        } else {
+            let may = |run, name| Box::new(state(State::May(run, variable(name))));
+            state(State::Or(may(one, outer), may(other, inner)))
+        }
+    }
+
+    /// A binder with its body.
+    fn bound(&mut self, least: bool, even: bool, body: impl FnOnce(&mut Self, &str) -> StateFormula) -> State {
         let variable = self.random.pick(&VARIABLES);
         self.scope.push((variable, even));
-        let body = Box::new(self.state(parts.max(2), even));
+        let body = Box::new(body(self, variable));
         self.scope.pop();
-        if self.random.chance(1, 2) {
+        if least {
             State::Mu(name(variable), body)
         } else {
             State::Nu(name(variable), body)
@@ -60,8 +93,8 @@ impl Writer<'_> {
     fn leaf(&mut self, even: bool) -> StateFormula {
         let allowed: Vec<&str> = VARIABLES.into_iter().filter(|&variable| self.allows(variable, even)).collect();
         let kind = match self.random.below(12) {
-            0..=6 if self.careless => State::Variable(self.random.pick(&VARIABLES).to_string()),
-            0..=6 if !allowed.is_empty() => State::Variable(self.random.pick(&allowed).to_string()),
+            0..=7 if self.careless => State::Variable(self.random.pick(&VARIABLES).to_string()),
+            0..=7 if !allowed.is_empty() => State::Variable(self.random.pick(&allowed).to_string()),
             0..=4 => State::May(self.regular(1), Box::new(state(State::True))),
             5..=9 => State::Must(self.regular(1), Box::new(state(State::False))),
             10 => State::True,
@@ -75,14 +108,26 @@ impl Writer<'_> {
         self.scope.iter().rev().find(|binder| binder.0 == variable).is_some_and(|binder| binder.1 == even)
     }
 
-    /// What stands in a modality: a single step in half of the cases, and very seldom something long.
+    /// What stands in a modality: mostly a few steps, and very seldom what doubles again and again when it is written out.
     fn run(&mut self, room: usize) -> RegularFormula {
-        let parts = match self.random.below(400) {
-            0..=199 => 1,
-            200 => self.random.between(8, 16),
-            _ => self.random.between(1, room.clamp(1, 4)),
-        };
-        self.regular(parts)
+        match self.random.below(400) {
+            0..=149 => self.regular(1),
+            150 => self.tower(),
+            _ => {
+                let parts = self.random.between(1, room.clamp(1, 6));
+                self.regular(parts)
+            }
+        }
+    }
+
+    /// A step that is repeated, and that repeated, and so on.
+    fn tower(&mut self) -> RegularFormula {
+        let mut run = self.regular(1);
+        for _ in 0..self.random.between(2, 20) {
+            let star = self.random.chance(1, 4);
+            run = regular(if star { Regular::Star(Box::new(run)) } else { Regular::Plus(Box::new(run)) });
+        }
+        run
     }
 
     fn regular(&mut self, parts: usize) -> RegularFormula {

@@ -6,6 +6,7 @@
 
 pub mod comparison;
 pub mod counting;
+pub mod expected;
 pub mod formulas;
 pub mod labels;
 pub mod misreadings;

@@ -14,24 +14,27 @@ pub struct System {
 }
 
 impl System {
-    /// A system over a pool's labels, seldom one that is large or beyond the limit.
+    /// A system over a pool's labels, seldom one that is large or beyond the limit. In half of them each transition begins
+    /// where the initial state leads.
     pub fn random(random: &mut Random, pool: &Pool) -> System {
         let states = match random.below(300) {
             0..=3 => random.between(60, 256),
             4 => random.between(257, 300),
             _ => random.between(1, 12),
         };
+        let initial = random.below(states);
+        let mut sources: Vec<usize> = if random.chance(1, 2) { vec![initial] } else { (0..states).collect() };
         let most = random.pick(&[1, 2, 2, 3]) * states;
-        let count = random.between(most / 2, most);
         let mut transitions = Vec::new();
-        for _ in 0..count {
-            let label = pool.of_transition(random);
-            transitions.push((random.below(states), label, random.below(states)));
+        for _ in 0..random.between(most / 2, most) {
+            let target = random.below(states);
+            transitions.push((sources[random.below(sources.len())], pool.of_transition(random), target));
+            sources.push(target);
         }
-        for _ in 0..random.pick(&[0, 0, 0, 1, 2]).min(count) {
-            transitions.push(transitions[random.below(count)].clone());
+        for _ in 0..random.pick(&[0, 0, 0, 1, 2]).min(transitions.len()) {
+            transitions.push(transitions[random.below(transitions.len())].clone());
         }
-        System { states, initial: random.below(states), silent: pool.silent, transitions }
+        System { states, initial, silent: pool.silent, transitions }
     }
 
     /// The labels' texts in order of first appearance.

@@ -143,7 +143,7 @@ impl Pen<'_> {
 
     /// Two operands, the right one of which may be alike without a bracket.
     fn pair(&mut self, left: &StateFormula, sign: &str, right: &StateFormula, own: usize, last: bool) {
-        let turned = (sign == "=>" && self.writes_by(Misgrammar::ImpliesLeft)) as usize;
+        let turned = self.turns(sign);
         self.state(left, Place { level: own + 1 - turned, last: false });
         self.put(sign);
         self.state(right, Place { level: own + turned, last });
@@ -225,9 +225,15 @@ impl Pen<'_> {
     }
 
     fn action_pair(&mut self, left: &ActionFormula, sign: &str, right: &ActionFormula, own: usize) {
-        self.action(left, own + 1);
+        let turned = self.turns(sign);
+        self.action(left, own + 1 - turned);
         self.put(sign);
-        self.action(right, own);
+        self.action(right, own + turned);
+    }
+
+    /// 1 where the left operand may be alike without a bracket, instead of the right one.
+    fn turns(&self, sign: &str) -> usize {
+        (sign == "=>" && self.writes_by(Misgrammar::ImpliesLeft)) as usize
     }
 
     /// A label: all of it in quotes, or each name in quotes or bare.

@@ -48,6 +48,10 @@ fn comments(case: &CaseFile, table: &Table) -> String {
         amount::of(case.transitions.len(), "transition"),
         amount::of(case.labels.len(), "label"),
     );
+    text.push_str(match case.version {
+        1 => "% label3 is the label with number 3.\n",
+        _ => "% name3 is the name with number 3, and tau the silent step.\n",
+    });
     if names_unknown_label(case, table) {
         text.push_str("% No transition has some of the labels below.\n% unknown labels: allow\n");
     }

@@ -183,3 +183,18 @@ fn numbers_of_any_size_are_refused() {
     // No model with so many states as its last transition's target is right.
     assert_eq!(refusals.into_iter().collect::<Vec<_>>(), [Some(3), Some(6)]);
 }
+
+/// The version is 2 exactly if some label is written with `|`, even if it has one name, and in the formula alone.
+#[test]
+fn the_version_follows_from_the_texts() {
+    let version = |label: &str, formula: &str| {
+        let model = format!("des (0, 1, 1)\n(0, \"{label}\", 0)\n");
+        case_of(&model, formula, true).unwrap().bytes[0]
+    };
+    assert_eq!(version("a", "[a] true"), 1);
+    assert_eq!(version("tau", "[tau] true"), 1);
+    assert_eq!(version("a | b", "[true] true"), 2);
+    assert_eq!(version("a|tau", "[a] true"), 2);
+    assert_eq!(version("a", "[a|tau] true"), 2);
+    assert_eq!(version("a", "[b|c] true"), 2);
+}

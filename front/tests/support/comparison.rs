@@ -13,10 +13,11 @@ use bithrowy_front::case::{self, Case};
 use bithrowy_front::check::{self, Checked, Trouble};
 use bithrowy_front::expand::{self, Expansion};
 use bithrowy_front::formula::{State, StateFormula};
+use bithrowy_front::label::SILENT;
 use bithrowy_front::model::Model;
 use bithrowy_front::source::{Fault, Source};
 use bithrowy_front::table::{Kind, Table};
-use bithrowy_front::{aut, parser, print};
+use bithrowy_front::{aut, back, parser, print};
 use bithrowy_tests::{meaning, price, tables};
 use std::fmt::Debug;
 
@@ -80,13 +81,17 @@ pub fn compare(trial: &Trial, way: &Way) -> Compared<Outcome> {
     let wrong = Wrong::of(&trial.formula);
     let expansion = match expand::expand(&source, &formula) {
         Ok(expansion) if wrong.is_none() => expansion,
-        Err(fault) if is_about_variable(&fault, &wrong) => return Ok(Outcome::WrongVariable),
+        Err(fault) if is_about_variable(&fault, &wrong) => {
+            return compare_trees(trial, &formula).map(|()| Outcome::WrongVariable);
+        }
         other => return differs("the fault of a variable", format!("{other:?}, and wrong are {wrong:?}")),
     };
     let wrong = wrong_labels(trial);
     let case = match case::write(&model, &expansion, trial.unknown_labels) {
         Ok(case) if wrong.is_empty() => case,
-        Err(fault) if is_about_label(&fault, &wrong) => return Ok(Outcome::WrongLabel),
+        Err(fault) if is_about_label(&fault, &wrong) => {
+            return compare_trees(trial, &formula).map(|()| Outcome::WrongLabel);
+        }
         other => return differs("the fault of a label", format!("{other:?}, and wrong are {wrong:?}")),
     };
     compare_case(trial, way, &formula, &case)
@@ -111,6 +116,7 @@ fn compare_case(trial: &Trial, way: &Way, formula: &StateFormula, case: &Case) -
             compare_counts(trial, &checked)?;
             compare_opposites(trial, &case.model, &checked)?;
             compare_table(trial, &checked)?;
+            compare_back(case, &checked)?;
             Outcome::Accepted(Box::new(checked), version(case))
         }
         (Err(Trouble::Refused(fault)), Some((number, why)))
@@ -186,6 +192,19 @@ fn checked_text(model: &Model, text: String) -> Compared<Checked> {
     let case = fine("an opposite's case", case::write(model, &expansion, true))?;
     // The equation route's rounds of a negation may be a few more, so the limit is not the trial's.
     check::check(&case, 100 * LIMIT).or_else(|trouble| differs("an opposite's answer", format!("{trouble:?}")))
+}
+
+/// The case file as text again means the same.
+fn compare_back(case: &Case, checked: &Checked) -> Compared<()> {
+    let Ok(texts) = back::texts(&case.bytes) else { return differs("the case as text", "it is refused") };
+    let model = fine("the case's model", aut::read(&Source::new("back.aut", texts.aut), SILENT))?;
+    let formula = fine("the case's formula", parser::read(&Source::new("back.mcf", texts.mcf), SILENT))?;
+    let label = |number: usize| model.labels[number].text.clone();
+    let transitions = model.transitions.iter().map(|t| (t.source, label(t.label), t.target)).collect();
+    let system = System { states: model.states, initial: model.initial, silent: SILENT, transitions };
+    let found = (system.initial, system.distinct());
+    same("the case's initial state and transitions", found, (case.model.initial, checked.distinct))?;
+    same("the case's states", &relations::states(&system, &formula, relations::RIGHT), &checked.holds)
 }
 
 /// The sizes as counted on the formula as it is written.

@@ -7,6 +7,7 @@ use crate::load::{self, Rules};
 use crate::output;
 use crate::trouble::Trouble;
 use bithrowy_front::amount::thousands;
+use bithrowy_front::case;
 use bithrowy_front::expand::{self, Expansion};
 use bithrowy_front::limits;
 use bithrowy_front::print;
@@ -24,7 +25,7 @@ pub fn run(arguments: &ShowArguments) -> Result<Exit, Trouble> {
 
 fn used(expansion: &Expansion) -> Vec<(&'static str, String)> {
     let (written_out, nodes, actions, blocks) = match expansion {
-        Expansion::Table(table) => (table.text(0), table.nodes.len(), table.actions.len(), Some(table.blocks())),
+        Expansion::Table(table) => (table.text(0), table.nodes.len(), case::action_nodes(table), Some(table.blocks())),
         Expansion::TooLarge { nodes, actions, .. } => {
             ("(too large to be written out)".to_string(), *nodes, *actions, None)
         }

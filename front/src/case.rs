@@ -35,9 +35,9 @@ impl Case {
     /// The case's counts, whether its tables were written out or not. A formula that is too large to be written out counts
     /// as one without action nodes: it is refused for its own nodes.
     pub fn counts(&self) -> Counts {
-        let labels = LabelNumbers::new(&self.model, self.table());
+        let labels = self.label_numbers();
         let (action_nodes, formula_nodes) = match &self.expansion {
-            Expansion::Table(table) => (ActionTable::new(table, &labels).nodes.len(), table.nodes.len()),
+            Expansion::Table(table) => (action_nodes(table), table.nodes.len()),
             // Equal action formulas are one, and how many differ is known of a formula only that is written out.
             Expansion::TooLarge { nodes, .. } => (0, *nodes),
         };
@@ -47,12 +47,12 @@ impl Case {
 
     /// How many different names the labels of the case have.
     pub fn names(&self) -> usize {
-        LabelNumbers::new(&self.model, self.table()).names()
+        self.label_numbers().names()
     }
 
     /// The labels that only the formula names, in the order of their numbers, with the first place of each.
     pub fn formula_labels(&self) -> Vec<(&Label, Span)> {
-        LabelNumbers::new(&self.model, self.table()).of_formula_alone()
+        self.label_numbers().of_formula_alone()
     }
 
     /// The text that the formula is in, and its part.
@@ -63,6 +63,10 @@ impl Case {
         }
     }
 
+    fn label_numbers(&self) -> LabelNumbers<'_> {
+        LabelNumbers::new(&self.model.labels, self.table())
+    }
+
     /// The formula's table, if it is written out.
     pub fn table(&self) -> Option<&Table> {
         match &self.expansion {
@@ -70,6 +74,12 @@ impl Case {
             Expansion::TooLarge { .. } => None,
         }
     }
+}
+
+/// How many action nodes a case file has for a formula, whatever the model: of equal action formulas one is written, and
+/// none that stands within another.
+pub fn action_nodes(table: &Table) -> usize {
+    ActionTable::new(table, &LabelNumbers::new(&[], Some(table))).nodes.len()
 }
 
 /// Writes the case file: of version 2 if a label of the model or the formula is written with `|`, else of version 1. The
@@ -103,10 +113,10 @@ const NUMBER: usize = 2;
 
 /// The case file of a case that has none yet.
 fn bytes(case: &Case) -> Vec<u8> {
-    let labels = LabelNumbers::new(&case.model, case.table());
+    let labels = case.label_numbers();
     let (actions, formula) = node_tables(case.table(), &labels);
-    let tables =
-        [if labels.joined { labels.records() } else { Vec::new() }, transition_table(&case.model), actions, formula];
+    let records = if labels.joined { written_out(labels.records(), RECORD) } else { Vec::new() };
+    let tables = [records, transition_table(&case.model), actions, formula];
     let mut numbers = header(case, &labels);
     numbers.extend(tables.into_iter().flatten());
     numbers.into_iter().flat_map(|number| narrow(number).to_le_bytes()).collect()

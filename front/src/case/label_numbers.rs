@@ -20,8 +20,9 @@ pub struct LabelNumbers<'a> {
 }
 
 impl<'a> LabelNumbers<'a> {
-    pub fn new(model: &'a Model, table: Option<&'a Table>) -> LabelNumbers<'a> {
-        let mut labels: Vec<&Label> = model.labels.iter().collect();
+    /// From the labels of a model, and the formula's table if it is written out.
+    pub fn new(of_model: &'a [Label], table: Option<&'a Table>) -> LabelNumbers<'a> {
+        let mut labels: Vec<&Label> = of_model.iter().collect();
         let mut numbers: HashMap<&[String], usize> = HashMap::new();
         for (number, label) in labels.iter().enumerate() {
             numbers.entry(&label.names).or_insert(number);

@@ -3,6 +3,7 @@
 use crate::label;
 use crate::quoted;
 use crate::source::{Fault, Source, Span};
+use std::collections::HashMap;
 use std::sync::Arc;
 
 #[derive(Clone, Debug, PartialEq, Eq)]
@@ -49,33 +50,30 @@ pub fn words(source: &Arc<Source>) -> Result<Vec<(Word, Span)>, Fault> {
 
 /// A part of a text without the round brackets that stand around all of it.
 pub(crate) fn unbracketed(source: &Source, part: Span) -> Span {
-    let slice = Source::new("", source.slice(part));
-    let Ok(mut words) = words(&slice) else { return part };
-    words.pop();
-    let mut inside = words.as_slice();
-    while is_bracketed(inside) {
-        inside = &inside[1..inside.len() - 1];
+    let Ok(words) = words(&Source::new("", source.slice(part))) else { return part };
+    let closing = closing_brackets(&words);
+    let (mut first, mut last) = (0, words.len().saturating_sub(2));
+    while last > first && closing.get(&first) == Some(&last) {
+        (first, last) = (first + 1, last - 1);
     }
-    match (inside.first(), inside.last()) {
+    match (words.get(first), words.get(last)) {
         (Some((_, first)), Some((_, last))) => Span::new(part.start + first.start, part.start + last.end),
         _ => part,
     }
 }
 
-/// Does the last of these words close the bracket that the first one opens?
-fn is_bracketed(words: &[(Word, Span)]) -> bool {
-    let mut open = 0usize;
+/// For each opening round bracket among some words, the place of the one that closes it.
+fn closing_brackets(words: &[(Word, Span)]) -> HashMap<usize, usize> {
+    let mut open = Vec::new();
+    let mut closing = HashMap::new();
     for (place, (word, _)) in words.iter().enumerate() {
         match word {
-            Word::Sign("(") => open += 1,
-            Word::Sign(")") => open = open.saturating_sub(1),
+            Word::Sign("(") => open.push(place),
+            Word::Sign(")") => closing.extend(open.pop().map(|opening| (opening, place))),
             _ => {}
         }
-        if open == 0 {
-            return place > 0 && place + 1 == words.len();
-        }
     }
-    false
+    closing
 }
 
 /// The first place, from an offset on, that is neither blank nor in a comment.

@@ -36,7 +36,7 @@ fn html(model: &Path, answer: Option<&Answer>) -> Result<String, Trouble> {
     let answer = answer.ok_or_else(|| {
         Trouble::plain("the page needs a formula").with_help("name the formula's file behind the model, or use --svg")
     })?;
-    let title = format!("{} on {}", answer.checked.table.source.name, files::shown(model));
+    let title = format!("{} ({})", answer.title, files::shown(model));
     Ok(page::page(&title, &answer.case.model, &answer.checked, &answer.explanation))
 }
 

@@ -38,6 +38,8 @@ pub struct Formula {
 /// A case with its answer, and why the answer is so.
 #[derive(Clone, Debug)]
 pub struct Answer {
+    /// What to call the formula.
+    pub title: String,
     pub case: Case,
     pub checked: Checked,
     pub explanation: Vec<String>,
@@ -77,6 +79,12 @@ impl Formula {
         Ok(Formula { source, directives })
     }
 
+    /// What to call it: the name that it has in a comment, else its file, else the text itself.
+    pub fn title(&self) -> String {
+        let file = if self.source.name == TYPED { self.source.text.trim() } else { &self.source.name };
+        self.directives.name.clone().unwrap_or_else(|| file.to_string())
+    }
+
     pub fn read(&self, rules: &Rules) -> Result<StateFormula, Trouble> {
         Ok(parser::read(&self.source, &rules.silent)?)
     }
@@ -92,7 +100,7 @@ impl Formula {
         let checked = check::check(&case, rules.limit)?;
         let explanation = explain::explain(&case.model, &checked);
         let explanation = explain::lines(&case.model, &checked, &explanation);
-        Ok(Answer { case, checked, explanation })
+        Ok(Answer { title: self.title(), case, checked, explanation })
     }
 }
 

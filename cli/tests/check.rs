@@ -58,6 +58,23 @@ fn states_that_no_run_comes_to() {
     assert!(ran.out.contains("\n  not reached  1 state: state 2 (holds)\n"), "{}", ran.out);
 }
 
+/// Sixty states in a ring: their names are broken into lines of at most a hundred characters, and none is lost.
+#[test]
+fn long_lists_of_states() {
+    let folder = Folder::new("check-ring");
+    let lines = (0..60).map(|state| format!("({state}, next, {})\n", (state + 1) % 60));
+    folder.write("ring.aut", format!("des (0, 60, 60)\n{}", lines.collect::<String>()));
+    let ran = folder.run(&["check", "ring.aut", "-e", "<next>true"]).expect_exit(0);
+    assert!(ran.out.lines().all(|line| line.len() <= 100), "{}", ran.out);
+    let words: Vec<&str> = ran.out.split_whitespace().collect();
+    let names: Vec<String> = (0..60).map(|state| format!("state {state}")).collect();
+    assert!(
+        words.join(" ").contains(&format!(" holds in 60 states: {} fails in no state ", names.join(", "))),
+        "{}",
+        ran.out
+    );
+}
+
 #[test]
 fn the_answer_as_json() {
     let folder = Folder::with_dialog("check-json");

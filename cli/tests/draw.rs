@@ -61,7 +61,12 @@ fn the_page() {
     folder.run(&["draw", "dialog.aut", "ends.mcf", "--html", "m.html"]).expect_exit(0);
     let page = folder.read("m.html");
     assert!(page.to_lowercase().starts_with("<!doctype html>"));
-    assert!(page.contains("closing"));
+    assert!(page.contains("closing") && page.contains("<title>ends.mcf (dialog.aut)"), "{page}");
+    folder.write("named.mcf", "% name: Every run ends\nmu X. [true] X\n");
+    folder.run(&["draw", "dialog.aut", "named.mcf", "--html", "m.html"]).expect_exit(0);
+    assert!(folder.read("m.html").contains("<title>Every run ends (dialog.aut)"));
+    folder.run(&["draw", "dialog.aut", "-e", " [true]false ", "--html", "m.html"]).expect_exit(0);
+    assert!(folder.read("m.html").contains("<title>[true]false (dialog.aut)"));
     let ran = folder.run(&["draw", "dialog.aut", "--html", "n.html"]).expect_exit(2);
     assert!(ran.err.starts_with("error: the page needs a formula\n"), "{}", ran.err);
     assert!(!folder.path("n.html").exists());

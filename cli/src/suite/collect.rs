@@ -82,7 +82,7 @@ fn of_formula(file: &Path) -> Vec<Planned> {
         Ok(formula) => formula,
         Err(trouble) => return vec![planned(&shown, Err(trouble))],
     };
-    let name = formula.directives.name.clone().unwrap_or_else(|| shown.clone());
+    let name = formula.title();
     match wanted(file, &formula) {
         Ok(wanted) => wanted.into_iter().map(|wanted| planned(&name, Ok(task(&formula, wanted)))).collect(),
         Err(trouble) => vec![planned(&name, Err(trouble))],

@@ -19,3 +19,24 @@ pub fn of(count: impl TryInto<u64>, thing: &str) -> String {
     let ending = if number == "1" { "" } else { "s" };
     format!("{number} {thing}{ending}")
 }
+
+#[cfg(test)]
+mod tests {
+    use super::*;
+
+    #[test]
+    fn commas_stand_between_thousands() {
+        let cases = [(0, "0"), (7, "7"), (999, "999"), (1_000, "1,000"), (12_345, "12,345"), (1_000_000, "1,000,000")];
+        for (number, text) in cases {
+            assert_eq!(thousands(number as u64), text);
+        }
+        assert_eq!(thousands(u64::MAX), "18,446,744,073,709,551,615");
+    }
+
+    #[test]
+    fn one_thing_has_no_plural() {
+        assert_eq!(of(0_usize, "state"), "0 states");
+        assert_eq!(of(1_u64, "state"), "1 state");
+        assert_eq!(of(2_048_usize, "transition"), "2,048 transitions");
+    }
+}

@@ -3,7 +3,7 @@
 use crate::case::Case;
 use crate::expand::Expansion;
 use crate::library::{self, Run};
-use crate::refusal;
+use crate::refusal::{self, SPENT};
 use crate::source::Fault;
 use crate::table::Table;
 
@@ -37,10 +37,8 @@ pub enum Trouble {
     Differ(String),
 }
 
-/// The refusal number of a spent run, which each route has by itself.
-const SPENT: u64 = 14;
-
-/// Runs both routes with a round limit and compares them. A spent route (14) is a refusal.
+/// Runs both routes with a round limit and compares them. A spent route is a refusal: each has its own rounds, so that the
+/// other may have an answer.
 pub fn check(case: &Case, limit: u64) -> Result<Checked, Trouble> {
     let (equation, direct) = (library::equation(&case.bytes, limit), library::direct(&case.bytes, limit));
     if equation.refusal == SPENT || direct.refusal == SPENT {

@@ -9,13 +9,16 @@ use crate::amount;
 use crate::case::Case;
 use crate::source::Fault;
 
+/// The number of a run that did not end within the round limit.
+pub const SPENT: u64 = 14;
+
 /// A refusal in words, at the place that brought it about: `300 states: the checker takes 1 to 256`.
 pub fn fault(case: &Case, number: u64, limit: u64) -> Fault {
     let fault = match number {
         3 => counts::fault(case),
         6 => model_numbers::fault(&case.model),
         10 => binders::fault(case),
-        14 => Some(spent(case, "one of the routes", limit)),
+        SPENT => Some(spent(case, "one of the routes", limit)),
         15 => names::fault(case),
         _ => None,
     };
@@ -26,7 +29,7 @@ pub fn fault(case: &Case, number: u64, limit: u64) -> Fault {
 pub fn spent(case: &Case, route: &str, limit: u64) -> Fault {
     let (source, span) = case.formula();
     let message = format!("more than {} by {route}", amount::of(limit, "round"));
-    Fault::new(source, span, message).with_refusal(14).with_help(
+    Fault::new(source, span, message).with_refusal(SPENT).with_help(
         "a larger --limit allows more rounds; a formula with fewer mu and nu one inside another takes fewer of them",
     )
 }

@@ -18,7 +18,7 @@ const STYLE: &str = include_str!("page/page.css");
 const SCRIPT: &str = include_str!("page/page.js");
 
 /// The SHA-256 of the style and of the script. They change with each change of these files; a test says to what.
-const STYLE_HASH: &str = "sha256-JCpgoNsPaiWlCmPqh9CnszXEFB/qtawRYVYQmO0zLHA=";
+const STYLE_HASH: &str = "sha256-CjOkNN6xiu1ALU9g9HaPhhn3kTw3y5O4Itc6OWHg8kQ=";
 const SCRIPT_HASH: &str = "sha256-vl8xyNeyUcGjerg3OQBbPZhixzvQDoGKa6lwYRE3siQ=";
 
 /// The page. A click on a part of the formula fills and ticks the states where that part holds.
@@ -79,10 +79,16 @@ fn as_written(answer: &Checked) -> Option<Element> {
     })
 }
 
+/// The model drawn, as large as it is, in a frame that scrolls, or as wide as the page.
 fn drawing(model: &Model, answer: &Checked) -> Element {
-    let frame = Element::new("div").with("class", "drawing").with("tabindex", 0).with("role", "region");
-    section("model", "The model")
-        .lines([frame.with("aria-label", "The model, drawn").markup(&svg(model, Some(answer)))])
+    let fit = Element::single("input").with("type", "checkbox").with("class", "fit");
+    let frame = Element::new("div")
+        .with("class", "drawing")
+        .with("role", "region")
+        .with("aria-label", "The model, drawn")
+        .with("tabindex", 0)
+        .markup(&svg(model, Some(answer)));
+    section("model", "The model").lines([Element::new("label").child(fit).text(" as wide as the page"), frame])
 }
 
 /// The explanation, a line each; lines that begin with blanks belong to the line before.

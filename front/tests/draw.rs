@@ -1,8 +1,12 @@
 //! The drawings: DOT and SVG texts worked out by hand, what graphviz and another XML reader make of them, and where things
 //! stand in the SVG.
 
+#[path = "support/case_texts.rs"]
+mod case_texts;
 mod drawing;
 
+use bithrowy_front::aut;
+use bithrowy_front::check::Checked;
 use bithrowy_front::draw::{dot, svg};
 use bithrowy_front::model::Model;
 use bithrowy_tests::random::Random;
@@ -67,6 +71,39 @@ fn dot_by_hand() {
 fn dot_escapes_by_hand() {
     let model = model_of(1, &[(0, r#"say "no" \N &amp;"#, 0)], "");
     assert!(dot(&model, None).contains(r#"s0 -> s0 [label="say \"no\" \\N &amp;amp;"];"#));
+}
+
+/// The dialog's answer for `<close>true`: by hand it holds in state 1 and in state 2.
+fn answer() -> Checked {
+    let model = aut::write(&dialog());
+    case_texts::checked(&case_texts::case(&model, "<close>true"), 100)
+}
+
+/// By hand: where it holds a state is filled and ticked, elsewhere crossed; state 2 is dashed too.
+#[test]
+fn dot_with_an_answer_by_hand() {
+    let text = dot(&dialog(), Some(&answer()));
+    let states: Vec<&str> = text.lines().filter(|line| line.contains("style=\"rounded")).skip(1).collect();
+    let expected = [
+        "  s0 [label=\"✗ closed\", style=\"rounded\"];",
+        "  s1 [label=\"✓ open\", style=\"rounded,filled\", fillcolor=\"#cdebd6\"];",
+        "  s2 [label=\"✓ state 2\", style=\"rounded,filled,dashed\", fillcolor=\"#cdebd6\"];",
+    ];
+    assert_eq!(states, expected);
+    assert!(text.contains("  label=\"✓ holds   ✗ fails   dashed: cannot be reached\";\n"));
+}
+
+#[test]
+fn svg_with_an_answer_by_hand() {
+    let root = xml::read(&svg(&dialog(), Some(&answer())));
+    let marks: Vec<&str> = root.all("text", "mark").iter().map(|mark| mark.text.as_str()).collect();
+    assert_eq!(marks, ["✗", "✓", "✓"]);
+    let holding: Vec<&str> = root.all("g", "holds").iter().map(|state| state.attribute("id")).collect();
+    assert_eq!(holding, ["state-1", "state-2"]);
+    let fills: Vec<bool> = root.all("rect", "box").iter().map(|area| area.attribute("fill") != "#ffffff").collect();
+    assert_eq!(fills, [false, true, true]);
+    let description = "3 states, 5 transitions. It begins in closed. The formula holds in open, state 2.";
+    assert_eq!(root.child_text("desc"), [description]);
 }
 
 /// Graphviz draws each hostile text as it is shown, and nothing else.

@@ -325,7 +325,9 @@ fn page_is_read_by_another_reader() {
         \x20   opened, scripts = [], 0\n\
         \x20   def handle_starttag(self, tag, attributes):\n\
         \x20       self.scripts += tag == 'script'\n\
-        \x20       if tag != 'meta': self.opened.append(tag)\n\
+        \x20       self.opened.append(tag)\n\
+        \x20   def handle_startendtag(self, tag, attributes):\n\
+        \x20       assert tag in ('meta', 'input'), tag\n\
         \x20   def handle_endtag(self, tag):\n\
         \x20       assert self.opened.pop() == tag, tag\n\
         reader = Reader()\n\

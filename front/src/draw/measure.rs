@@ -22,7 +22,7 @@ pub(super) fn two_lines(text: &str, most: usize) -> Vec<String> {
     }
     let within = &letters[..most];
     // A line is not broken in its first half, so that the other one is not much longer.
-    let can_break = |&at: &usize| matches!(within[at - 1], ' ' | '|' | '.' | ',' | '-' | '/' | ':' | '_');
+    let can_break = |&at: &usize| within[at - 1].is_ascii_punctuation() || within[at - 1] == ' ';
     let at = (most / 2..=most).rev().find(can_break).unwrap_or(most);
     let (first, second): (String, String) = (letters[..at].iter().collect(), letters[at..].iter().collect());
     vec![first.trim_end().to_string(), cut(&second, most)]

@@ -15,7 +15,7 @@ pub(super) const LABEL_SIZE: f64 = 12.0;
 pub(super) const LINE: f64 = 15.0;
 
 /// Longer names are cut in the drawing, longer labels broken into two lines, and long lists of labels cut too.
-const NAME_CHARACTERS: usize = 28;
+const NAME_CHARACTERS: usize = 32;
 const LABEL_CHARACTERS: usize = 22;
 const LABELS: usize = 6;
 

@@ -67,10 +67,10 @@ impl Element {
 
 impl fmt::Display for Element {
     fn fmt(&self, f: &mut fmt::Formatter) -> fmt::Result {
-        write!(f, "<{}{}>", self.name, self.attributes)?;
+        let (name, attributes) = (self.name, &self.attributes);
         match &self.content {
-            Some(content) => write!(f, "{content}</{}>", self.name),
-            None => Ok(()),
+            Some(content) => write!(f, "<{name}{attributes}>{content}</{name}>"),
+            None => write!(f, "<{name}{attributes}/>"),
         }
     }
 }

@@ -49,8 +49,12 @@ pub fn read(text: &str) -> Element {
 
 fn element(rest: &mut &str) -> Element {
     let tag = between(rest, "<", ">");
-    let (name, attributes) = tag.split_once(' ').unwrap_or((&tag, ""));
+    let (opened, is_empty) = tag.strip_suffix('/').map_or((tag.as_str(), false), |opened| (opened, true));
+    let (name, attributes) = opened.split_once(' ').unwrap_or((opened, ""));
     let mut element = Element { name: name.to_string(), attributes: read_attributes(attributes), ..Element::default() };
+    if is_empty {
+        return element;
+    }
     loop {
         let upto = rest.find('<').unwrap_or_else(|| panic!("{name} does not end"));
         let text = unescaped(&rest[..upto]);

@@ -1,10 +1,8 @@
 //! An answer as text for people.
 
 use crate::load::Answer;
+use crate::output::broken;
 use bithrowy_front::amount::{self, thousands};
-
-/// What is longer is broken into lines of about this many characters.
-const WIDTH: usize = 100;
 
 /// How much further in a sentence goes on.
 const CONTINUED: usize = 4;
@@ -42,11 +40,8 @@ fn facts(answer: &Answer) -> Vec<(&'static str, String)> {
     let checked = &answer.checked;
     let mut facts = vec![("holds in", states(answer, true)), ("fails in", states(answer, false))];
     facts.extend(unreached(answer).map(|states| ("not reached", states)));
-    let equation = counted(checked.equation_rounds, "round");
-    facts.push((
-        "work",
-        format!("{equation} by the equation route, {} by the direct one", thousands(checked.direct_rounds)),
-    ));
+    let (equation, direct) = (thousands(checked.equation_rounds), thousands(checked.direct_rounds));
+    facts.push(("rounds", format!("{equation} by the equation route, {direct} by the direct one")));
     let records = counted(checked.records, "record");
     facts.push(("transitions", format!("{records}, {} distinct", thousands(checked.distinct))));
     facts.push(("price", counted(checked.cents, "cent")));
@@ -85,23 +80,4 @@ pub fn rows(facts: &[(&str, String)]) -> String {
     let width = facts.iter().map(|(name, _)| name.len()).max().unwrap_or(0);
     let row = |(name, value): &(&str, String)| broken(&format!("  {name:width$}  "), width + 4, value);
     facts.iter().map(row).collect()
-}
-
-/// Words behind a start, broken into lines; all but the first begin behind a margin.
-fn broken(start: &str, margin: usize, words: &str) -> String {
-    let mut text = start.to_string();
-    let mut column = start.chars().count();
-    for (number, word) in words.split(' ').enumerate() {
-        let length = word.chars().count();
-        if number > 0 && column + 1 + length > WIDTH {
-            text += &format!("\n{:margin$}", "");
-            column = margin;
-        } else if number > 0 {
-            text.push(' ');
-            column += 1;
-        }
-        text += word;
-        column += length;
-    }
-    text + "\n"
 }

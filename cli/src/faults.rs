@@ -1,6 +1,6 @@
 //! Faults as people see them: what is wrong, the line with a caret, and what to do.
 
-use crate::output::visible;
+use crate::output::{broken, visible};
 use crate::trouble::Trouble;
 use bithrowy_front::source::{excerpt, Fault};
 use codespan_reporting::diagnostic::{Diagnostic, Label};
@@ -37,13 +37,21 @@ fn written(mut out: Buffer, trouble: &Trouble) -> String {
 
 fn write(out: &mut Buffer, trouble: &Trouble) -> Result<(), Error> {
     let config = Config { chars: Chars::ascii(), ..Config::default() };
-    let notes = trouble.help().into_iter().map(|help| format!("help: {}", visible(&help))).collect();
+    let notes = trouble.help().map(|help| note(&visible(&help))).into_iter().collect();
     let said = Diagnostic::error().with_message(visible(&trouble.message())).with_notes(notes);
     let (said, excerpt) = match trouble {
         Trouble::Fault(fault) => at_place(said, fault),
         _ => (said, Excerpt::default()),
     };
     emit(out, &config, &excerpt, &said)
+}
+
+/// The help, whose further lines begin below its first word.
+fn note(help: &str) -> String {
+    let start = "help: ";
+    let margin = " ".repeat(start.len());
+    let lines = help.lines().enumerate();
+    lines.map(|(number, line)| broken(if number == 0 { start } else { &margin }, start.len(), line)).collect()
 }
 
 fn at_place(said: Diagnostic<()>, fault: &Fault) -> (Diagnostic<()>, Excerpt) {

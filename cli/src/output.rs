@@ -5,6 +5,9 @@ use crate::trouble::Trouble;
 use bithrowy_front::source::visible_letter;
 use std::io::{self, ErrorKind, IsTerminal, Write};
 
+/// What is longer is broken into lines of about this many characters.
+const WIDTH: usize = 100;
+
 /// Writes text for people: control characters that came from files are replaced.
 pub fn text(text: &str) -> Result<(), Trouble> {
     bytes(visible(text).as_bytes())
@@ -37,4 +40,23 @@ pub fn visible(text: &str) -> String {
 /// Would a terminal obey or hide this character instead of showing it?
 pub fn is_obeyed(c: char) -> bool {
     c != '\n' && c != '\t' && visible_letter(c) != c
+}
+
+/// Words behind a start, broken into lines; all but the first begin behind a margin.
+pub fn broken(start: &str, margin: usize, words: &str) -> String {
+    let mut text = start.to_string();
+    let mut column = start.chars().count();
+    for (number, word) in words.split(' ').enumerate() {
+        let length = word.chars().count();
+        if number > 0 && column + 1 + length > WIDTH {
+            text += &format!("\n{:margin$}", "");
+            column = margin;
+        } else if number > 0 {
+            text.push(' ');
+            column += 1;
+        }
+        text += word;
+        column += length;
+    }
+    text + "\n"
 }

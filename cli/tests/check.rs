@@ -11,7 +11,7 @@ The formula holds in the initial state, open.
 
   holds in     3 states: open, closing, closed
   fails in     no state
-  work         4 rounds by the equation route, 4 by the direct one
+  rounds       4 by the equation route, 4 by the direct one
   transitions  3 records, 2 distinct
   price        5 cents
 
@@ -33,7 +33,7 @@ The formula fails in the initial state, state 0.
 
   holds in     1 state: state 2
   fails in     2 states: state 0, state 1
-  work         2 rounds by the equation route, 2 by the direct one
+  rounds       2 by the equation route, 2 by the direct one
   transitions  3 records, 3 distinct
   price        5 cents
 

@@ -83,6 +83,21 @@ fn long_lines_are_cut() {
     assert!(column('[').is_some() && column('[') == column('^'), "{}", ran.err);
 }
 
+/// A long help, here with the labels of a model, is broken into lines that begin below its first word.
+#[test]
+fn long_help_is_broken() {
+    let folder = Folder::new("fault-help");
+    let labels = ["keydown", "keyup", "focusin", "focusout", "pointerdown", "pointerup", "dragenter", "dragleave"];
+    let lines: String = labels.iter().map(|label| format!("(0, {label}, 0)\n")).collect();
+    folder.write("m.aut", format!("des (0, 8, 1)\n{lines}"));
+    let ran = folder.run(&["check", "m.aut", "-e", "[keydwon]false"]).expect_exit(2);
+    let help: Vec<&str> = ran.err.lines().skip_while(|line| !line.contains("= help: ")).collect();
+    assert!(help.len() > 1 && help[0].starts_with("  = help: "), "{}", ran.err);
+    assert!(help[1..].iter().all(|line| line.starts_with("          ") && !line.starts_with("           ")));
+    assert!(help.iter().all(|line| line.len() <= 104), "{}", ran.err);
+    assert!(labels.iter().all(|label| ran.err.contains(&format!("`{label}`"))), "{}", ran.err);
+}
+
 /// Numbers far beyond the limits are refused by each command, at once.
 #[test]
 fn enormous_numbers() {

@@ -49,8 +49,8 @@ fn comments(case: &CaseFile, table: &Table) -> String {
         amount::of(case.labels.len(), "label"),
     );
     text.push_str(match case.version {
-        1 => "% label3 is the label with number 3.\n",
-        _ => "% name3 is the name with number 3, and tau the silent step.\n",
+        1 => "% label0 is the label with number 0, and so on.\n",
+        _ => "% name1 is the name with number 1, and so on; tau is the silent step.\n",
     });
     if names_unknown_label(case, table) {
         text.push_str("% No transition has some of the labels below.\n% unknown labels: allow\n");

@@ -37,7 +37,7 @@ fn p1_as_text() {
     let texts = texts(&runs()[0].case.bytes()).unwrap();
     assert_eq!(texts.aut, "des (0, 3, 3)\n(0, \"label0\", 1)\n(0, \"label0\", 1)\n(1, \"label1\", 2)\n");
     let comment =
-        "% From a case file of version 1: 3 states, 3 transitions, 2 labels.\n% label3 is the label with number 3.\n";
+        "% From a case file of version 1: 3 states, 3 transitions, 2 labels.\n% label0 is the label with number 0, and so on.\n";
     assert_eq!(texts.mcf, format!("{comment}mu X0. [true] X0\n"));
 }
 
@@ -63,7 +63,7 @@ fn a_case_with_names_as_text() {
         comments,
         [
             "% From a case file of version 2: 2 states, 5 transitions, 6 labels.",
-            "% name3 is the name with number 3, and tau the silent step.",
+            "% name1 is the name with number 1, and so on; tau is the silent step.",
             "% No transition has some of the labels below.",
             "% unknown labels: allow"
         ]

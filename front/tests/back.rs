@@ -16,7 +16,7 @@ use bithrowy_tests::text::{case, named};
 use bithrowy_tests::{damage, rules, tables};
 
 /// Rounds that a random case may take; the few that take more are compared as spent.
-const LIMIT: u64 = 20_000;
+const LIMIT: u64 = 3_000;
 
 /// The case file that is read from texts. The flag is what the formula's directives say.
 fn read_again(texts: &Texts) -> Vec<u8> {

@@ -118,7 +118,7 @@ fn accepted_cases_have_equal_answers_as_text() {
 fn full_cases_have_equal_answers_as_text() {
     let mut random = Random::new(1807);
     let mut accepted = 0;
-    for _ in 0..40 {
+    for _ in 0..20 {
         let bytes = generate::case_of(&mut random, Size::Full).bytes();
         if read_case(&bytes).is_ok() {
             let texts = texts(&bytes).expect("an accepted case");
@@ -126,7 +126,7 @@ fn full_cases_have_equal_answers_as_text() {
             accepted += 1;
         }
     }
-    assert!(accepted > 20, "{accepted}");
+    assert!(accepted > 10, "{accepted}");
 }
 
 /// A chain of nodes of one operand, and a table in which left operands lie as deep as there is room.

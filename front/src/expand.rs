@@ -8,6 +8,7 @@
 
 mod actions;
 mod growth;
+mod literal;
 mod names;
 mod variables;
 mod writer;

@@ -2,6 +2,7 @@
 //! exhausts the stack.
 
 use super::actions::Actions;
+use super::literal::{self, Difference};
 use super::names::Names;
 use crate::formula::{Name, Regular, RegularFormula, State, StateFormula};
 use crate::source::{Source, Span};
@@ -16,7 +17,7 @@ pub(super) fn write(source: &Arc<Source>, formula: &StateFormula) -> Table {
     while let Some(work) = left.pop() {
         writer.goal(work, &mut left);
     }
-    writer.mark_renamed();
+    literal::mark(&mut writer.nodes, &writer.differences);
     Table::new(source.clone(), writer.nodes, writer.actions.nodes, writer.actions.labels)
 }
 
@@ -65,8 +66,8 @@ struct Scope<'a> {
 struct Writer<'a> {
     names: Names,
     nodes: Vec<Node>,
-    /// For each node, is it a binder with another name than in the formula, or such a binder's variable?
-    renamed: Vec<bool>,
+    /// For each node, how it differs from the text if it is a binder.
+    differences: Vec<Difference>,
     actions: Actions,
     scopes: Vec<Scope<'a>>,
     /// Goals behind modalities; one may be written several times.
@@ -75,8 +76,8 @@ struct Writer<'a> {
 
 impl<'a> Writer<'a> {
     fn new(names: Names) -> Writer<'a> {
-        let (nodes, renamed) = (Vec::new(), Vec::new());
-        Writer { names, nodes, renamed, actions: Actions::default(), scopes: Vec::new(), goals: Vec::new() }
+        let (nodes, differences) = (Vec::new(), Vec::new());
+        Writer { names, nodes, differences, actions: Actions::default(), scopes: Vec::new(), goals: Vec::new() }
     }
 
     /// Writes the first node of a goal, if it is one, and puts the rest on the list, the last part first.
@@ -136,7 +137,7 @@ impl<'a> Writer<'a> {
                 vec![Goal::Modality { must, steps, then, origin }]
             }
             State::Mu(name, body) | State::Nu(name, body) => {
-                let scope = self.binder(kind, name, scope, origin);
+                let scope = self.binder(kind, name, scope, origin, negated);
                 vec![Goal::State { formula: body, negated, scope, negation: None }]
             }
         }
@@ -189,12 +190,19 @@ impl<'a> Writer<'a> {
         rest
     }
 
-    fn binder(&mut self, kind: Kind, name: &'a Name, outer: Option<usize>, origin: Origin) -> Option<usize> {
+    fn binder(
+        &mut self,
+        kind: Kind,
+        name: &'a Name,
+        outer: Option<usize>,
+        origin: Origin,
+        dual: bool,
+    ) -> Option<usize> {
         let name = name.text.as_str();
         let around = self.scopes_from(outer).filter(|scope| scope.name == name).count();
         let own = self.names.own(name, around);
         let binder = self.node(kind, origin);
-        self.renamed[binder] = own != name;
+        self.differences[binder] = Difference { renamed: own != name, dual };
         self.nodes[binder].name = own;
         self.scopes.push(Scope { name, binder, outer });
         Some(self.scopes.len() - 1)
@@ -203,9 +211,7 @@ impl<'a> Writer<'a> {
     fn variable(&mut self, name: &str, scope: Option<usize>, origin: Origin) -> Vec<Goal<'a>> {
         let bound = self.scopes_from(scope).find(|scope| scope.name == name);
         let binder = bound.map_or(0, |scope| scope.binder);
-        let node = self.node(Kind::Variable(binder), origin);
-        self.renamed[node] = self.renamed[binder];
-        Vec::new()
+        self.last(Kind::Variable(binder), origin)
     }
 
     /// Writes a node behind which nothing of its goal is left.
@@ -229,21 +235,8 @@ impl<'a> Writer<'a> {
     fn node(&mut self, kind: Kind, origin: Origin) -> usize {
         let Origin { span, literal } = origin;
         self.nodes.push(Node { kind, name: String::new(), span, literal });
-        self.renamed.push(false);
+        self.differences.push(Difference::default());
         self.nodes.len() - 1
-    }
-
-    /// The text of a part in which a name was made different does not say what the nodes say.
-    fn mark_renamed(&mut self) {
-        let mut subtrees = Vec::new();
-        for (node, &own) in self.nodes.iter_mut().zip(&self.renamed).rev() {
-            let mut renamed = own;
-            for _ in 0..node.kind.operands() {
-                renamed |= subtrees.pop().unwrap_or(false);
-            }
-            node.literal &= !renamed;
-            subtrees.push(renamed);
-        }
     }
 }
 

@@ -1,7 +1,7 @@
 //! Parts that are shown by all that can happen: from some positions on the one who explains has nothing to choose, so the
-//! states that come are the whole proof.
+//! states that come are the whole proof. No loop among them counts against it: if one did, the other could go round in it
+//! for ever, and the part would not be as its value says.
 
-use super::cycles::on_cycles;
 use super::game::{Game, Position, Way};
 use super::graph::{reversed, shortest, Graph};
 use crate::table::Kind;
@@ -27,7 +27,7 @@ pub struct Regions {
     facts: Vec<Vec<Position>>,
     /// Where one of the two sides is taken since it is a fact.
     taken: Vec<bool>,
-    /// From which positions is there no choice ahead, and no loop of the wrong binder?
+    /// From which positions is there no choice ahead?
     proved: Vec<bool>,
 }
 
@@ -39,7 +39,7 @@ impl Regions {
             taken: vec![false; game.positions()],
             proved: Vec::new(),
         };
-        let mut broken = Vec::new();
+        let mut choices = Vec::new();
         for position in (0..game.positions()).filter(|&position| game.is_so(position)) {
             match next(game, position) {
                 Next::On { to, facts } => {
@@ -47,13 +47,12 @@ impl Regions {
                     regions.graph[position] = to;
                     regions.facts[position] = facts;
                 }
-                Next::Choice => broken.push(position),
+                Next::Choice => choices.push(position),
             }
         }
         let backward = reversed(&regions.graph);
-        broken.extend(wrong_loops(game, &regions.graph, &backward));
-        let reaches_broken = all_reached(&backward, broken);
-        regions.proved = (0..game.positions()).map(|at| game.is_so(at) && !reaches_broken[at]).collect();
+        let reaches_choice = all_reached(&backward, choices);
+        regions.proved = (0..game.positions()).map(|at| game.is_so(at) && !reaches_choice[at]).collect();
         regions
     }
 
@@ -116,16 +115,6 @@ fn own_sides(game: &Game, position: Position) -> Next {
         (None, &[to]) => only(to),
         _ => Next::Choice,
     }
-}
-
-/// The positions of binders of the wrong kind that lie on a loop which passes no binder further out.
-fn wrong_loops(game: &Game, graph: &Graph, backward: &Graph) -> Vec<Position> {
-    let of_binder = |binder: usize| {
-        let cyclic = on_cycles(graph, backward, &game.subtree(binder));
-        let first = game.position(binder, 0);
-        (first..first + game.model.states).filter(move |&at| cyclic[at]).collect::<Vec<_>>()
-    };
-    game.binders(false).into_iter().flat_map(of_binder).collect()
 }
 
 /// Which positions are reached from some of these?

@@ -95,6 +95,11 @@ impl<'a> Game<'a> {
         Claim { node: self.node(position), state: self.state(position), holds: self.holds }
     }
 
+    /// The positions of a node.
+    pub fn everywhere(&self, node: usize) -> Range<Position> {
+        self.position(node, 0)..self.position(node + 1, 0)
+    }
+
     /// The positions of a node's subtree.
     pub fn subtree(&self, node: usize) -> Range<Position> {
         self.position(node, 0)..self.position(self.table.end(node), 0)
@@ -119,11 +124,10 @@ impl<'a> Game<'a> {
         }
     }
 
-    /// The binders that are passed again and again as the one who explains wants: mu for a part that fails, nu for one
-    /// that holds. A loop is decided by the outermost binder that it passes.
-    pub fn binders(&self, wanted: bool) -> Vec<usize> {
-        let greatest = self.holds == wanted;
-        let kind = if greatest { Kind::Nu } else { Kind::Mu };
+    /// The binders that may come round for ever as the one who explains wants: mu for a part that fails, nu for one that
+    /// holds. A loop is decided by the outermost binder that it passes.
+    pub fn binders(&self) -> Vec<usize> {
+        let kind = if self.holds { Kind::Nu } else { Kind::Mu };
         (0..self.table.nodes.len()).filter(|&node| self.table.nodes[node].kind == kind).collect()
     }
 

@@ -79,7 +79,7 @@ impl Runs {
     /// Goes a way from a position, and says whether the run by it is shorter than what was known.
     fn shorten(&mut self, from: Position, way: &Way, most: usize) -> bool {
         let steps = self.steps[from].unwrap_or(0) + way.steps();
-        let better = steps <= most && self.steps[way.to].map_or(true, |before| steps < before);
+        let better = steps <= most && steps < self.steps[way.to].unwrap_or(usize::MAX);
         if better {
             self.steps[way.to] = Some(steps);
             self.last[way.to] = Some((from, *way));

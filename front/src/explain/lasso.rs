@@ -20,16 +20,14 @@ pub struct Lasso {
 pub fn shortest_lasso(game: &Game, graph: &Graph, runs: &Runs) -> Option<Lasso> {
     let backward = reversed(graph);
     let mut best: Option<Lasso> = None;
-    for binder in game.binders(true) {
+    for binder in game.binders() {
         let within = game.subtree(binder);
         let cyclic = on_cycles(graph, &backward, &within);
-        let first = game.position(binder, 0);
-        for through in first..first + game.model.states {
-            if cyclic[through] && runs.steps[through].is_some() {
-                let most = best.as_ref().map_or(usize::MAX, |lasso| lasso.steps);
-                let found = lasso_through(game, graph, &backward, runs, through, most);
-                best = found.filter(|lasso| lasso.steps < most).or(best);
-            }
+        let turns = game.everywhere(binder).filter(|&at| cyclic[at] && runs.steps[at].is_some());
+        for through in turns {
+            let most = best.as_ref().map_or(usize::MAX, |lasso| lasso.steps);
+            let found = lasso_through(game, graph, &backward, runs, through, most);
+            best = found.filter(|lasso| lasso.steps < most).or(best);
         }
     }
     best

@@ -31,7 +31,7 @@ impl Sentences<'_> {
             Ending::Loop { steps, binder } => self.in_a_loop(explanation, steps, *binder, indent),
             Ending::Constant => self.constant(explanation, indent),
             Ending::Sides(_) => self.sides(explanation, indent),
-            _ => self.to_part(explanation, &self.reasons.of(explanation), indent),
+            _ => self.run_to_part(explanation, &self.reasons.of(explanation), indent),
         }
         for fact in self.reasons.beside(explanation) {
             self.say(indent, &fact);
@@ -59,7 +59,7 @@ impl Sentences<'_> {
     }
 
     /// A run to a part, and why that part is as it is, the first reason in the same line.
-    fn to_part(&mut self, explanation: &Explanation, reasons: &[String], indent: &str) {
+    fn run_to_part(&mut self, explanation: &Explanation, reasons: &[String], indent: &str) {
         let end = self.words.spoken(&explanation.end);
         let first = reasons.first().map_or("", String::as_str);
         let why = match (explanation.run.is_empty(), end == explanation.claim) {
@@ -80,7 +80,7 @@ impl Sentences<'_> {
             2 => ", for two reasons:".to_string(),
             count => format!(", for {count} reasons:"),
         };
-        self.to_part(explanation, &[reasons], indent);
+        self.run_to_part(explanation, &[reasons], indent);
         let deeper = format!("{indent}  ");
         for side in sides {
             self.explanation(side, &deeper);
@@ -113,11 +113,11 @@ impl Sentences<'_> {
     fn in_a_loop(&mut self, explanation: &Explanation, steps: &[Step], binder: usize, indent: &str) {
         if steps.is_empty() {
             let reason = format!(": {}", self.reasons.only_by_itself(binder));
-            return self.to_part(explanation, &[reason], indent);
+            return self.run_to_part(explanation, &[reason], indent);
         }
         let first = match (explanation.run.is_empty(), self.words.is_only_run(explanation)) {
             (true, true) => ": the only run goes on for ever:",
-            (true, false) => ": this can go on for ever:",
+            (true, false) => ": it can go on like this for ever:",
             (false, _) => " from there on for ever:",
         };
         self.run_then(explanation, first, indent);

@@ -142,29 +142,33 @@ impl<'a> Words<'a> {
         claim
     }
 
-    /// The star whose variable a part is, or whose repeated part it is.
+    /// The star whose variable a part is, or one of whose two sides it is.
     fn star_of(&self, node: usize) -> Option<usize> {
+        let is_side = |binder: &usize| match self.kind(binder + 1) {
+            Kind::And | Kind::Or => self.operands(binder + 1).contains(&node),
+            _ => false,
+        };
         let star = match self.kind(node) {
             Kind::Variable(binder) => binder,
-            _ => self.free_binders(node).into_iter().rev().find(|&binder| self.operands(binder + 1).contains(&node))?,
+            _ => self.free_binders(node).into_iter().rev().find(is_side)?,
         };
         (!self.is_written(star)).then_some(star)
     }
 
-    /// Did somebody write the binder, or does it come of a star?
+    /// Did somebody write the binder as it is? Others come of a star, or stand below a negation.
     fn is_written(&self, binder: usize) -> bool {
-        let name = naming::name(self.table, binder).text;
-        name.starts_with("mu ") || name.starts_with("nu ")
+        let Name { text, negated } = naming::name(self.table, binder);
+        !negated && (text.starts_with("mu ") || text.starts_with("nu "))
     }
 
-    /// For variables that come of a star: what they stand for.
+    /// For variables of binders that nobody wrote: what they stand for.
     fn unwritten_variables(&self, node: usize) -> String {
-        let stars = self.free_binders(node).into_iter().filter(|&binder| !self.is_written(binder));
-        let stands = |star: usize| match naming::name(self.table, star) {
-            Name { text, negated: false } => format!("{} for `{text}`", self.variable(star)),
-            Name { text, negated: true } => format!("{} for the opposite of `{text}`", self.variable(star)),
+        let binders = self.free_binders(node).into_iter().filter(|&binder| !self.is_written(binder));
+        let stands = |binder: usize| match naming::name(self.table, binder) {
+            Name { text, negated: false } => format!("{} for `{text}`", self.variable(binder)),
+            Name { text, negated: true } => format!("{} for the opposite of `{text}`", self.variable(binder)),
         };
-        let told: Vec<String> = stars.map(stands).collect();
+        let told: Vec<String> = binders.map(stands).collect();
         if told.is_empty() {
             String::new()
         } else {

@@ -92,7 +92,8 @@ fn a_witness() {
 /// 3 come. There are two ways on from 2, so that no single run shows it, but all states that come do.
 #[test]
 fn a_run_to_where_nothing_helps() {
-    let model = "des (0, 6, 4)\n(0, click, 1)\n(1, close, 0)\n(1, hover, 2)\n(2, hover, 2)\n(2, leave, 3)\n(3, hover, 2)\n";
+    let model =
+        "des (0, 6, 4)\n(0, click, 1)\n(1, close, 0)\n(1, hover, 2)\n(2, hover, 2)\n(2, leave, 3)\n(3, hover, 2)\n";
     let told = tell(model, "0 open\n1 closing\n2 hovering\n3 left\n", "[true*]<true* . close>true");
     let ending = Ending::Closed { states: vec![2, 3], parts: vec![fails(4, 2), fails(4, 3)] };
     let lines = [
@@ -217,8 +218,7 @@ fn constants() {
 #[test]
 fn a_box_without_transitions() {
     let told = tell(HOVERING, DIALOG, "[close]false");
-    let lines =
-        ["`[close]false` holds in open: no transition from open is accepted by `close`; there are: click."];
+    let lines = ["`[close]false` holds in open: no transition from open is accepted by `close`; there are: click."];
     assert_told(&told, run(holds(0, 0), &[], holds(0, 0), Ending::NoTransition), &lines);
 }
 
@@ -288,4 +288,122 @@ fn a_long_list_is_cut() {
     let told = tell(&format!("des (0, 10, 1)\n{steps}"), "", "<z>true");
     let lines = ["`<z>true` fails in state 0: no transition from state 0 is accepted by `z`; there are: a, b, c, d, e, f, g, h and 2 more."];
     assert_told(&told, run(fails(0, 0), &[], fails(0, 0), Ending::NoTransition), &lines);
+}
+
+/// Nodes: nu 0, and 1, [blur] 2, false 3. What is forbidden is said as it was written, below the negation. Labels are
+/// alike in any order, and each is shown as the model has it.
+#[test]
+fn below_a_negation() {
+    let model = "des (0, 3, 3)\n(0, focus|blur, 1)\n(1, blur, 2)\n(2, focus, 1)\n";
+    let told = tell(model, "", "!<true* . blur>true");
+    let lines = [
+        "`!<true* . blur>true` fails in state 0:",
+        "  state 0 -- focus|blur --> state 1",
+        "  state 1 -- blur --> state 2",
+        "and the last step is one that `<blur>true` asks for.",
+    ];
+    assert_told(&told, run(fails(0, 0), &[0, 1], fails(3, 2), Ending::Constant), &lines);
+    let told = tell(model, "", "[blur|focus]false");
+    let lines = [
+        "`[blur|focus]false` fails in state 0:",
+        "  state 0 -- focus|blur --> state 1",
+        "and this step is one that it rules out.",
+    ];
+    assert_told(&told, run(fails(0, 0), &[0], fails(1, 1), Ending::Constant), &lines);
+}
+
+/// Nodes: or 0, [submit] 1, false 2, [!submit] 3, false 4. The left side of `=>` holds, the right side fails.
+#[test]
+fn an_implication() {
+    let told =
+        tell("des (0, 2, 2)\n(0, submit, 1)\n(0, input, 0)\n", "0 ready\n1 sent\n", "<submit>true => [!submit]false");
+    let first = run(fails(1, 0), &[0], fails(2, 1), Ending::Constant);
+    let second = run(fails(3, 0), &[1], fails(4, 0), Ending::Constant);
+    let lines = [
+        "`<submit>true => [!submit]false` fails in ready, for two reasons:",
+        "  `<submit>true` holds in ready:",
+        "    ready -- submit --> sent",
+        "  and this step is one that it asks for.",
+        "  `[!submit]false` fails in ready:",
+        "    ready -- input --> ready",
+        "  and this step is one that it rules out.",
+    ];
+    assert_told(&told, run(fails(0, 0), &[], fails(0, 0), Ending::Sides(vec![first, second])), &lines);
+}
+
+/// Nodes: and 0, <a> 1, true 2, and 3, [b] 4, false 5, true 6. The two sides of the inner `&&` are told beside the first.
+#[test]
+fn three_sides() {
+    let told = tell("des (0, 1, 1)\n(0, a, 0)\n", "", "<a>true && [b]false && true");
+    let inner = vec![
+        run(holds(4, 0), &[], holds(4, 0), Ending::NoTransition),
+        run(holds(6, 0), &[], holds(6, 0), Ending::Constant),
+    ];
+    let sides = vec![
+        run(holds(1, 0), &[0], holds(2, 0), Ending::Constant),
+        run(holds(3, 0), &[], holds(3, 0), Ending::Sides(inner)),
+    ];
+    let lines = [
+        "`<a>true && [b]false && true` holds in state 0, for 3 reasons:",
+        "  `<a>true` holds in state 0:",
+        "    state 0 -- a --> state 0",
+        "  and this step is one that it asks for.",
+        "  `[b]false` holds in state 0: no transition from state 0 is accepted by `b`; there are: a.",
+        "  `true` holds in state 0, as everywhere.",
+    ];
+    assert_told(&told, run(holds(0, 0), &[], holds(0, 0), Ending::Sides(sides)), &lines);
+}
+
+/// Nodes: mu 0, or 1, <close> 2, true 3, <true> 4, Z 5. Nobody wrote `<true>Z`, so at its end the star is spoken of.
+#[test]
+fn the_end_of_a_star() {
+    let told = tell(STUCK, TWO, "<true* . close>true");
+    let mut explanation = run(fails(0, 0), &[0], fails(4, 1), Ending::NoTransition);
+    explanation.beside = vec![fails(2, 0), fails(2, 1)];
+    let lines = [
+        "`<true* . close>true` fails in open, and this is the only run:",
+        "  open -- click --> closing",
+        "and there `<true* . close>true` fails: no transition leaves closing.",
+        "On the way `<close>true` fails in open, closing, too.",
+    ];
+    assert_told(&told, explanation, &lines);
+}
+
+/// Nodes: nu 0, or 1, <done> 2, true 3, [true] 4, X 5. All ways lead to a state with done, where nothing more is asked.
+#[test]
+fn facts_in_some_states() {
+    let model = "des (0, 4, 3)\n(0, a, 1)\n(0, b, 2)\n(1, done, 1)\n(2, done, 2)\n";
+    let told = tell(model, "", "nu X. <done>true || [true]X");
+    let ending = Ending::Closed { states: vec![0, 1, 2], parts: vec![holds(2, 1), holds(2, 2)] };
+    let lines = [
+        "`nu X. <done>true || [true]X` holds in state 0: whatever happens, only these states come: state 0, state 1, state 2.",
+        "`<done>true` holds in state 1, state 2.",
+    ];
+    assert_told(&told, run(holds(0, 0), &[], holds(0, 0), ending), &lines);
+}
+
+/// Nodes: or 0, nu 1, [a] 2, [c] 3, X 4, false 5. The left side of `=>` fails, so its variable stands for the opposite.
+#[test]
+fn a_variable_below_a_negation() {
+    let told = tell("des (0, 1, 2)\n(0, a, 1)\n", "", "(mu X. <a><c>X) => false");
+    let lines = [
+        "`(mu X. <a><c>X) => false` holds in state 0, and this is the only run:",
+        "  state 0 -- a --> state 1",
+        "and there `[c] X` (X for the opposite of `mu X. <a><c>X`) holds: no transition leaves state 1.",
+    ];
+    assert_told(&told, run(holds(0, 0), &[0], holds(3, 1), Ending::NoTransition), &lines);
+}
+
+/// A region that is not left by steps that are looked at, but by others.
+/// Nodes: nu 0, and 1, [a] 2, X 3, [c] 4, false 5. From 0 and 1 there are two ways by a; b leads out.
+#[test]
+fn only_by_some_transitions() {
+    let model = "des (0, 5, 3)\n(0, a, 0)\n(0, a, 1)\n(1, a, 0)\n(1, a, 1)\n(1, b, 2)\n";
+    let told = tell(model, "", "nu X. [a]X && [c]false");
+    let ending = Ending::Closed { states: vec![0, 1], parts: vec![holds(4, 0), holds(4, 1)] };
+    let lines = [
+        "`nu X. [a]X && [c]false` holds in state 0: by transitions that `a` accepts only these states come: state 0, state 1.",
+        "In each of them `[c]false` holds.",
+    ];
+    assert_told(&told, run(holds(0, 0), &[], holds(0, 0), ending), &lines);
 }

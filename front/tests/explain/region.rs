@@ -5,7 +5,8 @@ use crate::rules::{accepted, others_choice, right_binder};
 use crate::truth::{is_closed, Truths};
 use bithrowy_front::explain::Claim;
 use bithrowy_tests::formats::*;
-use std::collections::{BTreeMap, BTreeSet};
+use std::collections::btree_map::{BTreeMap, Entry};
+use std::collections::BTreeSet;
 
 /// A part in a state.
 type Pair = (usize, usize);
@@ -22,10 +23,9 @@ pub fn check(case: &Case, end: &Claim, states: &[usize], parts: &[Claim]) -> Res
     let mut waiting = vec![(end.node, end.state)];
     let mut truths = Truths::of(case);
     while let Some(pair) = waiting.pop() {
-        if !pairs.contains_key(&pair) {
-            let next = next(case, &mut truths, pair, end.holds)?;
+        if let Entry::Vacant(new) = pairs.entry(pair) {
+            let next = new.insert(next(case, &mut truths, pair, end.holds)?);
             waiting.extend(&next.on);
-            pairs.insert(pair, next);
         }
     }
     let came: BTreeSet<usize> = pairs.keys().map(|pair| pair.1).collect();

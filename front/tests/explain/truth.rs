@@ -23,7 +23,8 @@ impl<'a> Truths<'a> {
     pub fn holds(&mut self, node: usize, state: usize) -> Option<bool> {
         let case = self.case;
         self.asked += 1;
-        let states = self.known.entry(node).or_insert_with(|| closed_part(case, node).map(|part| states_by_game(&part)));
+        let states =
+            self.known.entry(node).or_insert_with(|| closed_part(case, node).map(|part| states_by_game(&part)));
         states.as_ref().map(|states| states[state])
     }
 }

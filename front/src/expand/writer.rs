@@ -80,31 +80,24 @@ impl<'a> Writer<'a> {
         Writer { names, nodes, differences, actions: Actions::default(), scopes: Vec::new(), goals: Vec::new() }
     }
 
-    /// Writes the first node of a goal, if it is one, and puts the rest on the list, the last part first.
+    /// Writes the first node of a goal, if that is one, and puts the rest on the list, the last part first.
     fn goal(&mut self, work: Work<'a>, left: &mut Vec<Work<'a>>) {
-        let stars = work.stars;
-        match work.goal {
+        let (rest, stars) = match work.goal {
             Goal::State { formula, negated, scope, negation } => {
                 let origin = match negation {
                     Some(span) => Origin { span, literal: true },
                     None => Origin { span: formula.span, literal: !negated },
                 };
-                let rest = self.state(formula, negated, scope, origin);
-                left.extend(rest.into_iter().rev().map(|goal| Work { goal, stars }));
+                (self.state(formula, negated, scope, origin), work.stars)
             }
-            Goal::Modality { must, steps, then, origin } => {
-                let rest = self.modality(must, steps, then, origin);
-                left.extend(rest.into_iter().rev().map(|goal| Work { goal, stars }));
-            }
+            Goal::Modality { must, steps, then, origin } => (self.modality(must, steps, then, origin), work.stars),
             Goal::Star { must, repeated, then, origin } => {
-                let name = self.names.star(stars);
-                let rest = self.star(name, must, repeated, then, origin);
-                left.extend(rest.into_iter().rev().map(|goal| Work { goal, stars: stars + 1 }));
+                let name = self.names.star(work.stars);
+                (self.star(name, must, repeated, then, origin), work.stars + 1)
             }
-            Goal::Variable { binder, origin } => {
-                self.last(Kind::Variable(binder), origin);
-            }
-        }
+            Goal::Variable { binder, origin } => (self.last(Kind::Variable(binder), origin), work.stars),
+        };
+        left.extend(rest.into_iter().rev().map(|goal| Work { goal, stars }));
     }
 
     fn state(

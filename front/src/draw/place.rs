@@ -85,7 +85,7 @@ fn rising(wishes: &[(f64, f64)]) -> Vec<f64> {
         }
         groups.push(group);
     }
-    groups.iter().flat_map(|&(mean, _, count)| std::iter::repeat(mean).take(count)).collect()
+    groups.iter().flat_map(|&(mean, _, count)| vec![mean; count]).collect()
 }
 
 /// Sets the rows one below the other, each as high as its highest item.

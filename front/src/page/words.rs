@@ -81,16 +81,15 @@ fn code(text: &str) -> Element {
 
 /// A text in which formulas stand between backquotes.
 pub(super) fn with_code(element: Element, text: &str) -> Element {
-    let pieces: Vec<&str> = text.split('`').collect();
-    if pieces.len() % 2 == 0 {
+    if text.matches('`').count() % 2 == 1 {
         return element.text(text);
     }
-    let add = |element: Element, (place, piece): (usize, &&str)| {
+    let add = |element: Element, (place, piece): (usize, &str)| {
         if place % 2 == 0 {
             element.text(piece)
         } else {
             element.child(code(piece))
         }
     };
-    pieces.iter().enumerate().fold(element, add)
+    text.split('`').enumerate().fold(element, add)
 }

@@ -2,7 +2,7 @@
 
 mod support;
 
-use support::{Folder, DIALOG};
+use support::{Folder, DIALOG, NO_TERMINAL};
 
 /// The paper's P1 as a case file, in 16-bit numbers.
 const CASE: [u16; 27] = [
@@ -38,6 +38,19 @@ fn text_to_a_case_file() {
     assert_eq!(ran.out.as_bytes(), case());
     folder.run_with(&["convert", "-", "ends.mcf", "-o", "again.bin"], DIALOG.as_bytes()).expect_exit(0);
     assert_eq!(folder.bytes("again.bin"), case());
+}
+
+/// Bytes would garble a terminal, and text from a file might steer it.
+#[test]
+fn on_a_terminal() {
+    let folder = Folder::with_dialog("convert-terminal");
+    let Some(refused) = folder.on_terminal("convert dialog.aut ends.mcf", &[("NO_COLOR", "1")]) else {
+        println!("{NO_TERMINAL}");
+        return;
+    };
+    assert!(refused.starts_with("error: a case file is not text, and a terminal cannot show it"), "{refused:?}");
+    folder.write("escape.aut", "des (0, 1, 2)\n(0, \"a\u{1b}[31m\", 1)\n");
+    assert!(folder.on_terminal("draw escape.aut", &[]).is_some_and(|shown| !shown.contains('\u{1b}')));
 }
 
 #[test]

@@ -3,8 +3,8 @@
 mod support;
 
 use serde_json::json;
-use std::process::{Command, Stdio};
-use support::{finished, Folder, DIALOG, PROGRAM};
+use std::process::Stdio;
+use support::{Folder, DIALOG, NO_TERMINAL};
 
 #[test]
 fn a_broken_formula() {
@@ -213,9 +213,9 @@ fn a_bar_on_a_terminal_only() {
     folder.write("bar.mcf", "% models: dialog.aut\ntrue\n");
     let piped = folder.run(&["test", "bar.mcf"]).expect_exit(0);
     assert!(piped.err.is_empty() && !piped.out.contains('\u{1b}'), "{piped:?}");
-    match on_terminal(&folder, "test bar.mcf", &[]) {
+    match folder.on_terminal("test bar.mcf", &[]) {
         Some(shown) => assert!(shown.contains("1 of 1") && shown.contains('\u{1b}'), "{shown:?}"),
-        None => println!("not tested: the program `script` is not here, or it is another one"),
+        None => println!("{NO_TERMINAL}"),
     }
 }
 
@@ -224,21 +224,12 @@ fn a_bar_on_a_terminal_only() {
 fn colours_on_a_terminal_only() {
     let folder = Folder::with_dialog("fault-colours");
     let wrong = "check nothing.aut ends.mcf";
-    let Some(plain) = on_terminal(&folder, wrong, &[("NO_COLOR", "1")]) else {
-        println!("not tested: the program `script` is not here, or it is another one");
+    let Some(plain) = folder.on_terminal(wrong, &[("NO_COLOR", "1")]) else {
+        println!("{NO_TERMINAL}");
         return;
     };
-    let coloured = on_terminal(&folder, wrong, &[]).expect("it was here before");
+    let coloured = folder.on_terminal(wrong, &[]).expect("it was here before");
     assert!(plain.contains("error: nothing.aut cannot be read"), "{plain:?}");
     assert!(!plain.contains('\u{1b}'), "{plain:?}");
     assert!(coloured.contains("\u{1b}["), "{coloured:?}");
-}
-
-fn on_terminal(folder: &Folder, arguments: &str, variables: &[(&str, &str)]) -> Option<String> {
-    let line = format!("'{PROGRAM}' {arguments}");
-    let mut command = Command::new("script");
-    command.args(["-qec", &line, "/dev/null"]).current_dir(folder.path("")).env_remove("NO_COLOR").env("TERM", "xterm");
-    command.envs(variables.iter().copied()).stdin(Stdio::null());
-    let is_here = Command::new("script").arg("--version").output().is_ok_and(|output| output.status.success());
-    is_here.then(|| finished(&mut command).out)
 }

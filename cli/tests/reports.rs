@@ -53,6 +53,43 @@ fn json_report() {
     assert_eq!((&checks[2]["answer"], &checks[2]["fault"]["file"]), (&Value::Null, &json!("./b.mcf")));
 }
 
+/// The fields that docs/REPORTS.md names in a section: those in backticks in the first column of its table.
+fn documented(section: &str) -> Vec<&'static str> {
+    let page = include_str!("../../docs/REPORTS.md");
+    let (_, rest) = page.split_once(&format!("## {section}\n")).expect("the section is there");
+    let section = rest.split("\n## ").next().unwrap_or_default();
+    let rows = section.lines().filter_map(|line| line.strip_prefix("| `")?.split(" | ").next());
+    let mut fields: Vec<&str> = rows.flat_map(|cell| cell.trim_end_matches('`').split("`, `")).collect();
+    fields.sort();
+    fields
+}
+
+fn fields(object: &Value) -> Vec<&str> {
+    let mut fields: Vec<&str> = object.as_object().expect("it is an object").keys().map(String::as_str).collect();
+    fields.sort();
+    fields
+}
+
+#[test]
+fn the_page_about_reports_names_all_fields() {
+    let folder = suite("report-fields");
+    folder.run(&["test", ".", "--json", "report.json"]).expect_exit(2);
+    let report: Value = serde_json::from_str(&folder.read("report.json")).expect("it is JSON");
+    assert_eq!(fields(&report), documented("Test"));
+    assert_eq!(fields(&report["summary"]), documented("Summary"));
+    assert_eq!(fields(&report["checks"][0]), documented("One of the checks"));
+    assert_eq!(fields(&report["checks"][0]["answer"]), documented("Answer"));
+    assert_eq!(fields(&report["checks"][0]["answer"]["states"][0]), documented("State"));
+    assert_eq!(fields(&report["checks"][2]["fault"]), documented("Fault"));
+    let checked = folder.run(&["check", "dialog.aut", "-e", "true", "--json"]).expect_exit(0).json();
+    let mut expected = [documented("Answer"), documented("Check")].concat();
+    expected.sort();
+    assert_eq!(fields(&checked), expected);
+    let faulty = folder.run(&["check", "nothing.aut", "-e", "true", "--json"]).expect_exit(2).json();
+    assert_eq!(fields(&faulty), documented("Check"));
+    assert_eq!(fields(&faulty["faults"][0]), ["differ", "help", "message"]);
+}
+
 #[test]
 fn junit() {
     let folder = suite("report-junit");

@@ -39,7 +39,7 @@ pub fn collect(paths: &[PathBuf], filter: Option<&str>) -> Result<Vec<Planned>, 
             planned.extend(of_formula(&file));
         }
     }
-    planned.retain(|check: &Planned| filter.is_none_or(|text| check.mentions(text)));
+    planned.retain(|check: &Planned| filter.iter().all(|text| check.mentions(text)));
     if planned.is_empty() {
         return Err(nothing(paths, filter));
     }

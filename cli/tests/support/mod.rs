@@ -21,6 +21,9 @@ pub const HOVER: &str = "des (0, 3, 3)\n(0, click, 1)\n(1, hover, 1)\n(1, close,
 /// Does every run end?
 pub const ENDS: &str = "mu X. [true] X\n";
 
+/// What a test says that needs a terminal and has none.
+pub const NO_TERMINAL: &str = "not tested: the program `script` is not here, or it is another one";
+
 /// A folder for files, which is removed in the end.
 pub struct Folder(PathBuf);
 
@@ -87,6 +90,16 @@ impl Folder {
         child.stdin.take().expect("it has an input").write_all(input).expect("it reads");
         let output = child.wait_with_output().expect("it ends");
         Ran { exit: output.status.code(), out: text(output.stdout), err: text(output.stderr) }
+    }
+
+    /// What a run prints on a terminal, with these variables set; nothing where `script`, which plays the terminal, is not here.
+    pub fn on_terminal(&self, arguments: &str, variables: &[(&str, &str)]) -> Option<String> {
+        let line = format!("'{PROGRAM}' {arguments}");
+        let mut command = Command::new("script");
+        command.args(["-qec", &line, "/dev/null"]).current_dir(&self.0).env_remove("NO_COLOR").env("TERM", "xterm");
+        command.envs(variables.iter().copied()).stdin(Stdio::null());
+        let is_here = Command::new("script").arg("--version").output().is_ok_and(|output| output.status.success());
+        is_here.then(|| finished(&mut command).out)
     }
 }
 

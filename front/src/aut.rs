@@ -5,6 +5,7 @@ use crate::label::Label;
 use crate::limits;
 use crate::line::{lines, Line, NoNumber};
 use crate::model::{Model, Transition};
+use crate::quoted;
 use crate::source::{shown, Fault, Source, Span};
 use std::collections::{BTreeMap, HashMap};
 use std::fmt::Write;
@@ -13,6 +14,7 @@ use std::sync::Arc;
 const ABOUT_HEADER: &str =
     "begin with des (0, 1, 2): the initial state, how many transitions follow, how many states there are";
 const ABOUT_TRANSITION: &str = "write (0, \"click\", 1): from state 0, by click, to state 1";
+const ABOUT_BACKSLASH: &str = "write \\\\ for one backslash, or leave the quotes of the label out";
 const ABOUT_STATES: &str = "states are numbered from 0; a .names file gives them names";
 const ABOUT_LARGE: &str = "write a smaller number";
 
@@ -182,59 +184,16 @@ fn state(source: &Arc<Source>, line: &mut Line, missing: &str) -> Result<usize, 
 
 /// Reads a label, in quotes or bare.
 fn read_label(source: &Arc<Source>, line: &mut Line, silent: &str) -> Result<Label, Fault> {
-    let (text, span) = match line.rest().strip_prefix('"') {
-        Some(quoted) => {
-            let (text, length) = unquote(quoted).map_err(|problem| problem.fault(source, line.rest_span()))?;
-            (text, line.take(length + 1))
+    let (text, span) = match line.rest().starts_with('"') {
+        true => {
+            let (text, length) = quoted::read(source, line.rest_span().start, ABOUT_BACKSLASH)?;
+            (text, line.take(length))
         }
-        None => bare(source, line)?,
+        false => bare(source, line)?,
     };
     Label::read(&text, silent).map_err(|message| {
         Fault::new(source, span, message).with_help("write a name, such as click, or several, such as focus|blur")
     })
-}
-
-/// Why a text that begins with a quote is no label.
-enum Unquoted {
-    /// The quote that ends it is missing.
-    Open,
-    /// A backslash, so many bytes behind the quote, stands before neither a quote nor a backslash.
-    Backslash(usize),
-}
-
-/// The label that stands before the next quote, and how long it is with that quote.
-fn unquote(text: &str) -> Result<(String, usize), Unquoted> {
-    let mut label = String::new();
-    let mut letters = text.char_indices();
-    while let Some((at, letter)) = letters.next() {
-        match letter {
-            '"' => return Ok((label, at + 1)),
-            '\\' => match letters.next() {
-                Some((_, escaped @ ('"' | '\\'))) => label.push(escaped),
-                _ => return Err(Unquoted::Backslash(at)),
-            },
-            _ => label.push(letter),
-        }
-    }
-    Err(Unquoted::Open)
-}
-
-impl Unquoted {
-    /// The fault, where `rest` begins at the quote.
-    fn fault(self, source: &Arc<Source>, rest: Span) -> Fault {
-        match self {
-            Unquoted::Open => {
-                let message = "the label begins with a quote, and no quote ends it";
-                Fault::new(source, rest, message).with_help("write \"click\"; inside a label, \\\" stands for a quote")
-            }
-            Unquoted::Backslash(at) => {
-                let start = rest.start + 1 + at;
-                let message = "a backslash in quotes stands before a quote or a backslash";
-                Fault::new(source, Span::new(start, start + 1), message)
-                    .with_help("write \\\\ for one backslash, or leave the quotes of the label out")
-            }
-        }
-    }
 }
 
 /// The text up to the last comma of the line.

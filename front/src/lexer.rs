@@ -93,7 +93,7 @@ fn word(source: &Arc<Source>, at: usize) -> Result<(Word, usize), Fault> {
     let rest = &source.text[at..];
     let Some(first) = rest.chars().next() else { return Ok((Word::End, 0)) };
     if first == '"' {
-        let (text, length) = quoted::read(source, at)?;
+        let (text, length) = quoted::read(source, at, "write \\\\ for one backslash")?;
         return Ok((Word::Quoted(text), length));
     }
     if label::begins_name(first) {

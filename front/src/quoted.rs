@@ -3,8 +3,9 @@
 use crate::source::{Fault, Source, Span};
 use std::sync::Arc;
 
-/// The label in the quotes that begin at an offset, and how many bytes it has with them.
-pub(crate) fn read(source: &Arc<Source>, at: usize) -> Result<(String, usize), Fault> {
+/// The label in the quotes that begin at an offset, and how many bytes it has with them. The advice is what to do about a
+/// backslash before another character.
+pub(crate) fn read(source: &Arc<Source>, at: usize, advice: &str) -> Result<(String, usize), Fault> {
     let inside = at + 1;
     let line = source.text[inside..].lines().next().unwrap_or("");
     let mut label = String::new();
@@ -14,7 +15,7 @@ pub(crate) fn read(source: &Arc<Source>, at: usize) -> Result<(String, usize), F
             '"' => return Ok((label, inside + offset + 1 - at)),
             '\\' => match letters.next() {
                 Some((_, escaped @ ('"' | '\\'))) => label.push(escaped),
-                _ => return Err(stray_backslash(source, inside + offset)),
+                _ => return Err(stray_backslash(source, inside + offset).with_help(advice)),
             },
             _ => label.push(letter),
         }
@@ -26,5 +27,5 @@ pub(crate) fn read(source: &Arc<Source>, at: usize) -> Result<(String, usize), F
 
 fn stray_backslash(source: &Arc<Source>, at: usize) -> Fault {
     let message = "a backslash in quotes stands before a quote or a backslash";
-    Fault::new(source, Span::new(at, at + 1), message).with_help("write \\\\ for one backslash")
+    Fault::new(source, Span::new(at, at + 1), message)
 }

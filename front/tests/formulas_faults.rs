@@ -112,6 +112,18 @@ fn lines() {
     assert_eq!(fault(text).to_string(), expected);
 }
 
+/// What stands before a bracket that is expected may lack an operator, and what stands behind a formula a `;` of a
+/// specification.
+#[test]
+fn operators_that_are_missing() {
+    let help = "the \"(\" in line 1, column 1 needs its \")\", or an operator is missing before \"[\"";
+    says("([a]true [b]true)", 10, "expected \")\" after \"true\", found \"[\"", 1, help);
+    let help = "the \"[\" in line 1, column 1 needs its \"]\", or an operator is missing before \"(\"";
+    says("[a*(b)] true", 4, "expected \"]\" after \"*\", found \"(\"", 1, help);
+    let message = "expected \"&&\", \"||\", \"=>\" or the end of the text after \"true\", found \";\"";
+    says("true;", 5, message, 1, "leave it out: a file has one formula, and no sign ends it");
+}
+
 #[test]
 fn steps_where_labels_are_needed() {
     says("[!(a.b)] true", 4, "`a.b` takes two steps; `!` stands before a single step's labels", 3, STEPS);
@@ -133,7 +145,7 @@ fn steps_where_labels_are_needed() {
 }
 
 #[test]
-fn what_is_not_supported() {
+fn quantifiers_and_data() {
     says(
         "forall n: Nat. X",
         1,
@@ -165,6 +177,10 @@ fn what_is_not_supported() {
         "the whole label stands in quotes: \"a(1, b)\"",
     );
     says("X(1)", 2, "\"X\" has parameters: data are not supported", 1, "write a variable of its own for each value");
+}
+
+#[test]
+fn time_and_specifications() {
     says("<a@3> true", 3, "\"@\" gives a time: time is not supported", 1, "leave \"@\" and the time out");
     says("delay", 1, "\"delay\" is about time: time is not supported", 5, "a label of this name stands in quotes");
     says("yaled@1", 1, "\"yaled\" is about time: time is not supported", 5, "a label of this name stands in quotes");
@@ -269,7 +285,7 @@ fn variables() {
         14,
         "no mu or nu around it binds `Y`",
         1,
-        "write mu Y. or nu Y. before the formula that it stands for",
+        "write mu Y. or nu Y. before the formula that it stands for; for \"a step Y is possible\" write <Y>true",
     );
     let help =
         "each \"!\" and each left side of \"=>\" between nu X and this X is a negation, and their number has to be \

@@ -1,7 +1,6 @@
 //! Each variable stands inside a binder of its name, with an even number of negations between them.
 
 use crate::formula::{Name, State, StateFormula};
-use crate::label;
 use crate::lexer;
 use crate::source::{shown, Fault, Source, Span};
 use crate::suggest;
@@ -65,16 +64,17 @@ impl<'a> Check<'a> {
         self.fault(span, message).with_help(self.instead_of(name))
     }
 
-    /// What may have been meant by a variable that nothing binds.
+    /// What may have been meant by a variable that nothing binds. Variables are mostly capitals, labels are not.
     fn instead_of(&self, name: &str) -> String {
         let bound = self.around.iter().rev().map(|binder| binder.name.text.as_str());
         if let Some(near) = suggest::nearest(name, bound.chain(["true", "false"])) {
             return format!("did you mean `{}`?", shown(near));
         }
         let name = shown(name);
-        match looks_like_label(&name) {
-            true => format!("for \"a step {name} is possible\" write <{name}>true"),
-            false => format!("write mu {name}. or nu {name}. before the formula that it stands for"),
+        let label = format!("for \"a step {name} is possible\" write <{name}>true");
+        match name.starts_with(char::is_uppercase) {
+            true => format!("write mu {name}. or nu {name}. before the formula that it stands for; {label}"),
+            false => label,
         }
     }
 
@@ -92,9 +92,4 @@ impl<'a> Check<'a> {
     fn fault(&self, variable: Span, message: String) -> Fault {
         Fault::new(self.source, lexer::unbracketed(self.source, variable), message)
     }
-}
-
-/// Variables are mostly capitals, labels are not.
-fn looks_like_label(name: &str) -> bool {
-    label::is_bare(name) && !name.starts_with(char::is_uppercase)
 }

@@ -112,8 +112,12 @@ impl<'a> Cursor<'a> {
         let bracket = self.source.slice(opening);
         let mut help =
             format!("the \"{bracket}\" in line {}, column {} needs its \"{sign}\"", place.line, place.column);
-        if matches!(self.word(), Word::Name(_) | Word::Other(_)) && bracket != "(" {
-            help.push_str("; a label with blanks or other signs in it stands in quotes");
+        match self.word() {
+            Word::End | Word::Sign(")" | "]" | ">") => {}
+            Word::Name(_) | Word::Other(_) if bracket != "(" => {
+                help.push_str("; a label with blanks or other signs in it stands in quotes");
+            }
+            _ => help.push_str(&format!(", or an operator is missing before {}", self.found())),
         }
         self.expected(&format!("\"{sign}\""), self.last(), &help)
     }

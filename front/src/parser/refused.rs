@@ -122,6 +122,7 @@ pub(super) fn behind_formula(cursor: &Cursor) -> Fault {
         Word::Sign("]") => not_open("["),
         Word::Sign(">") => not_open("<"),
         Word::Sign("|") => "did you mean \"||\"?".to_string(),
+        Word::Other(';') => "leave it out: a file has one formula, and no sign ends it".to_string(),
         Word::Name(name) => match NAMES.iter().find(|(other, _)| other == name) {
             Some((_, meant)) => format!("did you mean \"{meant}\"?"),
             None => TWO_FORMULAS.to_string(),

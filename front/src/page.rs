@@ -18,7 +18,7 @@ const STYLE: &str = include_str!("page/page.css");
 const SCRIPT: &str = include_str!("page/page.js");
 
 /// The SHA-256 of the style and of the script. They change with each change of these files; a test says to what.
-const STYLE_HASH: &str = "sha256-DTcfA8i+sCwvLtWkYBiWAL8d1uLmuRBJQ+s/xzcuLn4=";
+const STYLE_HASH: &str = "sha256-KPaiSI8a/aphEPB5dm/0cs+TJ3GpyCh04FXDxaUs4b0=";
 const SCRIPT_HASH: &str = "sha256-vl8xyNeyUcGjerg3OQBbPZhixzvQDoGKa6lwYRE3siQ=";
 
 /// The page. A click on a part of the formula fills and ticks the states where that part holds.

@@ -213,6 +213,17 @@ fn grounds(root: &Element) -> Vec<Area> {
     root.all("g", "label").iter().flat_map(|label| label.all("rect", "ground")).map(Area::of).collect()
 }
 
+/// Where the lines of loops' labels stand at least, if letters are wider than a third of their size; they have no grounds.
+fn loop_labels(root: &Element) -> Vec<Area> {
+    let lines = root.all("g", "label").into_iter().filter(|label| label.all("rect", "ground").is_empty());
+    let line = |line: &Element| {
+        let (left, bottom) = (line.number("x"), line.number("y"));
+        let wide = line.text.chars().count() as f64 * 12.0 / 3.0;
+        Area { left, top: bottom - 9.0, right: left + wide, bottom }
+    };
+    lines.flat_map(|label| label.all("tspan", "")).map(line).collect()
+}
+
 /// The first and the last point of a path.
 fn ends(path: &Element) -> ((f64, f64), (f64, f64)) {
     let data = path.attribute("d").replace(['M', 'C', 'L'], "");
@@ -236,7 +247,7 @@ const ROUNDED: f64 = 0.11;
 fn check_places(model: &Model) {
     let root = xml::read(&svg(model, None));
     let (boxes, grounds) = (boxes(&root), grounds(&root));
-    let all: Vec<Area> = boxes.iter().chain(&grounds).copied().collect();
+    let all: Vec<Area> = boxes.iter().chain(&grounds).copied().chain(loop_labels(&root)).collect();
     assert_eq!(boxes.len(), model.states);
     for (place, area) in all.iter().enumerate() {
         assert!(all[..place].iter().all(|other| !area.meets(other)), "{area:?} is on another one");

@@ -135,6 +135,8 @@ fn make_trials() -> Vec<Trial> {
         let model = random_model(&mut random, states, transitions, &labels);
         trials.extend(FORMULAS.map(|formula| Trial::new(&model, formula, "A model", &[])));
     }
+    let largest = random_model(&mut random, 256, 2048, &labels);
+    trials.push(Trial::new(&largest, "nu X. [click]X && <true>true", "The largest model", &[]));
     while trials.len() < 60 {
         let bytes = generate::case(&mut random).bytes();
         let Ok(texts) = texts(&bytes) else { continue };
@@ -208,7 +210,7 @@ fn sentences_by_hand() {
     };
     assert_eq!(text("h1", ""), ["Close is possible"]);
     assert_eq!(text("p", "verdict"), ["✗ The formula fails in the initial state, closed."]);
-    assert_eq!(text("p", "")[0], "Of 2 states that can be reached, it holds in 1.");
+    assert_eq!(text("p", "")[0], "It holds in 1 of the 2 states that can be reached.");
     let says = &body.all("div", "says")[0].whole_text;
     assert_eq!(
         says.trim().lines().collect::<Vec<&str>>(),

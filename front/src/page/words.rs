@@ -23,7 +23,11 @@ pub(super) fn verdict(model: &Model, answer: &Checked) -> Element {
 /// In how many of the states that can be reached the formula holds.
 pub(super) fn count(answer: &Checked) -> Element {
     let reached = answer.reached.iter().filter(|&&reached| reached).count();
-    let words = format!("Of {} that can be reached, it holds in {}.", of(reached, "state"), answer.count);
+    let words = match (reached, answer.count) {
+        (1, _) => "No other state can be reached.".to_string(),
+        (_, 0) => format!("It holds in none of the {reached} states that can be reached."),
+        (_, count) => format!("It holds in {count} of the {reached} states that can be reached."),
+    };
     Element::new("p").text(&words)
 }
 
@@ -44,7 +48,8 @@ fn part(model: &Model, answer: &Checked, node: usize) -> Element {
         .text(&share(holding.len(), values.len()));
     let mut separator = ": ";
     for state in holding {
-        sentence = sentence.text(separator).child(name(model, state));
+        let unreached = (answer.reached.get(state) != Some(&true)).then_some("unreached");
+        sentence = sentence.text(separator).child(name(model, state).with_some("class", unreached));
         separator = ", ";
     }
     sentence.text(".").lines(about_variables(answer, node))

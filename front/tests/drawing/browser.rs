@@ -4,7 +4,7 @@ use super::programs::{installed, note, run};
 use std::path::{Path, PathBuf};
 use std::process::Command;
 
-/// Browsers that can print the document as it is after its scripts have run.
+/// Browsers that can print the document as it is after its scripts have run, which Firefox cannot.
 const BROWSERS: [&str; 4] = ["chromium", "chromium-browser", "google-chrome", "google-chrome-stable"];
 
 const SCRIPT: &str = include_str!("browser.js");

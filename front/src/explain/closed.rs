@@ -21,6 +21,15 @@ pub struct Region {
     pub facts: Vec<Position>,
 }
 
+impl Region {
+    /// Does each state have a fact other than `true` or `false`?
+    pub fn has_facts_everywhere(&self, game: &Game) -> bool {
+        let facts = self.facts.iter().filter(|&&fact| !matches!(game.kind(fact), Kind::False | Kind::True));
+        let states: BTreeSet<usize> = facts.map(|&fact| game.state(fact)).collect();
+        self.states.iter().all(|state| states.contains(state))
+    }
+}
+
 /// The part of the game in which the one who explains has nothing to choose.
 pub struct Regions {
     graph: Graph,
@@ -74,14 +83,12 @@ impl Regions {
         false
     }
 
-    /// What can come from a position, the nearest states first.
+    /// What can come from a position, in the order of the states' numbers.
     pub fn from(&self, game: &Game, position: Position) -> Region {
         let order = shortest(&self.graph, position, &(0..game.positions()), usize::MAX).order;
-        let mut seen = BTreeSet::new();
-        let states = order.iter().map(|&at| game.state(at)).filter(|&state| seen.insert(state)).collect();
-        let mut seen = BTreeSet::new();
-        let facts = order.iter().flat_map(|&at| self.facts[at].iter().copied());
-        Region { states, facts: facts.filter(|&fact| seen.insert(fact)).collect() }
+        let states: BTreeSet<usize> = order.iter().map(|&at| game.state(at)).collect();
+        let facts: BTreeSet<Position> = order.iter().flat_map(|&at| self.facts[at].iter().copied()).collect();
+        Region { states: states.into_iter().collect(), facts: facts.into_iter().collect() }
     }
 }
 

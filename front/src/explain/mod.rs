@@ -84,26 +84,37 @@ pub fn lines(model: &Model, checked: &Checked, explanation: &Explanation) -> Vec
     sentences::all(model, checked, explanation)
 }
 
-/// Explains a position: by a run to an end, else by a loop, else by all that can come, else not by a single run.
+/// Explains a position: by a run to an end, else by a loop, else by all that can come, else not by a single run. Where there
+/// is nothing to choose and each state that can come has its fact, these tell more than a run through them.
 fn explained(game: &Game, from: Position) -> Explanation {
     let Explored { turns, ways } = explore(game, from);
     let runs = shortest(&ways, from, &(0..game.positions()), usize::MAX);
     let nearest = |fits: &dyn Fn(&Turn) -> bool| {
         runs.order.iter().copied().find(|&position| turns[position].as_ref().is_some_and(fits))
     };
-    if let Some(end) = nearest(&is_end) {
+    let (end, regions) = (nearest(&is_end), Regions::of(game));
+    let at_once = end.is_some_and(|end| runs.steps[end] == Some(0));
+    if !at_once && regions.proves(from) && regions.from(game, from).has_facts_everywhere(game) {
+        return explanation(game, from, &[], from, closed(game, regions.from(game, from)));
+    }
+    if let Some(end) = end {
         let ending = turns[end].as_ref().map_or(Ending::NoSingleRun, |turn| ending(game, end, turn));
         return explanation(game, from, &runs.to(end), end, ending);
     }
     if let Some(lasso) = shortest_lasso(game, &ways, &runs) {
         return in_a_loop(game, from, lasso);
     }
-    let regions = Regions::of(game);
     if let Some(end) = runs.order.iter().copied().find(|&position| regions.proves(position)) {
         return explanation(game, from, &runs.to(end), end, closed(game, regions.from(game, end)));
     }
     let end = nearest(&|turn| matches!(turn, Turn::Several)).unwrap_or(from);
     explanation(game, from, &runs.to(end), end, Ending::NoSingleRun)
+}
+
+/// Explains a claim of a closed part.
+fn explained_claim(model: &Model, checked: &Checked, claim: &Claim) -> Explanation {
+    let game = Game::new(model, checked, claim.holds);
+    explained(&game, game.position(claim.node, claim.state))
 }
 
 /// Is nothing left to be shown but facts?

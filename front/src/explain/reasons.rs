@@ -5,6 +5,13 @@ use super::words::{listed, Words};
 use super::{Claim, Ending, Explanation, Step};
 use crate::table::Kind;
 
+/// A sentence as it stands behind a colon.
+fn uncapitalized(sentence: &str) -> String {
+    let mut letters = sentence.chars();
+    let first = letters.next().map(|letter| letter.to_ascii_lowercase());
+    first.into_iter().chain(letters).collect()
+}
+
 pub struct Reasons<'a> {
     pub words: &'a Words<'a>,
 }
@@ -19,7 +26,9 @@ impl Reasons<'_> {
             Ending::Closed { states, parts } => self.all_that_comes(end, states, parts),
             _ => vec![self.no_single_run(end)],
         };
-        reasons.iter_mut().take(1).for_each(|first| first.insert_str(0, ": "));
+        for first in reasons.iter_mut().take(1) {
+            *first = format!(": {}", uncapitalized(first));
+        }
         reasons
     }
 
@@ -74,19 +83,21 @@ impl Reasons<'_> {
     }
 
     /// The facts beside a run, those of one part together.
-    pub fn beside(&self, explanation: &Explanation) -> Vec<String> {
+    pub fn beside(&self, explanation: &Explanation, node: usize, states: &[usize]) -> String {
         let turns = matches!(&explanation.ending, Ending::Loop { steps, .. } if !steps.is_empty());
         let place = if turns || !explanation.run.is_empty() { "On the way " } else { "" };
-        let fact = |(node, states): (usize, Vec<usize>)| {
-            let (part, holds) = self.words.saying(node, explanation.claim.holds);
-            format!("{place}{part} {} in {}, too.", self.words.is(holds), self.words.states(&states))
-        };
-        by_part(&explanation.beside).into_iter().map(fact).collect()
+        let (part, holds) = self.words.saying(node, explanation.claim.holds);
+        format!("{place}{part} {} in {}, too.", self.words.is(holds), self.words.states(states))
     }
 
     /// That only these states come, and what is so in them.
     fn all_that_comes(&self, end: &Claim, states: &[usize], parts: &[Claim]) -> Vec<String> {
         let parts = by_part(parts);
+        let everywhere = parts.iter().all(|(_, at)| at.len() == states.len()) && self.words.are_all_reached(states);
+        let told: Vec<String> = parts.iter().filter_map(|(node, _)| self.everywhere(*node, end.holds)).collect();
+        if everywhere && !told.is_empty() {
+            return told.into_iter().chain(self.never_for_ever(end)).collect();
+        }
         let mut facts: Vec<String> =
             parts.iter().filter_map(|(node, at)| self.fact(*node, at, states, end.holds)).collect();
         if facts.is_empty() {
@@ -95,6 +106,17 @@ impl Reasons<'_> {
         }
         let only = vec![self.only_these(end, states)];
         only.into_iter().chain(facts).chain(self.never_for_ever(end)).collect()
+    }
+
+    /// What a part is in all states; nothing of `true` and `false`.
+    fn everywhere(&self, node: usize, holds: bool) -> Option<String> {
+        match self.words.kind(node) {
+            Kind::False | Kind::True => None,
+            _ => Some(match self.words.saying(node, holds) {
+                (part, true) => format!("In every state that can be reached {part} holds."),
+                (part, false) => format!("In no state that can be reached {part} holds."),
+            }),
+        }
     }
 
     /// Whether these are all the states that can come, by any transitions or by those that are followed, or just those
@@ -107,12 +129,12 @@ impl Reasons<'_> {
             !steps.filter(|&step| accepted(step)).all(|step| inside(&step))
         };
         match self.words.followed(end.node).as_slice() {
-            _ if !leave(&|_| true) => format!("whatever happens, only these states come: {names}."),
+            _ if !leave(&|_| true) => format!("Whatever happens, only these states come: {names}."),
             &[action] if !leave(&|step| self.words.accepts(action, step)) => {
                 let action = self.words.action_words(action);
-                format!("by transitions that `{action}` accepts only these states come: {names}.")
+                format!("By transitions that `{action}` accepts only these states come: {names}.")
             }
-            _ => format!("only these states count: {names}."),
+            _ => format!("Only these states count: {names}."),
         }
     }
 

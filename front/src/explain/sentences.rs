@@ -2,7 +2,7 @@
 
 use super::reasons::Reasons;
 use super::words::Words;
-use super::{Claim, Ending, Explanation, Step};
+use super::{explained_claim, Claim, Ending, Explanation, Step};
 use crate::check::Checked;
 use crate::model::Model;
 use crate::source::visible_letter;
@@ -10,12 +10,15 @@ use crate::source::visible_letter;
 /// The lines of an explanation.
 pub fn all(model: &Model, checked: &Checked, explanation: &Explanation) -> Vec<String> {
     let words = Words::new(model, checked);
-    let mut sentences = Sentences { reasons: Reasons { words: &words }, words: &words, lines: Vec::new() };
+    let reasons = Reasons { words: &words };
+    let mut sentences = Sentences { model, checked, reasons, words: &words, lines: Vec::new() };
     sentences.explanation(explanation, "");
     sentences.lines
 }
 
 struct Sentences<'a> {
+    model: &'a Model,
+    checked: &'a Checked,
     words: &'a Words<'a>,
     reasons: Reasons<'a>,
     lines: Vec<String>,
@@ -33,8 +36,19 @@ impl Sentences<'_> {
             Ending::Sides(_) => self.sides(explanation, indent),
             _ => self.run_to_part(explanation, &self.reasons.of(explanation), indent),
         }
-        for fact in self.reasons.beside(explanation) {
+        self.beside(explanation, indent);
+    }
+
+    /// The facts beside a run, and of each that is not clear at once in the first of its states, why it is so.
+    fn beside(&mut self, explanation: &Explanation, indent: &str) {
+        for (node, states) in by_part(&explanation.beside) {
+            let fact = self.reasons.beside(explanation, node, &states);
             self.say(indent, &fact);
+            let claim = states.first().map(|&state| Claim { node, state, ..explanation.claim });
+            let why = claim.map(|claim| explained_claim(self.model, self.checked, &claim));
+            if let Some(why) = why.filter(|why| !is_clear(why)) {
+                self.explanation(&why, &format!("{indent}  "));
+            }
         }
     }
 
@@ -127,6 +141,15 @@ impl Sentences<'_> {
             true => self.say(indent, &format!("And {part} allows this to go on for ever.")),
             false => self.say(indent, &format!("But {part} does not allow this to go on for ever.")),
         }
+    }
+}
+
+/// Is a claim clear without a reason, since at most one step is looked at?
+fn is_clear(explanation: &Explanation) -> bool {
+    match explanation.ending {
+        Ending::Constant => explanation.run.len() <= 1,
+        Ending::NoTransition => explanation.run.is_empty(),
+        _ => false,
     }
 }
 

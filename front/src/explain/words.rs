@@ -25,13 +25,15 @@ pub struct Words<'a> {
     model: &'a Model,
     table: &'a Table,
     values: &'a [Vec<bool>],
+    reached: &'a [bool],
     /// For each state the distinct transitions that leave it.
     leaving: Vec<Vec<Step>>,
 }
 
 impl<'a> Words<'a> {
     pub fn new(model: &'a Model, checked: &'a Checked) -> Words<'a> {
-        Words { model, table: &checked.table, values: &checked.values, leaving: leaving(model) }
+        let Checked { table, values, reached, .. } = checked;
+        Words { model, table, values, reached, leaving: leaving(model) }
     }
 
     pub fn kind(&self, node: usize) -> Kind {
@@ -48,6 +50,12 @@ impl<'a> Words<'a> {
 
     pub fn states(&self, states: &[usize]) -> String {
         listed(states.iter().map(|&state| self.state(state)))
+    }
+
+    /// Are these all the states that can be reached?
+    pub fn are_all_reached(&self, states: &[usize]) -> bool {
+        let count = self.reached.iter().filter(|&&reached| reached).count();
+        states.len() == count && states.iter().all(|&state| self.reached.get(state) == Some(&true))
     }
 
     /// The distinct transitions that leave a state.
@@ -108,10 +116,14 @@ impl<'a> Words<'a> {
         (format!("`{text}`{}", self.unwritten_variables(node)), holds != negated)
     }
 
-    /// The same, of the part as `it` where the explanation is of just that part.
+    /// The same, but of the part that the explanation is of not by its words again.
     pub fn saying_or_it(&self, node: usize, explanation: &Explanation) -> (String, bool) {
         let (part, holds) = self.saying(node, explanation.claim.holds);
-        (if node == explanation.claim.node { "it".to_string() } else { part }, holds)
+        match node == explanation.claim.node {
+            true if node == 0 => ("the formula".to_string(), holds),
+            true => ("it".to_string(), holds),
+            false => (part, holds),
+        }
     }
 
     pub fn part_is(&self, claim: &Claim) -> String {

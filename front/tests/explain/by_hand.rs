@@ -43,7 +43,7 @@ fn a_loop_in_which_close_never_comes() {
         "  open -- click --> closing",
         "and from there on for ever:",
         "  closing -- hover --> closing",
-        "But it does not allow this to go on for ever.",
+        "But the formula does not allow this to go on for ever.",
     ];
     assert_told(&told, explanation, &lines);
 }
@@ -69,7 +69,7 @@ fn a_step_that_is_ruled_out() {
     let lines = [
         "`[close]false` fails in closing:",
         "  closing -- close --> closed",
-        "and this step is one that it rules out.",
+        "and this step is one that the formula rules out.",
     ];
     assert_told(&told, explanation, &lines);
 }
@@ -141,23 +141,56 @@ fn a_loop_that_lasts() {
         "`nu X. <tick>X` holds in state 0: the only run goes on for ever:",
         "  state 0 -- tick --> state 1",
         "  state 1 -- tick --> state 0",
-        "And it allows this to go on for ever.",
+        "And the formula allows this to go on for ever.",
     ];
     assert_told(&told, run(holds(0, 0), &[], holds(0, 0), looping(&[0, 1], 0)), &lines);
 }
 
-/// Nodes: nu 0, and 1, <true> 2, true 3, [true] 4, Z 5. There is one way only, and `<true>true` holds all along it.
+/// Nodes: <a> 0, nu 1, and 2, <b> 3, true 4, [true] 5, Z 6. From 1 there is one way only, and `<b>true` holds all along it.
 #[test]
 fn facts_beside_a_loop() {
-    let told = tell("des (0, 2, 2)\n(0, tick, 1)\n(1, tick, 0)\n", "", "[true*]<true>true");
-    let mut explanation = run(holds(0, 0), &[], holds(0, 0), looping(&[0, 1], 0));
-    explanation.beside = vec![holds(2, 0), holds(2, 1)];
+    let told = tell("des (0, 2, 2)\n(0, a, 1)\n(1, b, 1)\n", "", "<a>[true*]<b>true");
+    let mut explanation = run(holds(0, 0), &[0], holds(1, 1), looping(&[1], 1));
+    explanation.beside = vec![holds(3, 1)];
     let lines = [
-        "`[true*]<true>true` holds in state 0: the only run goes on for ever:",
-        "  state 0 -- tick --> state 1",
-        "  state 1 -- tick --> state 0",
-        "And it allows this to go on for ever.",
-        "On the way `<true>true` holds in state 0, state 1, too.",
+        "`<a>[true*]<b>true` holds in state 0, and this is the only run:",
+        "  state 0 -- a --> state 1",
+        "and from there on for ever:",
+        "  state 1 -- b --> state 1",
+        "And `[true*]<b>true` allows this to go on for ever.",
+        "On the way `<b>true` holds in state 1, too.",
+    ];
+    assert_told(&told, explanation, &lines);
+}
+
+/// Nodes: nu 0, and 1, <true> 2, true 3, [true] 4, Z 5. Nothing is to be chosen, and each state has its fact: that tells
+/// more than the one run that there is.
+#[test]
+fn a_fact_in_every_state() {
+    let told = tell("des (0, 2, 2)\n(0, tick, 1)\n(1, tick, 0)\n", "", "[true*]<true>true");
+    let ending = Ending::Closed { states: vec![0, 1], parts: vec![holds(2, 0), holds(2, 1)] };
+    let lines = ["`[true*]<true>true` holds in state 0: in every state that can be reached `<true>true` holds."];
+    assert_told(&told, run(holds(0, 0), &[], holds(0, 0), ending), &lines);
+}
+
+/// Nodes: <a> 0, mu 1, or 2, <drop> 3, <end> 4, true 5, <over> 6, Z 7. From 1 it only goes on by over; that drop does not
+/// help there is a fact beside it, which takes a run of its own to see.
+#[test]
+fn a_fact_that_is_explained() {
+    let model = "des (0, 4, 3)\n(0, a, 1)\n(1, over, 1)\n(1, drop, 2)\n(2, tau, 0)\n";
+    let told = tell(model, "", "<a . over* . drop . end>true");
+    let mut explanation = run(fails(0, 0), &[0], fails(1, 1), looping(&[1], 1));
+    explanation.beside = vec![fails(3, 1)];
+    let lines = [
+        "`<a . over* . drop . end>true` fails in state 0:",
+        "  state 0 -- a --> state 1",
+        "and from there on for ever:",
+        "  state 1 -- over --> state 1",
+        "But `<over* . drop . end>true` does not allow this to go on for ever.",
+        "On the way `<drop . end>true` fails in state 1, too.",
+        "  `<drop . end>true` fails in state 1:",
+        "    state 1 -- drop --> state 2",
+        "  and there `<end>true` fails: no transition from state 2 is accepted by `end`; there are: tau.",
     ];
     assert_told(&told, explanation, &lines);
 }
@@ -258,18 +291,18 @@ fn a_shorter_loop_that_proves_nothing() {
     assert_eq!(told.explanation, run(holds(0, 0), &[1], holds(0, 1), looping(&[2], 0)));
 }
 
-/// Nodes: mu 0, or 1, <close> 2, true 3, <true> 4, X 5. The only run ends in 2, and close is possible nowhere on it.
+/// Nodes: [a] 0, mu 1, or 2, <close> 3, true 4, <true> 5, X 6. The only run ends in 2, and close is possible nowhere on it.
 #[test]
 fn facts_beside_a_run() {
-    let told = tell("des (0, 2, 3)\n(0, a, 1)\n(1, a, 2)\n", "", "mu X. <close>true || <true>X");
-    let mut explanation = run(fails(0, 0), &[0, 1], fails(4, 2), Ending::NoTransition);
-    explanation.beside = vec![fails(2, 0), fails(2, 1), fails(2, 2)];
+    let told = tell("des (0, 2, 3)\n(0, a, 1)\n(1, a, 2)\n", "", "[a]mu X. <close>true || <true>X");
+    let mut explanation = run(fails(0, 0), &[0, 1], fails(5, 2), Ending::NoTransition);
+    explanation.beside = vec![fails(3, 1), fails(3, 2)];
     let lines = [
-        "`mu X. <close>true || <true>X` fails in state 0, and this is the only run:",
+        "`[a]mu X. <close>true || <true>X` fails in state 0, and this is the only run:",
         "  state 0 -- a --> state 1",
         "  state 1 -- a --> state 2",
         "and there `<true>X` fails: no transition leaves state 2.",
-        "On the way `<close>true` fails in state 0, state 1, state 2, too.",
+        "On the way `<close>true` fails in state 1, state 2, too.",
     ];
     assert_told(&told, explanation, &lines);
 }
@@ -307,7 +340,7 @@ fn below_a_negation() {
     let lines = [
         "`[blur|focus]false` fails in state 0:",
         "  state 0 -- focus|blur --> state 1",
-        "and this step is one that it rules out.",
+        "and this step is one that the formula rules out.",
     ];
     assert_told(&told, run(fails(0, 0), &[0], fails(1, 1), Ending::Constant), &lines);
 }
@@ -354,17 +387,18 @@ fn three_sides() {
     assert_told(&told, run(holds(0, 0), &[], holds(0, 0), Ending::Sides(sides)), &lines);
 }
 
-/// Nodes: mu 0, or 1, <close> 2, true 3, <true> 4, Z 5. Nobody wrote `<true>Z`, so at its end the star is spoken of.
+/// Nodes: [click] 0, mu 1, or 2, <close> 3, true 4, <true> 5, Z 6. Nobody wrote `<true>Z`, so at its end the star is spoken
+/// of.
 #[test]
 fn the_end_of_a_star() {
-    let told = tell(STUCK, TWO, "<true* . close>true");
-    let mut explanation = run(fails(0, 0), &[0], fails(4, 1), Ending::NoTransition);
-    explanation.beside = vec![fails(2, 0), fails(2, 1)];
+    let told = tell(STUCK, TWO, "[click]<true* . close>true");
+    let mut explanation = run(fails(0, 0), &[0], fails(5, 1), Ending::NoTransition);
+    explanation.beside = vec![fails(3, 1)];
     let lines = [
-        "`<true* . close>true` fails in open, and this is the only run:",
+        "`[click]<true* . close>true` fails in open, and this is the only run:",
         "  open -- click --> closing",
         "and there `<true* . close>true` fails: no transition leaves closing.",
-        "On the way `<close>true` fails in open, closing, too.",
+        "On the way `<close>true` fails in closing, too.",
     ];
     assert_told(&told, explanation, &lines);
 }

@@ -1,25 +1,23 @@
 //! One random model and one random formula, written as text, read and checked by `front`, and held against the relations,
 //! the counts on the formula as it is written, and the independent checker of the case file.
 
+use super::again::{compare_back, compare_opposites, compare_parts, compare_table, compare_trees};
 use super::counting::{self, Wrong};
+use super::difference::{differs, fine, same, Compared};
 use super::expected::{is_about_label, is_about_variable, refusal, wrong_labels, File, LIMIT, SPENT};
 use super::labels;
 use super::relations::{self, Reading};
 use super::systems::System;
-use super::trees::{shape, state};
 use super::trial::Trial;
 use super::writing::Misgrammar;
 use bithrowy_front::case::{self, Case};
 use bithrowy_front::check::{self, Checked, Trouble};
 use bithrowy_front::expand::{self, Expansion};
-use bithrowy_front::formula::{State, StateFormula};
-use bithrowy_front::label::SILENT;
+use bithrowy_front::formula::StateFormula;
 use bithrowy_front::model::Model;
-use bithrowy_front::source::{Fault, Source};
-use bithrowy_front::table::{Kind, Table};
-use bithrowy_front::{aut, back, parser, print};
+use bithrowy_front::source::Source;
+use bithrowy_front::{aut, parser};
 use bithrowy_tests::{meaning, price, tables};
-use std::fmt::Debug;
 
 /// What the trial itself does; a slip is a wrong one.
 #[derive(Clone, Copy)]
@@ -44,31 +42,6 @@ pub enum Outcome {
     WrongVariable,
     /// A label with too many names, or on no transition.
     WrongLabel,
-}
-
-/// What differs, and how.
-#[derive(Debug)]
-pub struct Difference {
-    pub what: &'static str,
-    pub how: String,
-}
-
-type Compared<T> = Result<T, Difference>;
-
-fn differs<T>(what: &'static str, how: impl Into<String>) -> Compared<T> {
-    Err(Difference { what, how: how.into() })
-}
-
-fn same<T: PartialEq + Debug>(what: &'static str, read: T, expected: T) -> Compared<()> {
-    if read == expected {
-        return Ok(());
-    }
-    differs(what, format!("{read:?}, expected {expected:?}"))
-}
-
-/// A fault where there should be none.
-fn fine<T>(what: &'static str, read: Result<T, Fault>) -> Compared<T> {
-    read.or_else(|fault| differs(what, fault.to_string()))
 }
 
 /// Compares all that there is to compare about a trial.
@@ -115,7 +88,8 @@ fn compare_case(trial: &Trial, way: &Way, formula: &StateFormula, case: &Case) -
             compare_states(trial, way, &checked)?;
             compare_counts(trial, &checked)?;
             compare_opposites(trial, &case.model, &checked)?;
-            compare_table(trial, &checked)?;
+            compare_table(trial, &checked.table)?;
+            compare_parts(trial, &checked)?;
             compare_back(case, &checked)?;
             Outcome::Accepted(Box::new(checked), version(case))
         }
@@ -157,56 +131,6 @@ fn compare_counts(trial: &Trial, checked: &Checked) -> Compared<()> {
     same("the distinct transitions", checked.distinct, system.distinct())
 }
 
-/// A formula and its negation share the states, in as many direct rounds; a formula negated twice is the formula.
-fn compare_opposites(trial: &Trial, model: &Model, checked: &Checked) -> Compared<()> {
-    let text = trial.mcf(None);
-    let negated = checked_text(model, format!("!({text})"))?;
-    let others: Vec<bool> = checked.holds.iter().map(|holds| !holds).collect();
-    same("the negation's states", negated.holds, others)?;
-    same("the negation's rounds", negated.direct_rounds, checked.direct_rounds)?;
-    let twice = checked_text(model, format!("!!({text})"))?;
-    same("the states of the formula negated twice", &twice.holds, &checked.holds)?;
-    same("the table of the formula negated twice", kinds(&twice.table), kinds(&checked.table))
-}
-
-fn kinds(table: &Table) -> Vec<Kind> {
-    table.nodes.iter().map(|node| node.kind).collect()
-}
-
-/// The table as text means the same, and gives the same table.
-fn compare_table(trial: &Trial, checked: &Checked) -> Compared<()> {
-    let source = Source::new("table.mcf", checked.table.text(0));
-    let formula = fine("the table's text", parser::read(&source, trial.system.silent))?;
-    let expected = relations::states(&trial.system, &formula, relations::RIGHT);
-    same("the states of the table's text", &checked.holds, &expected)?;
-    match fine("the expansion of the table's text", expand::expand(&source, &formula))? {
-        Expansion::Table(table) => same("the table of the table's text", kinds(&table), kinds(&checked.table)),
-        large => differs("the table of the table's text", format!("{large:?}")),
-    }
-}
-
-fn checked_text(model: &Model, text: String) -> Compared<Checked> {
-    let source = Source::new("opposite.mcf", text);
-    let formula = fine("an opposite's text", parser::read(&source, &model.silent))?;
-    let expansion = fine("an opposite's expansion", expand::expand(&source, &formula))?;
-    let case = fine("an opposite's case", case::write(model, &expansion, true))?;
-    // The equation route's rounds of a negation may be a few more, so the limit is not the trial's.
-    check::check(&case, 100 * LIMIT).or_else(|trouble| differs("an opposite's answer", format!("{trouble:?}")))
-}
-
-/// The case file as text again means the same.
-fn compare_back(case: &Case, checked: &Checked) -> Compared<()> {
-    let Ok(texts) = back::texts(&case.bytes) else { return differs("the case as text", "it is refused") };
-    let model = fine("the case's model", aut::read(&Source::new("back.aut", texts.aut), SILENT))?;
-    let formula = fine("the case's formula", parser::read(&Source::new("back.mcf", texts.mcf), SILENT))?;
-    let label = |number: usize| model.labels[number].text.clone();
-    let transitions = model.transitions.iter().map(|t| (t.source, label(t.label), t.target)).collect();
-    let system = System { states: model.states, initial: model.initial, silent: SILENT, transitions };
-    let found = (system.initial, system.distinct());
-    same("the case's initial state and transitions", found, (case.model.initial, checked.distinct))?;
-    same("the case's states", &relations::states(&system, &formula, relations::RIGHT), &checked.holds)
-}
-
 /// The sizes as counted on the formula as it is written.
 fn compare_sizes(trial: &Trial, case: &Case) -> Compared<()> {
     let size = counting::size(&trial.formula);
@@ -243,17 +167,4 @@ fn compare_file(file: &File, outcome: &Outcome) -> Compared<()> {
         (Err(number), Outcome::Refused(refused)) => same("the refusal of the case file", number, refused),
         (read, outcome) => differs("the case file", format!("{read:?}, {outcome:?}")),
     }
-}
-
-/// The formula that was read is the one that was meant, also after it is printed and read again.
-fn compare_trees(trial: &Trial, formula: &StateFormula) -> Compared<()> {
-    same("the formula", shape(formula), shape(&trial.formula))?;
-    for (what, text) in [("plain", print::plain(formula)), ("bracketed", print::bracketed(formula))] {
-        let source = Source::new(what, text);
-        let again = fine("a printed formula", parser::read(&source, trial.system.silent))?;
-        same("the formula after printing", shape(&again), shape(formula))?;
-        same("the sameness after printing", (again.same(formula), formula.same(&again)), (true, true))?;
-    }
-    let negated = state(State::Not(Box::new(formula.clone())));
-    same("the sameness with the negation", (negated.same(formula), formula.same(&negated)), (false, false))
 }

@@ -6,7 +6,7 @@ use bithrowy_front::formula::{Action, ActionFormula, Regular, RegularFormula, St
 use bithrowy_tests::random::Random;
 
 /// Names of variables, some of them also labels' names.
-const VARIABLES: [&str; 5] = ["X", "Y", "Z", "a", "X1"];
+const VARIABLES: [&str; 6] = ["X", "Y", "Z", "a", "X1", "Z1"];
 
 /// A random formula of about so many parts, over a pool's labels. A variable mostly stands where its binder allows it: in
 /// one of so many formulas not.

@@ -4,8 +4,10 @@
 // Each test program uses its own part of this.
 #![allow(dead_code)]
 
+pub mod again;
 pub mod comparison;
 pub mod counting;
+pub mod difference;
 pub mod expected;
 pub mod formulas;
 pub mod labels;

@@ -1,6 +1,7 @@
 //! Makes a trial in which something differs small enough to read.
 
-use super::comparison::{compare, Difference, Way};
+use super::comparison::{compare, Way};
+use super::difference::Difference;
 use super::systems::System;
 use super::trees::{regular, state};
 use super::trial::Trial;

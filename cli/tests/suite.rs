@@ -100,9 +100,11 @@ fn the_output_does_not_depend_on_the_jobs() {
 #[test]
 fn formulas_at_fault() {
     let folder = suite("suite-faults");
+    folder.write("other/readme.txt", "a second folder");
     for (text, said) in [
         ("mu X. [true] X\n", "the formula names no models"),
         ("% models: nothing*.aut\ntrue\n", "no file matches `nothing*.aut`"),
+        (&format!("% models: {}*.aut\ntrue\n", "../*/../*/".repeat(40)), "matches more than 10,000 files"),
         ("% models: *.aut\n% expect: true\n% models: hover.aut\n% expect: false\ntrue\n", "named twice"),
         ("% models: dialog.aut\nnu X [true] X\n", "expected \".\" after \"nu X\", found \"[\""),
         ("% models: dialog.aut\n[clsoe]false\n", "clsoe"),
@@ -127,6 +129,25 @@ fn patterns() {
     folder.write("t/f.mcf", format!("% models: ../s/d*.aut ../?/dialog.aut ../s/dialog.aut\n{ENDS}"));
     let ran = folder.run(&["test", "t"]).expect_exit(0);
     assert!(timeless(&ran).ends_with("\n1 check of 1 formula on 1 model: all as expected"), "{}", ran.out);
+}
+
+/// A formula without a folder before its name, and patterns in it.
+#[test]
+fn a_formula_in_this_folder() {
+    let folder = Folder::with_dialog("suite-here");
+    folder.write("here.mcf", format!("% name: Here\n% models: d*.au? ./dialog.aut\n{ENDS}"));
+    let ran = folder.run(&["test", "here.mcf"]).expect_exit(0);
+    assert!(ran.out.starts_with("ok     Here  dialog.aut  holds\n\n1 check of "), "{}", ran.out);
+    let pattern = folder.path("dialog.a*");
+    folder.write("here.mcf", format!("% name: Here\n% models: {}\n{ENDS}", pattern.display()));
+    let ran = folder.run(&["test", "here.mcf"]).expect_exit(0);
+    assert!(ran.out.contains(&folder.path("dialog.aut").display().to_string()), "{}", ran.out);
+    let ran = folder.run(&["test", "here.mcf", "--filter", "nothing"]).expect_exit(2);
+    assert!(ran.err.contains("error: no check found in here.mcf\n"), "{}", ran.err);
+    folder.write("here.mcf", "% models: e*.aut\ntrue\n");
+    let ran = folder.run(&["test", "here.mcf"]).expect_exit(2);
+    assert!(ran.out.contains("error: no file matches `e*.aut`\n"), "{}", ran.out);
+    assert!(ran.out.contains("help: names are looked up from this folder; "), "{}", ran.out);
 }
 
 #[test]

@@ -5,7 +5,8 @@ use crate::arguments::Readings;
 use crate::files;
 use crate::load::{Formula, Rules};
 use crate::trouble::Trouble;
-use bithrowy_front::source::{Fault, Span};
+use bithrowy_front::amount::thousands;
+use bithrowy_front::source::{shown, Fault, Span};
 use std::fs;
 use std::io;
 use std::path::{Path, PathBuf};
@@ -76,11 +77,11 @@ fn formulas(path: &Path) -> Result<Vec<PathBuf>, Trouble> {
 }
 
 fn of_formula(file: &Path) -> Vec<Planned> {
-    let shown = files::shown(file);
-    let planned = |name: &str, task| Planned { name: name.to_string(), formula: shown.clone(), task };
+    let path = files::shown(file);
+    let planned = |name: &str, task| Planned { name: name.to_string(), formula: path.clone(), task };
     let formula = match files::source(file).and_then(Formula::new) {
         Ok(formula) => formula,
-        Err(trouble) => return vec![planned(&shown, Err(trouble))],
+        Err(trouble) => return vec![planned(&path, Err(trouble))],
     };
     let name = formula.title();
     match wanted(file, &formula) {
@@ -112,11 +113,14 @@ fn wanted(file: &Path, formula: &Formula) -> Result<Vec<Wanted>, Trouble> {
 }
 
 fn models(formula: &Formula, folder: &Path, pattern: &str, span: Span) -> Result<Vec<PathBuf>, Trouble> {
-    let models = patterns::files(folder, pattern);
+    let fault = |message: String, help: String| Fault::new(&formula.source, span, message).with_help(help).into();
+    let Some(models) = patterns::files(folder, pattern) else {
+        let message = format!("`{}` matches more than {} files", shown(pattern), thousands(patterns::MOST as u64));
+        return Err(fault(message, "make the pattern narrower".to_string()));
+    };
     if models.is_empty() {
-        let fault = Fault::new(&formula.source, span, format!("no file matches `{pattern}`"));
         let help = format!("names are looked up from {}; `*` stands for any characters, `?` for one", place(folder));
-        return Err(fault.with_help(help).into());
+        return Err(fault(format!("no file matches `{}`", shown(pattern)), help));
     }
     Ok(models)
 }

@@ -2,7 +2,7 @@
 
 /// The first 32 bits of the fractional parts of a root of the first primes.
 fn fractions(count: usize, root: fn(f64) -> f64) -> Vec<u32> {
-    let is_prime = |n: &u32| (2..*n).all(|divisor| n % divisor > 0);
+    let is_prime = |n: &u32| (2..*n).all(|divisor| n / divisor * divisor != *n);
     (2..).filter(is_prime).take(count).map(|prime| (root(prime.into()).fract() * 4_294_967_296.0) as u32).collect()
 }
 

@@ -91,6 +91,9 @@ fn transitions_beyond_16_bits() {
         let model = format!("des (0, {count}, 1)\n{}", "(0,a,0)\n".repeat(count));
         let (number, message, _) = refusal_of(&model, "true");
         assert_eq!(number, 3);
+        // The header, the records of six bytes if 16 bits can count them, and the formula's node.
+        let records = if count <= 65_535 { 6 * count } else { 0 };
+        assert_eq!(case(&model, "true").bytes.len(), 20 + records + 4);
         assert!(message.ends_with("transitions: the checker takes at most 2,048"), "{message}");
     }
 }

@@ -251,6 +251,25 @@ fn parts_in_several_places_have_names() {
     );
 }
 
+/// Both right sides are lists of cell 2 alone.
+#[test]
+fn a_part_of_two_right_sides_has_a_name() {
+    let file = Equations {
+        states: 2,
+        initial: 0,
+        blocks: vec![Block { greatest: true, first: 0 }],
+        cells: vec![
+            Cell::Or(vec![2]),
+            Cell::And(vec![2]),
+            Cell::And(vec![3, 3]),
+            Cell::Variable { block: 0, state: 1 },
+        ],
+    };
+    let text = equations(&file.bytes()).unwrap();
+    let expected = "nu X0\n  X0(0) = c2\n  X0(1) = c2\n\nParts that stand in several places\n  c2 = X0(1) && X0(1)\n";
+    assert!(text.ends_with(expected), "{text}");
+}
+
 #[test]
 fn lists_in_lists_have_brackets() {
     let file = Equations {

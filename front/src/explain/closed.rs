@@ -23,7 +23,7 @@ pub struct Region {
 
 impl Region {
     /// Does each state have a fact other than `true` or `false`?
-    pub fn has_facts_everywhere(&self, game: &Game) -> bool {
+    fn has_facts_everywhere(&self, game: &Game) -> bool {
         let facts = self.facts.iter().filter(|&&fact| !matches!(game.kind(fact), Kind::False | Kind::True));
         let states: BTreeSet<usize> = facts.map(|&fact| game.state(fact)).collect();
         self.states.iter().all(|state| states.contains(state))
@@ -69,6 +69,11 @@ impl Regions {
     /// that side that is to be shown.
     pub fn proves(&self, position: Position) -> bool {
         self.proved[position] && !self.leads_on(position)
+    }
+
+    /// Does it show a position by a fact in each state?
+    pub fn tell_by_facts(&self, game: &Game, position: Position) -> bool {
+        self.proves(position) && self.from(game, position).has_facts_everywhere(game)
     }
 
     fn leads_on(&self, position: Position) -> bool {

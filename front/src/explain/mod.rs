@@ -85,7 +85,7 @@ pub fn lines(model: &Model, checked: &Checked, explanation: &Explanation) -> Vec
 }
 
 /// Explains a position: by a run to an end, else by a loop, else by all that can come, else not by a single run. Where there
-/// is nothing to choose and each state that can come has its fact, these tell more than a run through them.
+/// is nothing to choose and each state that can come has its fact, these tell more than a run or a loop through them.
 fn explained(game: &Game, from: Position) -> Explanation {
     let Explored { turns, ways } = explore(game, from);
     let runs = shortest(&ways, from, &(0..game.positions()), usize::MAX);
@@ -94,7 +94,7 @@ fn explained(game: &Game, from: Position) -> Explanation {
     };
     let (end, regions) = (nearest(&is_end), Regions::of(game));
     let at_once = end.is_some_and(|end| runs.steps[end] == Some(0));
-    if !at_once && regions.proves(from) && regions.from(game, from).has_facts_everywhere(game) {
+    if !at_once && regions.tell_by_facts(game, from) {
         return explanation(game, from, &[], from, closed(game, regions.from(game, from)));
     }
     if let Some(end) = end {
@@ -102,6 +102,9 @@ fn explained(game: &Game, from: Position) -> Explanation {
         return explanation(game, from, &runs.to(end), end, ending);
     }
     if let Some(lasso) = shortest_lasso(game, &ways, &runs) {
+        if regions.tell_by_facts(game, lasso.end) {
+            return explanation(game, from, &lasso.run, lasso.end, closed(game, regions.from(game, lasso.end)));
+        }
         return in_a_loop(game, from, lasso);
     }
     if let Some(end) = runs.order.iter().copied().find(|&position| regions.proves(position)) {

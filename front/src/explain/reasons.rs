@@ -122,20 +122,29 @@ impl Reasons<'_> {
     /// Whether these are all the states that can come, by any transitions or by those that are followed, or just those
     /// that count.
     fn only_these(&self, end: &Claim, states: &[usize]) -> String {
-        let names = self.words.states(states);
-        let inside = |step: &Step| states.contains(&self.words.target(*step));
-        let leave = |accepted: &dyn Fn(Step) -> bool| {
-            let steps = states.iter().flat_map(|&state| self.words.leaving(state));
-            !steps.filter(|&step| accepted(step)).all(|step| inside(&step))
+        let (come, count) = match states {
+            [state] => {
+                let state = self.words.state(*state);
+                (format!("only {state} comes"), format!("Only {state} counts"))
+            }
+            _ => {
+                let names = self.words.states(states);
+                (format!("only these states come: {names}"), format!("Only these states count: {names}"))
+            }
         };
         match self.words.followed(end.node).as_slice() {
-            _ if !leave(&|_| true) => format!("Whatever happens, only these states come: {names}."),
-            &[action] if !leave(&|step| self.words.accepts(action, step)) => {
-                let action = self.words.action_words(action);
-                format!("By transitions that `{action}` accepts only these states come: {names}.")
+            _ if self.are_kept_by(states, &|_| true) => format!("Whatever happens, {come}."),
+            &[action] if self.are_kept_by(states, &|step| self.words.accepts(action, step)) => {
+                format!("By transitions that `{}` accepts {come}.", self.words.action_words(action))
             }
-            _ => format!("Only these states count: {names}."),
+            _ => format!("{count}."),
         }
+    }
+
+    /// Does each accepted transition from these states lead to one of them?
+    fn are_kept_by(&self, states: &[usize], accepted: &dyn Fn(Step) -> bool) -> bool {
+        let steps = states.iter().flat_map(|&state| self.words.leaving(state));
+        steps.filter(|&step| accepted(step)).all(|step| states.contains(&self.words.target(step)))
     }
 
     /// What a part is in some of the states that come; nothing of `true` and `false`.

@@ -36,6 +36,7 @@ impl Sentences<'_> {
             Ending::Sides(_) => self.sides(explanation, indent),
             _ => self.run_to_part(explanation, &self.reasons.of(explanation), indent),
         }
+        self.facts_of_one_state(explanation, indent);
         self.beside(explanation, indent);
     }
 
@@ -44,10 +45,25 @@ impl Sentences<'_> {
         for (node, states) in by_part(&explanation.beside) {
             let fact = self.reasons.beside(explanation, node, &states);
             self.say(indent, &fact);
-            let claim = states.first().map(|&state| Claim { node, state, ..explanation.claim });
-            let why = claim.map(|claim| explained_claim(self.model, self.checked, &claim));
-            if let Some(why) = why.filter(|why| !is_clear(why)) {
-                self.explanation(&why, &format!("{indent}  "));
+            for &state in states.iter().take(1) {
+                self.fact(&Claim { node, state, ..explanation.claim }, indent);
+            }
+        }
+    }
+
+    /// Why a fact is so, if it is not clear at once.
+    fn fact(&mut self, claim: &Claim, indent: &str) {
+        let why = explained_claim(self.model, self.checked, claim);
+        if !is_clear(&why) {
+            self.explanation(&why, &format!("{indent}  "));
+        }
+    }
+
+    /// Where only one state can come, what is so there is not just said.
+    fn facts_of_one_state(&mut self, explanation: &Explanation, indent: &str) {
+        if let Ending::Closed { states, parts } = &explanation.ending {
+            for part in parts.iter().filter(|_| states.len() == 1) {
+                self.fact(part, indent);
             }
         }
     }

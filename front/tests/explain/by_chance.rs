@@ -5,7 +5,7 @@ use crate::cut_down::printed;
 use crate::replay::Replay;
 use crate::shortest::{printed_steps, Trial};
 use crate::told::{tell_if_accepted, Told};
-use bithrowy_front::explain::{Claim, Ending, Explanation};
+use bithrowy_front::explain::{explain, Claim, Ending};
 use bithrowy_tests::formats::formula;
 use bithrowy_tests::random::Random;
 use std::collections::BTreeMap;
@@ -85,12 +85,12 @@ fn what_is_printed_is_enough() {
 /// The most steps of the runs that are all tried.
 const TRIED: usize = 5;
 
-/// Is it an explanation without a run, by facts in each state that can come? Those come before longer runs.
+/// Is it an explanation by facts in each state that can come? Those come before longer runs, and behind a run before loops.
 fn has_facts_everywhere(told: &Told) -> bool {
-    let Explanation { run, ending: Ending::Closed { states, parts }, .. } = &told.explanation else { return false };
+    let Ending::Closed { states, parts } = &told.explanation.ending else { return false };
     let is_fact = |part: &Claim| ![formula::FALSE, formula::TRUE].contains(&told.case.formula[part.node].kind);
     let has_fact = |&state: &usize| parts.iter().any(|part| part.state == state && is_fact(part));
-    run.is_empty() && states.iter().all(has_fact)
+    states.iter().all(has_fact)
 }
 
 /// No run to an end takes fewer steps, and no lasso where there is no such run.
@@ -104,7 +104,8 @@ fn no_run_is_shorter() {
         let mut trial = Trial::of(&told.case, explanation.claim, TRIED);
         let to_an_end = trial.steps_to_an_end();
         if has_facts_everywhere(&told) {
-            assert!(to_an_end != Some(0), "{text}\n{explanation:?}");
+            let before = if explanation.run.is_empty() { to_an_end != Some(0) } else { to_an_end.is_none() };
+            assert!(before, "{text}\n{explanation:?}");
             continue;
         }
         let expected = to_an_end.or_else(|| trial.lasso(true).as_ref().map(printed_steps));
@@ -141,4 +142,20 @@ fn loops_of_the_wrong_binder_are_noticed() {
     }
     println!("{refused} refused, {other_verdict} with the other verdict");
     assert!(refused >= 100 && other_verdict >= 20, "{refused} refused, {other_verdict} with the other verdict");
+}
+
+/// Values that no checker would answer: the explanation may be wrong, but there is one.
+#[test]
+fn wrong_values_do_no_harm() {
+    let mut random = Random::new(5);
+    for _ in 0..1_000 {
+        let (text, mut told) = told(&mut random, 5);
+        for values in &mut told.checked.values {
+            values.iter_mut().for_each(|value| *value ^= random.chance(1, 3));
+        }
+        told.checked.verdict ^= random.chance(1, 2);
+        told.explanation = explain(&told.model, &told.checked);
+        assert_eq!(told.explanation.claim.holds, told.checked.verdict, "{text}");
+        assert!(!told.lines().is_empty(), "{text}");
+    }
 }

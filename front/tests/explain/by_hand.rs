@@ -146,21 +146,34 @@ fn a_loop_that_lasts() {
     assert_told(&told, run(holds(0, 0), &[], holds(0, 0), looping(&[0, 1], 0)), &lines);
 }
 
-/// Nodes: <a> 0, nu 1, and 2, <b> 3, true 4, [true] 5, Z 6. From 1 there is one way only, and `<b>true` holds all along it.
+/// Nodes: nu 0, and 1, <b> 2, true 3, <a> 4, X 5. The loop by a is chosen, and `<b>true` holds all along it.
 #[test]
 fn facts_beside_a_loop() {
-    let told = tell("des (0, 2, 2)\n(0, a, 1)\n(1, b, 1)\n", "", "<a>[true*]<b>true");
-    let mut explanation = run(holds(0, 0), &[0], holds(1, 1), looping(&[1], 1));
-    explanation.beside = vec![holds(3, 1)];
+    let told = tell("des (0, 4, 2)\n(0, a, 1)\n(0, b, 1)\n(1, a, 0)\n(1, b, 1)\n", "", "nu X. <b>true && <a>X");
+    let mut explanation = run(holds(0, 0), &[], holds(0, 0), looping(&[0, 2], 0));
+    explanation.beside = vec![holds(2, 0), holds(2, 1)];
     let lines = [
-        "`<a>[true*]<b>true` holds in state 0, and this is the only run:",
+        "`nu X. <b>true && <a>X` holds in state 0: it can go on like this for ever:",
         "  state 0 -- a --> state 1",
-        "and from there on for ever:",
-        "  state 1 -- b --> state 1",
-        "And `[true*]<b>true` allows this to go on for ever.",
-        "On the way `<b>true` holds in state 1, too.",
+        "  state 1 -- a --> state 0",
+        "And the formula allows this to go on for ever.",
+        "On the way `<b>true` holds in state 0, state 1, too.",
     ];
     assert_told(&told, explanation, &lines);
+}
+
+/// Nodes: <a> 0, nu 1, and 2, <b> 3, true 4, [true] 5, Z 6. Behind a nothing is chosen any more, and only state 1 comes.
+#[test]
+fn a_fact_in_every_state_behind_a_run() {
+    let told = tell("des (0, 2, 2)\n(0, a, 1)\n(1, b, 1)\n", "", "<a>[true*]<b>true");
+    let ending = Ending::Closed { states: vec![1], parts: vec![holds(3, 1)] };
+    let lines = [
+        "`<a>[true*]<b>true` holds in state 0:",
+        "  state 0 -- a --> state 1",
+        "and there `[true*]<b>true` holds: whatever happens, only state 1 comes.",
+        "There `<b>true` holds.",
+    ];
+    assert_told(&told, run(holds(0, 0), &[0], holds(1, 1), ending), &lines);
 }
 
 /// Nodes: nu 0, and 1, <true> 2, true 3, [true] 4, Z 5. Nothing is to be chosen, and each state has its fact: that tells
@@ -174,19 +187,35 @@ fn a_fact_in_every_state() {
 }
 
 /// Nodes: <a> 0, mu 1, or 2, <drop> 3, <end> 4, true 5, <over> 6, Z 7. From 1 it only goes on by over; that drop does not
-/// help there is a fact beside it, which takes a run of its own to see.
+/// help there is a fact, which takes a run of its own to see.
 #[test]
 fn a_fact_that_is_explained() {
     let model = "des (0, 4, 3)\n(0, a, 1)\n(1, over, 1)\n(1, drop, 2)\n(2, tau, 0)\n";
     let told = tell(model, "", "<a . over* . drop . end>true");
-    let mut explanation = run(fails(0, 0), &[0], fails(1, 1), looping(&[1], 1));
-    explanation.beside = vec![fails(3, 1)];
+    let ending = Ending::Closed { states: vec![1], parts: vec![fails(3, 1)] };
     let lines = [
         "`<a . over* . drop . end>true` fails in state 0:",
         "  state 0 -- a --> state 1",
-        "and from there on for ever:",
-        "  state 1 -- over --> state 1",
-        "But `<over* . drop . end>true` does not allow this to go on for ever.",
+        "and there `<over* . drop . end>true` fails: by transitions that `over` accepts only state 1 comes.",
+        "There `<drop . end>true` fails.",
+        "  `<drop . end>true` fails in state 1:",
+        "    state 1 -- drop --> state 2",
+        "  and there `<end>true` fails: no transition from state 2 is accepted by `end`; there are: tau.",
+    ];
+    assert_told(&told, run(fails(0, 0), &[0], fails(1, 1), ending), &lines);
+}
+
+/// Nodes: [a] 0, mu 1, or 2, <drop> 3, <end> 4, true 5, <over> 6, Z 7. The same beside a run that comes to an end.
+#[test]
+fn a_fact_beside_a_run_that_is_explained() {
+    let model = "des (0, 3, 3)\n(0, a, 1)\n(1, drop, 2)\n(2, tau, 0)\n";
+    let told = tell(model, "", "[a]<over* . drop . end>true");
+    let mut explanation = run(fails(0, 0), &[0], fails(6, 1), Ending::NoTransition);
+    explanation.beside = vec![fails(3, 1)];
+    let lines = [
+        "`[a]<over* . drop . end>true` fails in state 0:",
+        "  state 0 -- a --> state 1",
+        "and there `<over* . drop . end>true` fails: no transition from state 1 is accepted by `over`; there are: drop.",
         "On the way `<drop . end>true` fails in state 1, too.",
         "  `<drop . end>true` fails in state 1:",
         "    state 1 -- drop --> state 2",

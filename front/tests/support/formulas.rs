@@ -8,8 +8,8 @@ use bithrowy_tests::random::Random;
 /// Names of variables, some of them also labels' names.
 const VARIABLES: [&str; 6] = ["X", "Y", "Z", "a", "X1", "Z1"];
 
-/// A random formula of about so many parts, over a pool's labels. A variable mostly stands where its binder allows it: in
-/// one of so many formulas not.
+/// A random formula of about so many parts, over a pool's labels. Its variables stand where their binders allow them, but
+/// in a few formulas they stand anywhere.
 pub fn random(random: &mut Random, pool: &Pool, parts: usize) -> StateFormula {
     let careless = random.chance(1, 60);
     Writer { random, pool, scope: Vec::new(), careless }.state(parts, true)

@@ -10,6 +10,7 @@ mod game;
 mod graph;
 mod lasso;
 mod naming;
+mod parts;
 mod reasons;
 mod sentences;
 mod words;

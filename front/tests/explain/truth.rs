@@ -1,6 +1,8 @@
 //! The value of each part of a formula by a run of its own: the part is made closed, by putting for each variable that is
-//! bound outside it the formula of its binder, and the independent checker is asked.
+//! bound outside it the formula of its binder, and the independent checker is asked, and the library where the part is
+//! within its limits.
 
+use bithrowy_front::{library, limits};
 use bithrowy_tests::formats::*;
 use bithrowy_tests::meaning::states_by_game;
 use std::collections::HashMap;
@@ -11,22 +13,29 @@ const LARGEST: usize = 1_500;
 pub struct Truths<'a> {
     case: &'a Case,
     known: HashMap<usize, Option<Vec<bool>>>,
-    pub asked: usize,
 }
 
 impl<'a> Truths<'a> {
     pub fn of(case: &'a Case) -> Truths<'a> {
-        Truths { case, known: HashMap::new(), asked: 0 }
+        Truths { case, known: HashMap::new() }
     }
 
     /// Does the part hold in the state? Nothing if it is too large when made closed.
     pub fn holds(&mut self, node: usize, state: usize) -> Option<bool> {
         let case = self.case;
-        self.asked += 1;
-        let states =
-            self.known.entry(node).or_insert_with(|| closed_part(case, node).map(|part| states_by_game(&part)));
-        states.as_ref().map(|states| states[state])
+        let known = self.known.entry(node).or_insert_with(|| closed_part(case, node).map(|part| states(&part)));
+        known.as_ref().map(|states| states[state])
     }
+}
+
+/// The states of a closed part by the independent checker. The library, if it accepts the part, says the same.
+fn states(part: &Case) -> Vec<bool> {
+    let states = states_by_game(part);
+    let run = library::direct(&part.bytes(), limits::ROUNDS);
+    if run.refusal == 0 {
+        assert_eq!(run.marks[..part.states], states, "{part:?}");
+    }
+    states
 }
 
 /// The case with the part in the place of the formula.

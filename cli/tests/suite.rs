@@ -138,8 +138,9 @@ fn a_formula_in_this_folder() {
     folder.write("here.mcf", format!("% name: Here\n% models: d*.au? ./dialog.aut\n{ENDS}"));
     let ran = folder.run(&["test", "here.mcf"]).expect_exit(0);
     assert!(ran.out.starts_with("ok     Here  dialog.aut  holds\n\n1 check of "), "{}", ran.out);
-    let pattern = folder.path("dialog.a*");
-    folder.write("here.mcf", format!("% name: Here\n% models: {}\n{ENDS}", pattern.display()));
+    // Patterns end at blanks, and the path of the folder may have some.
+    let pattern = folder.path("dialog.a*").display().to_string().replace(' ', "?");
+    folder.write("here.mcf", format!("% name: Here\n% models: {pattern}\n{ENDS}"));
     let ran = folder.run(&["test", "here.mcf"]).expect_exit(0);
     assert!(ran.out.contains(&folder.path("dialog.aut").display().to_string()), "{}", ran.out);
     let ran = folder.run(&["test", "here.mcf", "--filter", "nothing"]).expect_exit(2);

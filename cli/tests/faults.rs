@@ -28,6 +28,22 @@ fn a_refused_model() {
     assert!(ran.err.contains("--> big.aut:1:12\n"), "{}", ran.err);
 }
 
+/// A dialog that never fires close: the formula that speaks of it says so, and does not hold by accident.
+#[test]
+fn a_missing_close_event() {
+    let folder = Folder::new("fault-missing");
+    folder.write("dialog.aut", "des (0, 1, 2)\n(0, \"click\", 1)\n");
+    let ran = folder.run(&["check", "dialog.aut", "-e", "[click] mu X. <true>true && [!close]X"]).expect_exit(2);
+    let help = "\
+  = help: if some step should have it, the component or its recording lacks that step
+          the model's labels: `click`
+          to check it all the same: --allow-unknown-labels, or the line `% unknown labels: allow` in the
+          formula's file
+";
+    assert!(ran.err.starts_with("error: no transition has the label `close`\n"), "{}", ran.err);
+    assert!(ran.err.contains(help), "{}", ran.err);
+}
+
 #[test]
 fn a_fault_as_json() {
     let folder = Folder::new("fault-json");

@@ -280,8 +280,8 @@ fn a_label_that_no_transition_has() {
     assert_eq!(
         fault.to_string(),
         "f.mcf:1:10: no transition has the label `clsoe`\n  |\n1 | [click] <clsoe> true\n  |          ^^^^^\n  = help: did \
-         you mean `close`? The model's labels: `click`, `close`. Where it is meant, --allow-unknown-labels or the line `% \
-         unknown labels: allow` in the formula's file allows it"
+         you mean `close`?\n          the model's labels: `click`, `close`\n          to check it all the same: \
+         --allow-unknown-labels, or the line `% unknown labels: allow` in the formula's file"
     );
     assert_eq!(fault.refusal, None);
     // It then is a label like any other, which no transition has: the box holds.
@@ -296,16 +296,20 @@ fn labels_are_known_by_their_names() {
     assert!(checked(&case(model, "<blur|tau|focus> true"), ROUNDS).verdict);
     let fault = case_of(model, "<blur> true", false).unwrap_err();
     assert_eq!(fault.message, "no transition has the label `blur`");
-    assert!(fault.help.unwrap().starts_with("The model's labels: `focus|blur`."));
+    let lines = "if some step should have it, the component or its recording lacks that step\nthe model's labels: `focus|blur`\n";
+    assert!(fault.help.unwrap().starts_with(lines));
 }
 
 #[test]
 fn the_help_lists_a_dozen_labels() {
     let fault = case_of(&loops(40), "<nothing_like_it> true", false).unwrap_err();
     let listed: Vec<String> = (0..12).map(|label| format!("`a{label}`")).collect();
-    assert!(fault.help.unwrap().starts_with(&format!("The model's labels: {} and 28 more. Where", listed.join(", "))));
+    let line = format!("the model's labels: {} and 28 more", listed.join(", "));
+    assert_eq!(fault.help.unwrap().lines().nth(1), Some(line.as_str()));
     let fault = case_of(&states(1), "<a> true", false).unwrap_err();
-    assert!(fault.help.unwrap().starts_with("The model has no transitions. Where it is meant,"));
+    assert_eq!(fault.help.unwrap().lines().nth(1), Some("the model has no transitions"));
+    let fault = case_of(&loops(1), "[true*]<ture> true", false).unwrap_err();
+    assert!(fault.help.unwrap().starts_with("did you mean `true`?\n"));
 }
 
 #[test]

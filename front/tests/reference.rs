@@ -94,7 +94,7 @@ fn words(text: &str) -> String {
 fn the_faults_are_those_that_are_printed() {
     let shown = code("What a fault says").join("\n");
     let faults: Vec<&str> = shown.split("error").skip(1).collect();
-    assert_eq!(faults.len(), 8);
+    assert_eq!(faults.len(), 9);
     for shown in faults {
         let (_, line) = shown.split_once("1 | ").expect("its first line");
         let line = line.lines().next().unwrap_or_default();

@@ -32,17 +32,19 @@ fn fault(table: &Table, label: &Label, span: Span, labels: &[&Label]) -> Fault {
     Fault::new(&table.source, span, message).with_help(help(&label.text, labels))
 }
 
+/// A line each for what may be wrong, the labels that there are, and the way to have it all the same.
 fn help(text: &str, labels: &[&Label]) -> String {
-    let nearest = suggest::nearest(text, labels.iter().map(|label| label.text.as_str()));
-    let question = nearest.map(|nearest| format!("did you mean `{}`? ", shown(nearest))).unwrap_or_default();
+    let may_be = match suggest::nearest(text, labels.iter().map(|label| label.text.as_str()).chain(["true", "false"])) {
+        Some(nearest) => format!("did you mean `{}`?", shown(nearest)),
+        None => "if some step should have it, the component or its recording lacks that step".to_string(),
+    };
     let there_are = match labels.len() {
-        0 => "The model has no transitions".to_string(),
-        _ => format!("The model's labels: {}", listed(labels)),
+        0 => "the model has no transitions".to_string(),
+        _ => format!("the model's labels: {}", listed(labels)),
     };
     let way_out =
-        "Where it is meant, --allow-unknown-labels or the line `% unknown labels: allow` in the formula's file \
-                   allows it";
-    format!("{question}{there_are}. {way_out}")
+        "to check it all the same: --allow-unknown-labels, or the line `% unknown labels: allow` in the formula's file";
+    [&may_be, &there_are, way_out].join("\n")
 }
 
 /// The first labels of a list, and how many more there are.

@@ -83,6 +83,8 @@ fn brackets() {
     let quotes =
         "the \"[\" in line 1, column 1 needs its \"]\"; a label with blanks or other signs in it stands in quotes";
     says("[log in] true", 6, "expected \"]\" after \"log\", found \"in\"", 2, quotes);
+    let quotes = quotes.replace('[', "<").replace(']', ">");
+    says("<a--b> true", 3, "expected \">\" after \"a\", found \"-\"", 1, &quotes);
     let end = "expected \"&&\", \"||\", \"=>\" or the end of the text after \"true\"";
     says(
         "true)",

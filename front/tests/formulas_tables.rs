@@ -193,6 +193,8 @@ fn parts_in_words() {
         ["!(<a>true && ![b]false)", "[a] false", "false", "[b]false", "false",]
     );
     assert_eq!(parts("[a* . b](true)"), ["[a* . b](true)", "[b] true && [a] Z", "[b] true", "true", "[a] Z", "Z",]);
+    // Below the negation X has the states that the text's X has not, so the inner part is not literal.
+    assert_eq!(parts("!(mu X. !(X => [a]!X))"), ["!(mu X. !(X => [a]!X))", "X || [a] X", "X", "[a] X", "X"]);
     assert_eq!(
         parts("nu X. <a>X && mu X. [b]X"),
         ["nu X. <a> X && mu X1. [b] X1", "<a> X && mu X1. [b] X1", "<a>X", "X", "mu X1. [b] X1", "[b] X1", "X1",]

@@ -17,15 +17,14 @@ fn suite(name: &str) -> Folder {
     folder
 }
 
-/// The output without the time at its end.
-fn timeless(ran: &Ran) -> &str {
-    ran.out.rsplit_once(" (").map_or("", |(before, _)| before)
+/// The output without the end of its last line.
+fn printed(ran: &Ran) -> &str {
+    ran.out.trim_end()
 }
 
 /// The first formula alone: both its verdicts are as expected.
 const AS_EXPECTED: &str = "\
-ok     Every run ends  s/dialog.aut  holds
-ok     Every run ends  s/hover.aut   fails, as expected
+ok     Every run ends  holds in dialog; fails in hover, as expected
 
 2 checks of 1 formula on 2 models: all as expected";
 
@@ -33,22 +32,36 @@ ok     Every run ends  s/hover.aut   fails, as expected
 fn all_as_expected() {
     let folder = suite("suite-expected");
     let ran = folder.run(&["test", "s/a.mcf"]).expect_exit(0);
-    assert_eq!(timeless(&ran), AS_EXPECTED);
+    assert_eq!(printed(&ran), AS_EXPECTED);
     assert_eq!(ran.err, "");
     let filtered = folder.run(&["test", "s", "--filter", "Every run"]).expect_exit(0);
-    assert_eq!(timeless(&filtered), AS_EXPECTED);
+    assert_eq!(printed(&filtered), AS_EXPECTED);
 }
 
 #[test]
 fn a_verdict_that_is_not_as_expected() {
     let ran = suite("suite-wrong").run(&["test", "s"]).expect_exit(1);
     let lines: Vec<&str> = ran.out.lines().filter(|line| !line.starts_with("       ")).collect();
-    assert_eq!(lines[0], "ok     Every run ends     s/dialog.aut  holds");
-    assert_eq!(lines[2], "ok     It ends, they say  s/dialog.aut  holds");
-    assert_eq!(lines[3], "WRONG  It ends, they say  s/hover.aut   fails, but is expected to hold");
-    assert!(timeless(&ran).ends_with("\n4 checks of 2 formulas on 2 models: 3 as expected, 1 not as expected"));
+    assert_eq!(lines[0], "ok     Every run ends     holds in dialog; fails in hover, as expected");
+    assert_eq!(lines[1], "ok     It ends, they say  holds in dialog");
+    assert_eq!(lines[2], "WRONG  It ends, they say  s/hover.aut  fails, but is expected to hold");
+    assert!(printed(&ran).ends_with("\n4 checks of 2 formulas on 2 models: 3 as expected, 1 not as expected"));
     let why = ran.out.lines().find(|line| line.starts_with("       ") && line.contains("hover"));
     assert!(why.is_some(), "the loop is shown: {}", ran.out);
+}
+
+/// Up to six models are named, and more are counted.
+#[test]
+fn many_models() {
+    let folder = suite("suite-many");
+    for (models, said) in [(6, "holds in m0, m1, m2, m3, m4, m5"), (7, "holds in 7 models")] {
+        for number in 0..models {
+            folder.write(&format!("m/m{number}.aut"), DIALOG);
+        }
+        folder.write("s/b.mcf", format!("% name: Many\n% models: ../m/*.aut\n{ENDS}"));
+        let ran = folder.run(&["test", "s/b.mcf"]).expect_exit(0);
+        assert_eq!(ran.out.lines().next(), Some(format!("ok     Many  {said}").as_str()));
+    }
 }
 
 #[test]
@@ -72,7 +85,7 @@ fn bail_ends_the_run_whatever_the_jobs() {
     }
     for jobs in ["1", "2", "8"] {
         let ran = folder.run(&["test", "s", "--bail", "--jobs", jobs]).expect_exit(1);
-        assert!(timeless(&ran)
+        assert!(printed(&ran)
             .ends_with("\n3 checks of 2 formulas on 2 models: 2 as expected, 1 not as expected, 4 not run"));
         let tap = folder.run(&["test", "s", "--bail", "--tap", "--jobs", jobs]).expect_exit(1);
         assert!(tap.out.starts_with("TAP version 14\n1..7\nok 1 - "), "{}", tap.out);
@@ -88,9 +101,9 @@ fn the_output_does_not_depend_on_the_jobs() {
         folder.write(&format!("s/n{number}.mcf"), format!("% models: *.aut\n% expect: {expected}\n{ENDS}"));
     }
     let one = folder.run(&["test", "s", "--jobs", "1"]).expect_exit(1);
-    assert!(timeless(&one).contains("\n84 checks of 42 formulas on 2 models: "));
+    assert!(printed(&one).contains("\n84 checks of 42 formulas on 2 models: "));
     for jobs in ["2", "8", "100000"] {
-        assert_eq!(timeless(&folder.run(&["test", "s", "--jobs", jobs]).expect_exit(1)), timeless(&one));
+        assert_eq!(printed(&folder.run(&["test", "s", "--jobs", jobs]).expect_exit(1)), printed(&one));
     }
     let tap = folder.run(&["test", "s", "--tap", "--jobs", "1"]).expect_exit(1);
     assert_eq!(folder.run(&["test", "s", "--tap", "--jobs", "8"]).out, tap.out);
@@ -118,7 +131,7 @@ fn formulas_at_fault() {
         assert!(fault.starts_with("       error: ") && fault.contains(said), "{said}: {}", ran.out);
         assert!(ran.out.contains("s/b.mcf:"), "the place is shown: {}", ran.out);
         assert!(ran.out.contains("help: "), "it says what to do: {}", ran.out);
-        assert!(timeless(&ran).ends_with(": 2 as expected, 1 at fault"), "{}", ran.out);
+        assert!(printed(&ran).ends_with(": 2 as expected, 1 at fault"), "{}", ran.out);
     }
 }
 
@@ -128,7 +141,7 @@ fn patterns() {
     let folder = suite("suite-patterns");
     folder.write("t/f.mcf", format!("% models: ../s/d*.aut ../?/dialog.aut ../s/dialog.aut\n{ENDS}"));
     let ran = folder.run(&["test", "t"]).expect_exit(0);
-    assert!(timeless(&ran).ends_with("\n1 check of 1 formula on 1 model: all as expected"), "{}", ran.out);
+    assert!(printed(&ran).ends_with("\n1 check of 1 formula on 1 model: all as expected"), "{}", ran.out);
 }
 
 /// A formula without a folder before its name, and patterns in it.
@@ -137,12 +150,12 @@ fn a_formula_in_this_folder() {
     let folder = Folder::with_dialog("suite-here");
     folder.write("here.mcf", format!("% name: Here\n% models: d*.au? ./dialog.aut\n{ENDS}"));
     let ran = folder.run(&["test", "here.mcf"]).expect_exit(0);
-    assert!(ran.out.starts_with("ok     Here  dialog.aut  holds\n\n1 check of "), "{}", ran.out);
+    assert!(ran.out.starts_with("ok     Here  holds in dialog\n\n1 check of "), "{}", ran.out);
     // Patterns end at blanks, and the path of the folder may have some.
     let pattern = folder.path("dialog.a*").display().to_string().replace(' ', "?");
     folder.write("here.mcf", format!("% name: Here\n% models: {pattern}\n{ENDS}"));
     let ran = folder.run(&["test", "here.mcf"]).expect_exit(0);
-    assert!(ran.out.contains(&folder.path("dialog.aut").display().to_string()), "{}", ran.out);
+    assert!(ran.out.starts_with("ok     Here  holds in dialog\n\n1 check of "), "{}", ran.out);
     let ran = folder.run(&["test", "here.mcf", "--filter", "nothing"]).expect_exit(2);
     assert!(ran.err.contains("error: no check found in here.mcf\n"), "{}", ran.err);
     folder.write("here.mcf", "% models: e*.aut\ntrue\n");

@@ -145,9 +145,11 @@ fn limits() {
     let wide = |brackets: usize| vec!["(true && X)"; brackets].join(" || ");
     let halves = |brackets: usize| format!("mu X. ({}) && ({})", wide(brackets / 2), wide(brackets - brackets / 2));
     assert_eq!(outcome(&halves(400)), "a table");
-    let tree = tree(12);
-    assert!(2 * 4096 < PARTS && outcome(&tree) == "too large");
-    assert_eq!(outcome(&format!("{tree} && {tree}")), MANY);
+    // Trees have 2^13 - 1, 2^10 - 1 and 2^9 - 1 parts, two more join them, and each `!` is one: 273 of them make 10,000.
+    let trees = format!("({} && {} && {})", tree(12), tree(9), tree(8));
+    assert_eq!(PARTS, 8_191 + 1_023 + 511 + 2 + 273);
+    assert_eq!(outcome(&format!("{}{trees}", "!".repeat(273))), "too large");
+    assert_eq!(outcome(&format!("{}{trees}", "!".repeat(274))), MANY);
 }
 
 /// A tree of so many levels of `&&` over `true`.

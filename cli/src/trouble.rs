@@ -70,3 +70,15 @@ impl From<check::Trouble> for Trouble {
         }
     }
 }
+
+#[cfg(test)]
+mod tests {
+    use super::*;
+
+    /// It is proved that the routes do not differ, so no text can show what the exit is if they do.
+    #[test]
+    fn exits() {
+        let differ = Trouble::from(check::Trouble::Differ("the count is 1 and 2".to_string()));
+        assert_eq!((differ.exit(), Trouble::plain("a fault").exit()), (Exit::Differ, Exit::Fault));
+    }
+}

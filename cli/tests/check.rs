@@ -150,3 +150,24 @@ fn a_model_from_standard_input() {
     folder.run_with(&["check", "-", "ends.mcf"], DIALOG.as_bytes()).expect_exit(0);
     folder.run_with(&["check", "dialog.aut", "-"], b"<close>true").expect_exit(1);
 }
+
+/// `true` has no fixed point: the direct route has nothing to iterate, and the equation route iterates the nu that is
+/// written around it once, which finds nothing new.
+#[test]
+fn rounds_of_each_route() {
+    let folder = Folder::with_dialog("check-rounds");
+    let ran = folder.run(&["check", "dialog.aut", "-e", "true"]).expect_exit(0);
+    assert!(ran.out.contains("\n  rounds       1 by the equation route, 0 by the direct one\n"), "{}", ran.out);
+    let answer = folder.run(&["check", "dialog.aut", "-e", "true", "--json"]).expect_exit(0).json();
+    assert_eq!(answer["rounds"], json!({"equation": 1, "direct": 0}));
+}
+
+/// The formula holds in three states, one of which no run comes to.
+#[test]
+fn an_unreached_state_in_json() {
+    let folder = Folder::new("check-json-unreached");
+    folder.write("lost.aut", "des (0, 1, 3)\n(0, click, 1)\n");
+    let answer = folder.run(&["check", "lost.aut", "-e", "mu X. [true] X", "--json"]).expect_exit(0).json();
+    assert_eq!(answer["count"], 2);
+    assert_eq!(answer["states"][2], json!({"number": 2, "name": null, "holds": true, "reached": false}));
+}

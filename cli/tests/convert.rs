@@ -117,3 +117,12 @@ fn arguments_that_do_not_fit_the_file() {
     }
     assert!(!folder.path("m.aut").exists() && !folder.path("m.txt").exists() && !folder.path("f.mcf").exists());
 }
+
+#[test]
+fn options_for_reading() {
+    let folder = Folder::new("convert-options");
+    folder.write("m.aut", "des (0, 1, 2)\n(0, click|i, 1)\n");
+    folder.run(&["convert", "m.aut", "-e", "<click>true", "-o", "c.bin"]).expect_exit(2);
+    folder.run(&["convert", "m.aut", "-e", "<click>true", "-o", "c.bin", "--silent", "i"]).expect_exit(0);
+    folder.run(&["convert", "m.aut", "-e", "<click>true", "-o", "c.bin", "--allow-unknown-labels"]).expect_exit(0);
+}

@@ -71,3 +71,38 @@ fn the_page() {
     assert!(ran.err.starts_with("error: the page needs a formula\n"), "{}", ran.err);
     assert!(!folder.path("n.html").exists());
 }
+
+/// With and without graphviz the verdict is in the drawing, by a sign and not by colour alone.
+#[test]
+fn a_verdict_in_svg() {
+    let folder = Folder::with_dialog("draw-verdict");
+    for path in [std::env::var("PATH").unwrap_or_default(), folder.path("").display().to_string()] {
+        let mut command =
+            folder.command(&["draw", "dialog.aut", "-e", "<close>true", "--svg", "m.svg", "--html", "m.html"]);
+        finished(command.env("PATH", path)).expect_exit(0);
+        let drawing = folder.read("m.svg");
+        assert!(drawing.contains('\u{2713}') && drawing.contains('\u{2717}'), "{drawing}");
+        assert!(folder.path("m.html").exists());
+    }
+}
+
+#[cfg(unix)]
+#[test]
+fn svg_by_graphviz() {
+    let folder = Folder::with_dialog("draw-graphviz");
+    folder.write("bin/dot", "#!/bin/sh\ncat >/dev/null\necho '<svg>by graphviz</svg>'\n");
+    make_executable(&folder);
+    let path = format!("{}:/usr/bin:/bin", folder.path("bin").display());
+    finished(folder.command(&["draw", "dialog.aut", "--svg", "m.svg"]).env("PATH", path)).expect_exit(0);
+    assert_eq!(folder.read("m.svg"), "<svg>by graphviz</svg>\n");
+}
+
+#[test]
+fn options() {
+    let folder = Folder::with_dialog("draw-options");
+    folder.write("other.txt", "0 shown\n");
+    let ran = folder.run(&["draw", "dialog.aut", "--names", "other.txt"]).expect_exit(0);
+    assert!(ran.out.contains("shown") && !ran.out.contains("closing"), "{}", ran.out);
+    // P1 takes four rounds.
+    folder.run(&["draw", "dialog.aut", "ends.mcf", "--limit", "3"]).expect_exit(2);
+}

@@ -182,7 +182,7 @@ fn wrong_arguments() {
 fn nothing_steers_a_terminal() {
     let folder = Folder::new("fault-escapes");
     folder.write("m\u{1b}[31m.aut", "des (0, 1, 2)\n(0, \"a\u{1b}[31m\u{9b}b\u{202e}\", 1)\n");
-    folder.write("m\u{1b}[31m.names", "0 red\u{1b}[31m\u{7}\n");
+    folder.write("m\u{1b}[31m.names", "0 red\u{1b}[31m\u{7}\u{9b}\u{202e}\n");
     folder.write("f.mcf", "% name: \u{1b}[31m\n% models: m*.aut\n% expect: false\n<true>true\n");
     let model = "m\u{1b}[31m.aut";
     for arguments in [

@@ -172,3 +172,14 @@ fn folders_without_formulas() {
     assert!(ran.err.starts_with("error: no check found in empty\n"), "{}", ran.err);
     assert_eq!(ran.out, "");
 }
+
+/// A fault ends the run too, and the report says how many checks were not run.
+#[test]
+fn bail_at_a_fault() {
+    let folder = suite("suite-bail-fault");
+    folder.write("s/a.mcf", "% models: dialog.aut\nnu X [true] X\n");
+    let ran = folder.run(&["test", "s", "--bail", "--jobs", "1", "--json", "r.json"]).expect_exit(2);
+    assert!(printed(&ran).ends_with(": 0 as expected, 1 at fault, 2 not run"), "{}", ran.out);
+    let report: serde_json::Value = serde_json::from_str(&folder.read("r.json")).expect("it is JSON");
+    assert_eq!((&report["summary"]["checks"], &report["summary"]["not_run"]), (&3.into(), &2.into()));
+}

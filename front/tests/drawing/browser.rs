@@ -43,7 +43,7 @@ impl Browser {
         let path = self.folder.join("page.html");
         std::fs::write(&path, page).unwrap_or_else(|error| panic!("{}: {error}", path.display()));
         let ended = run(&mut self.command(&path), "", seconds)?;
-        let console = ended.complained.lines().filter(|line| line.contains("CONSOLE")).map(str::to_string).collect();
+        let console = ended.complained.lines().filter(|line| is_of_page(line)).map(str::to_string).collect();
         ended.well.then_some(Opened { document: ended.printed, console })
     }
 
@@ -83,6 +83,12 @@ impl Drop for Browser {
         // A folder that stays behind is no fault of the test.
         let _ = std::fs::remove_dir_all(&self.folder);
     }
+}
+
+/// Is a line of the browser's log a message of the page's console? The browser's own pages write there too, for instance
+/// where there is no network.
+fn is_of_page(line: &str) -> bool {
+    line.contains(":CONSOLE") && !line.contains("source: chrome://")
 }
 
 /// A text as `encodeURIComponent` writes it.

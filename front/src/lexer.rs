@@ -1,6 +1,8 @@
 //! The words of a formula's text.
 
+use crate::amount;
 use crate::label;
+use crate::limits;
 use crate::quoted;
 use crate::source::{Fault, Source, Span};
 use std::collections::HashMap;
@@ -28,6 +30,9 @@ const SIGNS: [&str; 24] = [
     "|", "&", "=", "~",
 ];
 
+/// So many words and signs are read at most, brackets among them: what is longer is no formula that somebody wrote.
+pub const WORDS: usize = 500_000;
+
 /// Begins a comment, which the end of the line ends.
 const COMMENT: char = '%';
 
@@ -44,8 +49,17 @@ pub fn words(source: &Arc<Source>) -> Result<Vec<(Word, Span)>, Fault> {
             return Ok(words);
         }
         end = start + length;
+        if words.len() >= WORDS {
+            return Err(too_many_words(source, Span::new(start, end)));
+        }
         words.push((word, Span::new(start, end)));
     }
+}
+
+fn too_many_words(source: &Arc<Source>, word: Span) -> Fault {
+    let message = format!("more than {} words and signs are in the formula", amount::thousands(WORDS));
+    Fault::new(source, word, message)
+        .with_help(format!("is it a formula? The checker takes at most {} formula nodes", limits::FORMULA_NODES))
 }
 
 /// A part of a text without the round brackets that stand around all of it.

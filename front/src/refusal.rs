@@ -30,7 +30,8 @@ pub fn spent(case: &Case, route: &str, limit: u64) -> Fault {
     let (source, span) = case.formula();
     let message = format!("more than {} by {route}", amount::of(limit, "round"));
     Fault::new(source, span, message).with_refusal(SPENT).with_help(
-        "a larger --limit allows more rounds; a formula with fewer mu and nu one inside another takes fewer of them",
+        "a larger --limit, or a line `% limit: N` in the formula's file, allows more rounds; a formula with fewer mu and nu \
+         one inside another takes fewer of them",
     )
 }
 

@@ -3,6 +3,7 @@
 
 use bithrowy_front::expand::{self, expand, Expansion};
 use bithrowy_front::label::SILENT;
+use bithrowy_front::lexer::WORDS;
 use bithrowy_front::parser::{self, NESTED, PARTS};
 use bithrowy_front::print;
 use bithrowy_front::source::Source;
@@ -133,6 +134,15 @@ fn brackets_alone_are_never_too_deep() {
     assert_eq!(outcome(&format!("{open}true{close}")), "a table");
     assert_eq!(outcome(&format!("[{open}a{close}]true")), "a table");
     assert_eq!(outcome(&format!("[{open}a.b{close}]true")), "a table");
+}
+
+/// Brackets in pairs around `true` are an odd number of words, and one or two negations before them are the rest.
+#[test]
+fn words_in_range() {
+    let pairs = WORDS / 2 - 1;
+    let text = format!("{}true{}", "(".repeat(pairs), ")".repeat(pairs));
+    assert_eq!(outcome(&format!("!{text}")), "a table");
+    assert_eq!(outcome(&format!("!!{text}")), "more than 500,000 words and signs are in the formula");
 }
 
 /// Both sides of the limits. A chain of so many operands is so many parts deep, and has twice as many parts but one.

@@ -3,7 +3,7 @@
 
 use bithrowy_front::expand::{self, expand, Expansion};
 use bithrowy_front::label::SILENT;
-use bithrowy_front::lexer::WORDS;
+use bithrowy_front::lexer;
 use bithrowy_front::parser::{self, NESTED, PARTS};
 use bithrowy_front::print;
 use bithrowy_front::source::Source;
@@ -139,7 +139,7 @@ fn brackets_alone_are_never_too_deep() {
 /// Brackets in pairs around `true` are an odd number of words, and one or two negations before them are the rest.
 #[test]
 fn words_in_range() {
-    let pairs = WORDS / 2 - 1;
+    let pairs = lexer::WORDS / 2 - 1;
     let text = format!("{}true{}", "(".repeat(pairs), ")".repeat(pairs));
     assert_eq!(outcome(&format!("!{text}")), "a table");
     assert_eq!(outcome(&format!("!!{text}")), "more than 500,000 words and signs are in the formula");

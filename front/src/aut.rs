@@ -13,6 +13,7 @@ use std::sync::Arc;
 
 const ABOUT_HEADER: &str =
     "begin with des (0, 1, 2): the initial state, how many transitions follow, how many states there are";
+const ABOUT_ORDER: &str = "is this the formula? The model's file comes first; and a model has no comments";
 const ABOUT_TRANSITION: &str = "write (0, \"click\", 1): from state 0, by click, to state 1";
 const ABOUT_BACKSLASH: &str = "write \\\\ for one backslash, or leave the quotes of the label out";
 const ABOUT_STATES: &str = "states are numbered from 0; a .names file gives them names";
@@ -69,16 +70,21 @@ struct Header {
 fn read_header(source: &Arc<Source>, line: &mut Line) -> Result<Header, Fault> {
     let about = |fault: Fault| fault.with_help(ABOUT_HEADER);
     if !line.skip("des") {
-        return Err(about(line.fault("a model begins with \"des\"")));
+        let help = match line.rest().starts_with('(') {
+            true => ABOUT_HEADER.to_string(),
+            false => format!("{ABOUT_HEADER}\n{ABOUT_ORDER}"),
+        };
+        return Err(line.fault("expected \"des\" at the start of the model").with_help(help));
     }
-    sign(line, "(", "\"(\" stands behind \"des\"").map_err(about)?;
-    let (initial, _) = header_number(source, line, "the initial state's number stands behind \"(\"", large_state)?;
-    sign(line, ",", "a comma stands behind the initial state's number").map_err(about)?;
-    let missing = "the number of transitions stands behind the first comma";
+    sign(line, "(", "expected \"(\" after \"des\"").map_err(about)?;
+    let (initial, _) = header_number(source, line, "expected the initial state's number after \"(\"", large_state)?;
+    sign(line, ",", "expected \",\" after the initial state's number").map_err(about)?;
+    let missing = "expected the number of transitions after the first \",\"";
     let (transitions, count) = header_number(source, line, missing, large_transitions)?;
-    sign(line, ",", "a comma stands behind the number of transitions").map_err(about)?;
-    let (states, _) = header_number(source, line, "the number of states stands behind the second comma", large_states)?;
-    sign(line, ")", "the header ends with \")\"").map_err(about)?;
+    sign(line, ",", "expected \",\" after the number of transitions").map_err(about)?;
+    let (states, _) =
+        header_number(source, line, "expected the number of states after the second \",\"", large_states)?;
+    sign(line, ")", "expected \")\" at the end of the header").map_err(about)?;
     end_of_line(line)?;
     Ok(Header { span: line.span, initial, transitions, count, states })
 }
@@ -116,7 +122,12 @@ fn check_count(source: &Arc<Source>, header: &Header, lines: usize) -> Result<()
     let follow = if lines == 1 { "follows" } else { "follow" };
     let says = amount::of(header.transitions, "transition");
     let message = format!("the header says {says}, {} {follow}", amount::thousands(lines as u64));
-    Err(Fault::new(source, header.count, message).with_help(format!("write {lines}")))
+    let help = match header.transitions.saturating_sub(lines) {
+        0 => format!("write {lines}"),
+        1 => format!("write {lines}, or add the line that is missing"),
+        missing => format!("write {lines}, or add the {} lines that are missing", amount::thousands(missing)),
+    };
+    Err(Fault::new(source, header.count, message).with_help(help))
 }
 
 fn read_transition(
@@ -126,28 +137,28 @@ fn read_transition(
     silent: &str,
 ) -> Result<Transition, Fault> {
     begin_transition(line)?;
-    let from = state(source, line, "a state's number stands behind \"(\"")?;
-    sign(line, ",", "a comma stands behind the first state's number")
+    let from = state(source, line, "expected a state's number after \"(\"")?;
+    sign(line, ",", "expected \",\" after the first state's number")
         .map_err(|fault| fault.with_help(ABOUT_TRANSITION))?;
     let label = read_label(source, line, silent)?;
-    sign(line, ",", "a comma stands behind the label").map_err(|fault| fault.with_help(ABOUT_TRANSITION))?;
-    let target = state(source, line, "a state's number stands behind the label")?;
+    sign(line, ",", "expected \",\" after the label").map_err(|fault| fault.with_help(ABOUT_TRANSITION))?;
+    let target = state(source, line, "expected a state's number after the label")?;
     end_transition(source, line)?;
     Ok(Transition { source: from, label: labels.number(label), target, span: line.span })
 }
 
 fn begin_transition(line: &mut Line) -> Result<(), Fault> {
     if line.rest().strip_prefix("des").is_some_and(|rest| rest.trim_start().starts_with('(')) {
-        let fault = line.fault("the header stands once, on the first line");
-        return Err(fault.with_help("keep each model in a file of its own"));
+        let fault = line.fault("expected a transition");
+        return Err(fault.with_help("the header stands once, on the first line: keep each model in a file of its own"));
     }
-    sign(line, "(", "a transition begins with \"(\"").map_err(|fault| fault.with_help(ABOUT_TRANSITION))
+    sign(line, "(", "expected \"(\" at the start of the transition").map_err(|fault| fault.with_help(ABOUT_TRANSITION))
 }
 
 fn end_transition(source: &Source, line: &mut Line) -> Result<(), Fault> {
     let read = Span::new(line.span.start, line.rest_span().start);
     let help = format!("write {})", shown(source.slice(read).trim_end()));
-    sign(line, ")", "a transition ends with \")\"").map_err(|fault| fault.with_help(help))?;
+    sign(line, ")", "expected \")\" at the end of the transition").map_err(|fault| fault.with_help(help))?;
     end_of_line(line)
 }
 
@@ -169,7 +180,7 @@ fn end_of_line(line: &mut Line) -> Result<(), Fault> {
         true => "write each transition on a line of its own",
         false => "leave out what stands behind \")\": these files have no comments",
     };
-    Err(line.fault("the line ends behind \")\"").with_help(help))
+    Err(line.fault("expected the end of the line after \")\"").with_help(help))
 }
 
 fn state(source: &Arc<Source>, line: &mut Line, missing: &str) -> Result<usize, Fault> {
@@ -199,10 +210,14 @@ fn read_label(source: &Arc<Source>, line: &mut Line, silent: &str) -> Result<Lab
 /// The text up to the last comma of the line.
 fn bare(source: &Arc<Source>, line: &mut Line) -> Result<(String, Span), Fault> {
     let Some(comma) = line.rest().rfind(',') else {
-        let fault = Fault::new(source, line.rest_span(), "a comma stands behind the label, and a state's number");
+        let fault = Fault::new(source, line.rest_span(), "expected \",\" and a state's number after the label");
         return Err(fault.with_help(ABOUT_TRANSITION));
     };
     let text = line.rest()[..comma].trim_end();
+    if let Some(length) = transition_end(text) {
+        line.take(length);
+        end_of_line(line)?;
+    }
     let span = line.take(text.len());
     if let Some(quote) = text.find('"') {
         let at = Span::new(span.start + quote, span.start + quote + 1);
@@ -210,6 +225,28 @@ fn bare(source: &Arc<Source>, line: &mut Line) -> Result<(String, Span), Fault> 
             .with_help("write the whole label in quotes, with \\\" for a quote inside it"));
     }
     Ok((text.to_string(), span))
+}
+
+/// Where a transition ends inside what should be its label: behind a comma, a number, and a bracket that closes none of
+/// the label's own. Then more stands on the line than one transition.
+fn transition_end(text: &str) -> Option<usize> {
+    let mut open = 0_usize;
+    for (at, letter) in text.char_indices() {
+        match letter {
+            '(' => open += 1,
+            ')' if open > 0 => open -= 1,
+            ')' if ends_with_number(&text[..at]) => return Some(at + 1),
+            _ => {}
+        }
+    }
+    None
+}
+
+/// Does a text end with a comma and a number?
+fn ends_with_number(text: &str) -> bool {
+    let text = text.trim_end();
+    let before = text.trim_end_matches(|letter: char| letter.is_ascii_digit());
+    before.len() < text.len() && before.trim_end().ends_with(',')
 }
 
 /// Labels in order of first appearance, with the place of each text.

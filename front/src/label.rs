@@ -1,7 +1,10 @@
 //! Labels: one name, several that happen together (`focus|blur`), or the silent step.
 
-/// The name of the silent step where nothing else is said; CADP writes `i`.
+/// The name of the silent step where nothing else is said.
 pub const SILENT: &str = "tau";
+
+/// The name that CADP writes for it.
+pub const SILENT_OF_CADP: &str = "i";
 
 /// The words of the language of formulas, which no bare name is: what .mcf files have here, and what they have that is
 /// refused by name.

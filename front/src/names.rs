@@ -42,14 +42,14 @@ fn read_line<'a>(source: &'a Arc<Source>, model: &Model, line: &mut Line<'a>) ->
     let (state, number) = match line.number() {
         Ok(read) => read,
         Err(NoNumber::Missing) => {
-            return Err(line.fault("a line begins with a state's number").with_help(ABOUT_LINE));
+            return Err(line.fault("expected a state's number at the start of the line").with_help(ABOUT_LINE));
         }
         Err(NoNumber::Large(span)) => return Err(no_state(source, model, span)),
     };
     let name = without_comment(line.rest());
     let place = line.take(name.len());
     if place.start == number.end && !name.is_empty() {
-        let fault = Fault::new(source, place, "a blank stands between a state's number and its name");
+        let fault = Fault::new(source, place, "expected a blank between a state's number and its name");
         return Err(fault.with_help(ABOUT_LINE));
     }
     if name.is_empty() {

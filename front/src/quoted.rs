@@ -7,9 +7,8 @@ use std::sync::Arc;
 /// backslash before another character.
 pub(crate) fn read(source: &Arc<Source>, at: usize, advice: &str) -> Result<(String, usize), Fault> {
     let inside = at + 1;
-    let line = source.text[inside..].lines().next().unwrap_or("");
     let mut label = String::new();
-    let mut letters = line.char_indices();
+    let mut letters = source.text[inside..].char_indices();
     while let Some((offset, letter)) = letters.next() {
         match letter {
             '"' => return Ok((label, inside + offset + 1 - at)),
@@ -17,9 +16,11 @@ pub(crate) fn read(source: &Arc<Source>, at: usize, advice: &str) -> Result<(Str
                 Some((_, escaped @ ('"' | '\\'))) => label.push(escaped),
                 _ => return Err(stray_backslash(source, inside + offset).with_help(advice)),
             },
+            '\n' => break,
             _ => label.push(letter),
         }
     }
+    let line = source.text[inside..].lines().next().unwrap_or("");
     let message = "the label begins with a quote, and no quote ends it";
     Err(Fault::new(source, Span::new(at, inside + line.len()), message)
         .with_help("write \"click\"; inside a label, \\\" stands for a quote"))

@@ -296,8 +296,27 @@ fn labels_are_known_by_their_names() {
     assert!(checked(&case(model, "<blur|tau|focus> true"), ROUNDS).verdict);
     let fault = case_of(model, "<blur> true", false).unwrap_err();
     assert_eq!(fault.message, "no transition has the label `blur`");
-    let lines = "if some step should have it, the component or its recording lacks that step\nthe model's labels: `focus|blur`\n";
+    let lines = "it happens only together with others, as in `focus|blur`\nthe model's labels: `focus|blur`\n";
     assert!(fault.help.unwrap().starts_with(lines));
+}
+
+/// The first line of the help says what may have been meant.
+#[test]
+fn what_an_unknown_label_may_be() {
+    let model = "des (0, 4, 1)\n(0, click, 0)\n(0, close, 0)\n(0, focus|blur, 0)\n(0, i, 0)\n";
+    for (formula, meant) in [
+        ("<clsoe>true", "did you mean `close`?"),
+        (
+            "<click|close>true",
+            "it is one step with all of these names; for a step with any of them write `click || close`",
+        ),
+        ("<blur>true", "it happens only together with others, as in `focus|blur`"),
+        ("<tau>true", "is `i` the silent step of the model? Then say so: --silent i"),
+        ("<submit>true", "if some step should have it, the component or its recording lacks that step"),
+    ] {
+        let help = case_of(model, formula, false).unwrap_err().help.unwrap();
+        assert_eq!(help.lines().next(), Some(meant), "{formula}");
+    }
 }
 
 #[test]

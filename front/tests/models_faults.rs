@@ -43,36 +43,40 @@ fn nothing_to_read() {
 
 #[test]
 fn header_that_is_missing() {
-    let message = "1: a model begins with \"des\", found \"(\"";
+    let message = "1: expected \"des\" at the start of the model, found \"(\"";
     check_header("(0, \"click\", 1)", message, "^", ABOUT_HEADER);
-    check_header("DES (0, 0, 1)", "1: a model begins with \"des\", found \"DES\"", "^^^", ABOUT_HEADER);
+    let help = format!(
+        "{ABOUT_HEADER}\n          is this the formula? The model's file comes first; and a model has no comments"
+    );
+    check_header("DES (0, 0, 1)", "1: expected \"des\" at the start of the model, found \"DES\"", "^^^", &help);
+    check_header("% Does it end?", "1: expected \"des\" at the start of the model, found \"%\"", "^", &help);
 }
 
 #[test]
 fn header_without_a_sign() {
-    check_header("des 0, 1, 2)", "5: \"(\" stands behind \"des\", found \"0\"", "    ^", ABOUT_HEADER);
-    let message = "7: a comma stands behind the initial state's number, found \";\"";
+    check_header("des 0, 1, 2)", "5: expected \"(\" after \"des\", found \"0\"", "    ^", ABOUT_HEADER);
+    let message = "7: expected \",\" after the initial state's number, found \";\"";
     check_header("des (0; 1, 2)", message, "      ^", ABOUT_HEADER);
-    let message = "10: a comma stands behind the number of transitions, found \")\"";
+    let message = "10: expected \",\" after the number of transitions, found \")\"";
     check_header("des (0, 1)", message, "         ^", ABOUT_HEADER);
-    check_header("des (0, 1, 2", "13: the header ends with \")\"", "            ^", ABOUT_HEADER);
-    check_header("des", "4: \"(\" stands behind \"des\"", "   ^", ABOUT_HEADER);
+    check_header("des (0, 1, 2", "13: expected \")\" at the end of the header", "            ^", ABOUT_HEADER);
+    check_header("des", "4: expected \"(\" after \"des\"", "   ^", ABOUT_HEADER);
 }
 
 #[test]
 fn header_without_a_number() {
-    let message = "6: the initial state's number stands behind \"(\", found \"open\"";
+    let message = "6: expected the initial state's number after \"(\", found \"open\"";
     check_header("des (open, 1, 2)", message, "     ^^^^", ABOUT_HEADER);
-    let message = "9: the number of transitions stands behind the first comma, found \",\"";
+    let message = "9: expected the number of transitions after the first \",\", found \",\"";
     check_header("des (0, , 2)", message, "        ^", ABOUT_HEADER);
-    let message = "12: the number of states stands behind the second comma, found \"-3\"";
+    let message = "12: expected the number of states after the second \",\", found \"-3\"";
     check_header("des (0, 1, -3)", message, "           ^^", ABOUT_HEADER);
 }
 
 #[test]
 fn header_with_more_behind_it() {
     let help = "  = help: leave out what stands behind \")\": these files have no comments";
-    let message = "15: the line ends behind \")\", found \"%\"";
+    let message = "15: expected the end of the line after \")\", found \"%\"";
     check_header("des (0, 1, 2) % a dialog", message, "              ^", help);
 }
 
@@ -106,46 +110,61 @@ fn header_that_counts_wrongly() {
         "dialog.aut:1:7: the header says 1,000 transitions, 1 follows",
         "des(0,1000,2)\n(0, a, 1)\n",
         "  |       ^^^^",
-        "  = help: write 1",
+        "  = help: write 1, or add the 999 lines that are missing",
     );
     header(
         "dialog.aut:1:9: the header says 1 transition, 0 follow",
         "des (0, 1, 2)\n",
         "  |         ^",
-        "  = help: write 0",
+        "  = help: write 0, or add the line that is missing",
     );
 }
 
 #[test]
 fn second_header() {
-    let message = "1: the header stands once, on the first line, found \"des\"";
-    check_transition("des (0, 1, 2)", message, "^^^", "  = help: keep each model in a file of its own");
+    let message = "1: expected a transition, found \"des\"";
+    check_transition(
+        "des (0, 1, 2)",
+        message,
+        "^^^",
+        "  = help: the header stands once, on the first line: keep each model in a file of its own",
+    );
 }
 
 #[test]
 fn transition_without_a_sign() {
-    check_transition("0, \"click\", 1)", "1: a transition begins with \"(\", found \"0\"", "^", ABOUT_TRANSITION);
-    let message = "4: a comma stands behind the first state's number, found a quote";
+    check_transition(
+        "0, \"click\", 1)",
+        "1: expected \"(\" at the start of the transition, found \"0\"",
+        "^",
+        ABOUT_TRANSITION,
+    );
+    let message = "4: expected \",\" after the first state's number, found a quote";
     check_transition("(0 \"click\" 1)", message, "   ^", ABOUT_TRANSITION);
-    check_transition("(0", "3: a comma stands behind the first state's number", "  ^", ABOUT_TRANSITION);
-    let message = "13: a comma stands behind the label, found \"1\"";
+    check_transition("(0", "3: expected \",\" after the first state's number", "  ^", ABOUT_TRANSITION);
+    let message = "13: expected \",\" after the label, found \"1\"";
     check_transition("(0, \"click\" 1)", message, "            ^", ABOUT_TRANSITION);
-    let message = "5: a comma stands behind the label, and a state's number";
+    let message = "5: expected \",\" and a state's number after the label";
     check_transition("(0, click)", message, "    ^^^^^^", ABOUT_TRANSITION);
 }
 
 #[test]
 fn transition_that_does_not_end() {
     let help = "  = help: write (0, \"click\", 1)";
-    check_transition("(0, \"click\", 1", "15: a transition ends with \")\"", "              ^", help);
-    check_transition("(0, \"click\", 1]", "15: a transition ends with \")\", found \"]\"", "              ^", help);
+    check_transition("(0, \"click\", 1", "15: expected \")\" at the end of the transition", "              ^", help);
+    check_transition(
+        "(0, \"click\", 1]",
+        "15: expected \")\" at the end of the transition, found \"]\"",
+        "              ^",
+        help,
+    );
 }
 
 #[test]
 fn transition_with_a_word_for_a_state() {
-    let message = "2: a state's number stands behind \"(\", found \"open\"";
+    let message = "2: expected a state's number after \"(\", found \"open\"";
     check_transition("(open, \"click\", 1)", message, " ^^^^", ABOUT_STATES);
-    let message = "14: a state's number stands behind the label, found \"closing\"";
+    let message = "14: expected a state's number after the label, found \"closing\"";
     check_transition("(0, \"click\", closing)", message, "             ^^^^^^^", ABOUT_STATES);
 }
 
@@ -160,12 +179,25 @@ fn transition_with_a_large_number() {
 
 #[test]
 fn transitions_on_one_line() {
-    let message = "16: the line ends behind \")\", found \"(\"";
+    let message = "16: expected the end of the line after \")\", found \"(\"";
     let help = "  = help: write each transition on a line of its own";
     check_transition("(0, \"open\", 1) (1, \"close\", 0)", message, "               ^", help);
     let help = "  = help: leave out what stands behind \")\": these files have no comments";
-    let message = "16: the line ends behind \")\", found \"//\"";
+    let message = "16: expected the end of the line after \")\", found \"//\"";
     check_transition("(0, \"click\", 1)// twice", message, "               ^^", help);
+}
+
+/// Without quotes a label ends at the last comma, but not behind the end of the transition that it stands in.
+#[test]
+fn transitions_on_one_line_without_quotes() {
+    let message = "11: expected the end of the line after \")\", found \"(\"";
+    let help = "  = help: write each transition on a line of its own";
+    check_transition("(0, a, 1 ) (1, b, 0)", &message.replace("11", "12"), "           ^", help);
+    check_transition("(0, a, 12)(1, b, 0) (0, c, 1)", message, "          ^", help);
+    check_transition("(0, a(1,2), 1)(1, b, 0)", &message.replace("11", "15"), "              ^", help);
+    let help = "  = help: leave out what stands behind \")\": these files have no comments";
+    let message = "10: expected the end of the line after \")\", found \",\"";
+    check_transition("(0, a, 1),", message, "         ^", help);
 }
 
 #[test]
@@ -198,7 +230,7 @@ fn line_numbers_of_two_digits() {
     check(
         &text,
         &[
-            "dialog.aut:12:8: a state's number stands behind the label, found \"b\"",
+            "dialog.aut:12:8: expected a state's number after the label, found \"b\"",
             "   |",
             "12 | (0, a, b)",
             "   |        ^",
@@ -213,7 +245,7 @@ fn lines_with_returns() {
     check(
         "des (0, 1, 2)\r\n\r\n(0, \"é\", 1\r\n",
         &[
-            "dialog.aut:3:11: a transition ends with \")\"",
+            "dialog.aut:3:11: expected \")\" at the end of the transition",
             "  |",
             "3 | (0, \"é\", 1",
             "  |           ^",
@@ -225,7 +257,7 @@ fn lines_with_returns() {
 #[test]
 fn tabs_stay_before_the_caret() {
     let line = "\t(0,\t\"click\", x)";
-    let message = "15: a state's number stands behind the label, found \"x\"";
+    let message = "15: expected a state's number after the label, found \"x\"";
     check_transition(line, message, "\t   \t         ^", ABOUT_STATES);
 }
 
@@ -235,7 +267,7 @@ fn signs_that_a_terminal_obeys_are_not_shown() {
     check(
         "des (0, 1, 2)\n(0, \"\u{1b}[31m\u{202e}\", \u{7}x)\n",
         &[
-            "dialog.aut:2:15: a state's number stands behind the label, found \"\u{fffd}x\"",
+            "dialog.aut:2:15: expected a state's number after the label, found \"\u{fffd}x\"",
             "  |",
             "2 | (0, \"\u{fffd}[31m\u{fffd}\", \u{fffd}x)",
             "  |               ^^",

@@ -85,7 +85,7 @@ fn line_without_a_number() {
         3,
         "0 open\nclosing\n",
         &[
-            "dialog.names:2:1: a line begins with a state's number, found \"closing\"",
+            "dialog.names:2:1: expected a state's number at the start of the line, found \"closing\"",
             "  |",
             "2 | closing",
             "  | ^^^^^^^",
@@ -113,7 +113,7 @@ fn line_without_a_name() {
 fn number_that_touches_the_name() {
     let lines = |shown, carets| {
         [
-            "dialog.names:1:2: a blank stands between a state's number and its name",
+            "dialog.names:1:2: expected a blank between a state's number and its name",
             "  |",
             shown,
             carets,

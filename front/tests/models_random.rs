@@ -241,12 +241,13 @@ fn reads_names(source: &Arc<Source>, mut model: Model) -> bool {
 
 /// A fault has help, its place is in the text, a caret stands below the place, and nothing in it steers a terminal.
 fn check_fault(fault: &Fault) {
-    assert!(fault.help.is_some(), "{fault}");
+    let help = fault.help.as_deref().unwrap_or_default();
+    assert!(!help.is_empty(), "{fault}");
     assert!(fault.span.start <= fault.span.end && fault.span.end <= fault.source.text.len(), "{fault:?}");
     let place = fault.source.place(fault.span.start);
     let text = fault.to_string();
     let lines: Vec<&str> = text.split('\n').collect();
-    assert_eq!(lines.len(), 5, "{text}");
+    assert_eq!(lines.len(), 4 + help.lines().count(), "{text}");
     assert!(lines[0].starts_with(&format!("random:{}:{}: {}", place.line, place.column, fault.message)), "{text}");
     assert!(lines[2].starts_with(&format!("{} |", place.line)), "{text}");
     let carets = lines[3].split_once("| ").expect("a margin").1;

@@ -9,17 +9,15 @@ const CONTINUED: usize = 4;
 
 /// The verdict, the facts, and why it is so.
 pub fn text(answer: &Answer) -> String {
-    format!("{}\n\n{}\n{}", verdict(answer), rows(&facts(answer)), explanation(answer, ""))
+    let explanation: String = answer.explanation.iter().map(|line| explained("", line)).collect();
+    format!("{}\n\n{}\n{explanation}", verdict(answer), rows(&facts(answer)))
 }
 
-/// The lines of an explanation with something before each of them; a line that is too long goes on below, further in.
-pub fn explanation(answer: &Answer, before: &str) -> String {
-    let lines = answer.explanation.iter().map(|line| {
-        let words = line.trim_start();
-        let start = format!("{before}{:indent$}", "", indent = line.len() - words.len());
-        broken(&start, start.len() + CONTINUED, words)
-    });
-    lines.collect()
+/// A line of an explanation with something before it; if it is too long it goes on below, further in.
+pub fn explained(before: &str, line: &str) -> String {
+    let words = line.trim_start();
+    let start = format!("{before}{:indent$}", "", indent = line.len() - words.len());
+    broken(&start, start.len() + CONTINUED, words)
 }
 
 fn verdict(answer: &Answer) -> String {
@@ -42,14 +40,10 @@ fn facts(answer: &Answer) -> Vec<(&'static str, String)> {
     facts.extend(unreached(answer).map(|states| ("not reached", states)));
     let (equation, direct) = (thousands(checked.equation_rounds), thousands(checked.direct_rounds));
     facts.push(("rounds", format!("{equation} by the equation route, {direct} by the direct one")));
-    let records = counted(checked.records, "record");
+    let records = amount::of(checked.records, "record");
     facts.push(("transitions", format!("{records}, {} distinct", thousands(checked.distinct))));
-    facts.push(("price", counted(checked.cents, "cent")));
+    facts.push(("price", amount::of(checked.cents, "cent")));
     facts
-}
-
-fn counted(number: u64, thing: &str) -> String {
-    amount::of(usize::try_from(number).unwrap_or(usize::MAX), thing)
 }
 
 /// The states that can be reached and in which the formula holds, or fails.

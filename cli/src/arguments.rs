@@ -1,8 +1,11 @@
 //! The arguments of each command, with their help.
 
+mod values;
+
 use clap::{Args, Parser, Subcommand};
 use std::num::NonZeroUsize;
 use std::path::PathBuf;
+use values::{jobs, report_file, rounds, silent_word};
 
 /// Checks what web components do, written as a model (.aut), against what they should do, written as a formula of the modal
 /// mu-calculus (.mcf); the answer comes from a checker that is proved correct.
@@ -46,7 +49,7 @@ pub enum Command {
 #[derive(Clone, Debug, Default, Args)]
 pub struct Readings {
     /// The word for the silent step [default: the formula's `% silent:`, else tau]
-    #[arg(long, value_name = "WORD")]
+    #[arg(long, value_name = "WORD", value_parser = silent_word, allow_hyphen_values = true)]
     pub silent: Option<String>,
     /// Accept labels in the formula that no transition of the model has
     #[arg(long)]
@@ -75,7 +78,7 @@ pub struct CheckArguments {
     #[command(flatten)]
     pub readings: Readings,
     /// The most rounds of iteration that a route may take [default: the formula's `% limit:`, else 1000000]
-    #[arg(long, value_name = "N")]
+    #[arg(long, value_name = "N", value_parser = rounds, allow_negative_numbers = true)]
     pub limit: Option<u64>,
     /// Print the answer as JSON
     #[arg(long)]
@@ -96,16 +99,16 @@ pub struct TestArguments {
     #[arg(required = true, value_name = "DIR")]
     pub paths: Vec<PathBuf>,
     /// Write a JUnit report, for build servers
-    #[arg(long, value_name = "FILE")]
+    #[arg(long, value_name = "FILE", value_parser = report_file())]
     pub junit: Option<PathBuf>,
     /// Write a report as JSON
-    #[arg(long, value_name = "FILE")]
+    #[arg(long, value_name = "FILE", value_parser = report_file())]
     pub json: Option<PathBuf>,
     /// Print TAP, version 14, in place of lines for people
     #[arg(long)]
     pub tap: bool,
     /// How many checks run at a time [default: one for each processor]
-    #[arg(long, value_name = "N")]
+    #[arg(long, value_name = "N", value_parser = jobs, allow_negative_numbers = true)]
     pub jobs: Option<NonZeroUsize>,
     /// Run only checks with this text in the formula's name or file or the model's file
     #[arg(long, value_name = "TEXT")]
@@ -133,9 +136,6 @@ Exit: 0 all as expected, 1 some verdict is not, 2 a fault or a refusal, 3 the ro
 pub struct ShowArguments {
     #[command(flatten)]
     pub formula: FormulaArguments,
-    /// The word for the silent step [default: the formula's `% silent:`, else tau]
-    #[arg(long, value_name = "WORD")]
-    pub silent: Option<String>,
 }
 
 const SHOW: &str = "\
@@ -145,17 +145,17 @@ Examples:
 
 #[derive(Debug, Args)]
 pub struct ConvertArguments {
-    /// A model (.aut), a case file or an equation file: known by what it holds
+    /// A model (.aut), a case file or an equation file, known by what it holds, or - for standard input
     pub file: PathBuf,
     #[command(flatten)]
     pub formula: FormulaArguments,
-    /// Where the case file goes, or the equations [default: standard output]
+    /// Where the case file goes, or the equations [default: -, which is standard output]
     #[arg(short, long, value_name = "FILE", conflicts_with_all = ["aut", "mcf"])]
     pub output: Option<PathBuf>,
-    /// Where the case file's model goes, as text
+    /// Where the case file's model goes, as text; - is standard output
     #[arg(long, value_name = "FILE")]
     pub aut: Option<PathBuf>,
-    /// Where the case file's formula goes, as text
+    /// Where the case file's formula goes, as text; - is standard output
     #[arg(long, value_name = "FILE")]
     pub mcf: Option<PathBuf>,
     /// Write the equations, for people to read
@@ -180,10 +180,10 @@ pub struct DrawArguments {
     pub model: PathBuf,
     #[command(flatten)]
     pub formula: FormulaArguments,
-    /// Write a drawing as SVG in place of DOT on standard output
+    /// Write a drawing as SVG, in place of DOT on standard output; - is standard output too
     #[arg(long, value_name = "FILE")]
     pub svg: Option<PathBuf>,
-    /// Write one HTML page with the model and the formula, parts of which can be clicked; it needs no network
+    /// Write one HTML page with the model and the formula, parts of which can be clicked; it needs no network; - is standard output
     #[arg(long, value_name = "FILE")]
     pub html: Option<PathBuf>,
     /// The names of the model's states [default: the model's file with .names, if there is one]
@@ -192,7 +192,7 @@ pub struct DrawArguments {
     #[command(flatten)]
     pub readings: Readings,
     /// The most rounds of iteration that a route may take [default: the formula's `% limit:`, else 1000000]
-    #[arg(long, value_name = "N")]
+    #[arg(long, value_name = "N", value_parser = rounds, allow_negative_numbers = true)]
     pub limit: Option<u64>,
 }
 

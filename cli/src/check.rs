@@ -17,7 +17,7 @@ pub fn run(arguments: &CheckArguments) -> Result<Exit, Trouble> {
     if !arguments.json {
         output::text(&answer::text(&answer))?;
     }
-    Ok(if answer.checked.verdict { Exit::Good } else { Exit::Wrong })
+    Ok(answer.exit())
 }
 
 fn answered(arguments: &CheckArguments) -> Result<Answer, Trouble> {

@@ -24,9 +24,9 @@ fn from_text(arguments: &ConvertArguments, bytes: Vec<u8>) -> Result<(), Trouble
     if arguments.aut.is_some() || arguments.mcf.is_some() {
         return Err(wrong(arguments, "is text already: --aut and --mcf are for a case file", "write -o FILE"));
     }
-    let formula = Formula::of(&arguments.formula)?.ok_or_else(|| {
-        wrong(arguments, "is a model, and a case has a formula too", "name the formula's file behind the model")
-    })?;
+    let Some(formula) = Formula::of(&arguments.formula)? else {
+        return Err(alone(arguments, bytes));
+    };
     let rules = Rules::settle(&arguments.readings, Some(&formula.directives));
     let model = aut::read(&files::text(&arguments.file, bytes)?, &rules.silent)?;
     let case = formula.case(&model, &rules)?;
@@ -37,8 +37,23 @@ fn from_text(arguments: &ConvertArguments, bytes: Vec<u8>) -> Result<(), Trouble
     write_case(arguments, &case)
 }
 
+/// What is wrong with a text file that has no formula behind it: it is a model, with or without a fault, or nothing known.
+fn alone(arguments: &ConvertArguments, bytes: Vec<u8>) -> Trouble {
+    if !files::may_be_model(&bytes) {
+        let help = "a model as text begins with `des (`; a formula stands behind a model: bithrowy convert m.aut f.mcf";
+        return wrong(arguments, "is neither a model nor a case file nor an equation file", help);
+    }
+    let silent = Rules::settle(&arguments.readings, None).silent;
+    match files::text(&arguments.file, bytes).and_then(|text| Ok(aut::read(&text, &silent)?)) {
+        Err(trouble) => trouble,
+        Ok(_) => {
+            wrong(arguments, "is a model, and a case has a formula too", "name the formula's file behind the model")
+        }
+    }
+}
+
 fn write_case(arguments: &ConvertArguments, case: &Case) -> Result<(), Trouble> {
-    match &arguments.output {
+    match arguments.output.as_deref().filter(|file| !files::is_standard(file)) {
         Some(file) => files::write(file, &case.bytes),
         None if io::stdout().is_terminal() => {
             Err(Trouble::plain("a case file is not text, and a terminal cannot show it").with_help("write -o FILE"))
@@ -66,10 +81,10 @@ fn refusal_words(number: u64) -> String {
 
 fn write_texts(arguments: &ConvertArguments, texts: &back::Texts) -> Result<(), Trouble> {
     if let Some(file) = &arguments.aut {
-        files::write(file, texts.aut.as_bytes())?;
+        files::write_text(file, &texts.aut)?;
     }
     if let Some(file) = &arguments.mcf {
-        files::write(file, texts.mcf.as_bytes())?;
+        files::write_text(file, &texts.mcf)?;
     }
     if arguments.aut.is_none() && arguments.mcf.is_none() {
         output::exact(&format!("Model (.aut):\n{}\nFormula (.mcf):\n{}", texts.aut, texts.mcf))?;
@@ -93,7 +108,7 @@ fn write_equations(arguments: &ConvertArguments, file: &[u8]) -> Result<(), Trou
     let text = back::equations(file)
         .map_err(|words| wrong(arguments, &format!("cannot be read: {words}"), "see README, \"The equation file\""))?;
     match &arguments.output {
-        Some(file) => files::write(file, text.as_bytes()),
+        Some(file) => files::write_text(file, &text),
         None => output::exact(&text),
     }
 }
@@ -110,5 +125,5 @@ fn without_formula(arguments: &ConvertArguments, holds: &str) -> Result<(), Trou
 }
 
 fn wrong(arguments: &ConvertArguments, what: &str, help: &str) -> Trouble {
-    Trouble::plain(format!("{} {what}", files::shown(&arguments.file))).with_help(help)
+    Trouble::plain(format!("{} {what}", files::input(&arguments.file))).with_help(help)
 }

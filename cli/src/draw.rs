@@ -21,10 +21,10 @@ pub fn run(arguments: &DrawArguments) -> Result<Exit, Trouble> {
     let answer = formula.map(|formula| formula.check(&model, &rules)).transpose()?;
     let checked = answer.as_ref().map(|answer| &answer.checked);
     if let Some(file) = &arguments.html {
-        files::write(file, html(&arguments.model, answer.as_ref())?.as_bytes())?;
+        files::write_text(file, &html(&arguments.model, answer.as_ref())?)?;
     }
     if let Some(file) = &arguments.svg {
-        files::write(file, svg(&model, checked).as_bytes())?;
+        files::write_text(file, &svg(&model, checked))?;
     }
     if arguments.html.is_none() && arguments.svg.is_none() {
         output::exact(&draw::dot(&model, checked))?;
@@ -36,7 +36,7 @@ fn html(model: &Path, answer: Option<&Answer>) -> Result<String, Trouble> {
     let answer = answer.ok_or_else(|| {
         Trouble::plain("the page needs a formula").with_help("name the formula's file behind the model, or use --svg")
     })?;
-    let title = format!("{} ({})", answer.title, files::shown(model));
+    let title = format!("{} ({})", answer.title, files::input(model));
     Ok(page::page(&title, &answer.case.model, &answer.checked, &answer.explanation))
 }
 

@@ -1,6 +1,7 @@
 //! Faults as people see them: what is wrong, the line with a caret, and what to do.
 
-use crate::output::{broken, visible};
+use crate::exit::Exit;
+use crate::output::{broken, is_dumb, visible};
 use crate::trouble::Trouble;
 use bithrowy_front::source::{excerpt, Fault};
 use codespan_reporting::diagnostic::{Diagnostic, Label};
@@ -11,11 +12,13 @@ use std::env;
 use std::io::{self, IsTerminal, Write};
 use std::ops::Range;
 
-/// Says on standard error what is wrong, in colour where a person looks at a terminal and has not asked for none.
-pub fn report(trouble: &Trouble) {
+/// Says on standard error what is wrong, in colour where a person looks at a terminal and has not asked for none; gives
+/// the exit that it leads to.
+pub fn report(trouble: &Trouble) -> Exit {
     let out = if wants_colours() { Buffer::ansi() } else { Buffer::no_color() };
     // Where standard error is closed nobody can be told.
     let _ = writeln!(io::stderr(), "{}", written(out, trouble));
+    trouble.exit()
 }
 
 /// The same as text without colours.
@@ -24,9 +27,8 @@ pub fn text(trouble: &Trouble) -> String {
 }
 
 fn wants_colours() -> bool {
-    let said = |name, words: &str| env::var_os(name).is_some_and(|value| value == words);
-    let unwanted = env::var_os("NO_COLOR").is_some_and(|value| !value.is_empty()) || said("TERM", "dumb");
-    io::stderr().is_terminal() && !unwanted
+    let unwanted = env::var_os("NO_COLOR").is_some_and(|value| !value.is_empty());
+    io::stderr().is_terminal() && !unwanted && !is_dumb()
 }
 
 fn written(mut out: Buffer, trouble: &Trouble) -> String {

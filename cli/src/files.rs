@@ -1,11 +1,12 @@
 //! Files that are read and written.
 
-use crate::output::visible;
+use crate::output::{self, visible};
 use crate::trouble::Trouble;
 use bithrowy_front::amount::thousands;
 use bithrowy_front::source::Source;
+use std::env;
 use std::fs::{self, File};
-use std::io::{self, Read};
+use std::io::{self, ErrorKind, Read};
 use std::path::Path;
 use std::sync::Arc;
 
@@ -26,10 +27,21 @@ pub enum Kind {
 pub fn kind(bytes: &[u8]) -> Kind {
     match bytes {
         [1, 0, 0, 0, ..] => Kind::Equations,
-        [0xff, 0xfe, ..] | [0xfe, 0xff, ..] => Kind::Text,
+        _ if is_utf16(bytes) => Kind::Text,
         _ if bytes.contains(&0) => Kind::Case,
         _ => Kind::Text,
     }
+}
+
+/// Does a text begin as a model does? One in UTF-16 may, and reading it as a model says what is wrong with it.
+pub fn may_be_model(bytes: &[u8]) -> bool {
+    let text = bytes.strip_prefix(b"\xef\xbb\xbf").unwrap_or(bytes);
+    let mut text = text.iter().skip_while(|byte| byte.is_ascii_whitespace());
+    is_utf16(bytes) || b"des".iter().all(|letter| text.next() == Some(letter))
+}
+
+fn is_utf16(bytes: &[u8]) -> bool {
+    matches!(bytes, [0xff, 0xfe, ..] | [0xfe, 0xff, ..])
 }
 
 /// A path as people read it.
@@ -37,18 +49,49 @@ pub fn shown(path: &Path) -> String {
     visible(&path.display().to_string()).replace(['\n', '\t'], "\u{fffd}")
 }
 
+/// Is this `-`, which stands for standard input or standard output?
+pub fn is_standard(path: &Path) -> bool {
+    path == Path::new("-")
+}
+
+/// What is read, as people know it.
+pub fn input(path: &Path) -> String {
+    if is_standard(path) {
+        "standard input".to_string()
+    } else {
+        shown(path)
+    }
+}
+
 /// The bytes of a file, or of standard input for `-`.
 pub fn bytes(path: &Path) -> Result<Vec<u8>, Trouble> {
-    let read = if path == Path::new("-") { read_some(io::stdin().lock()) } else { read_file(path) };
-    let bytes = read.map_err(|error| Trouble::plain(format!("{} cannot be read: {}", shown(path), reason(&error))))?;
+    let read = if is_standard(path) { read_some(io::stdin().lock()) } else { read_file(path) };
+    let bytes = read.map_err(|error| unread(path, &error))?;
     if bytes.len() as u64 > LARGEST {
-        return Err(Trouble::plain(format!(
-            "{} is not read: it has more than {} bytes",
-            shown(path),
-            thousands(LARGEST)
-        )));
+        let message = format!("{} is not read: it has more than {} bytes", input(path), thousands(LARGEST));
+        let help = "all that the checker takes is far smaller: is it another file that is meant?";
+        return Err(Trouble::plain(message).with_help(help));
     }
     Ok(bytes)
+}
+
+/// What cannot be read, and why.
+pub fn unread(path: &Path, error: &io::Error) -> Trouble {
+    let trouble = Trouble::plain(format!("{} cannot be read: {}", input(path), reason(error)));
+    match error.kind() {
+        _ if path.is_dir() => trouble.with_help("this is a folder: name a file in it"),
+        ErrorKind::NotFound => trouble.with_help(lookup(path)),
+        ErrorKind::PermissionDenied => trouble.with_help("ask its owner for the permission to read it"),
+        _ => trouble.with_help("see that it is a file that this program may read to its end"),
+    }
+}
+
+/// From where a name that does not exist was looked up.
+fn lookup(path: &Path) -> String {
+    match env::current_dir() {
+        Ok(folder) if path.is_relative() => format!("names are looked up from the folder {}", shown(&folder)),
+        _ => "see that the name is written as that of the file".to_string(),
+    }
 }
 
 fn read_file(path: &Path) -> io::Result<Vec<u8>> {
@@ -68,12 +111,31 @@ pub fn source(path: &Path) -> Result<Arc<Source>, Trouble> {
 
 /// The bytes of a text file as text.
 pub fn text(path: &Path, bytes: Vec<u8>) -> Result<Arc<Source>, Trouble> {
-    Ok(Source::from_bytes(shown(path), bytes)?)
+    Ok(Source::from_bytes(input(path), bytes)?)
 }
 
+/// Writes a file.
 pub fn write(path: &Path, content: &[u8]) -> Result<(), Trouble> {
-    fs::write(path, content)
-        .map_err(|error| Trouble::plain(format!("{} cannot be written: {}", shown(path), reason(&error))))
+    fs::write(path, content).map_err(|error| unwritten(path, &error))
+}
+
+/// Writes a text into a file, or to standard output for `-`.
+pub fn write_text(path: &Path, content: &str) -> Result<(), Trouble> {
+    if is_standard(path) {
+        return output::exact(content);
+    }
+    write(path, content.as_bytes())
+}
+
+/// What cannot be written, and why.
+fn unwritten(path: &Path, error: &io::Error) -> Trouble {
+    let trouble = Trouble::plain(format!("{} cannot be written: {}", shown(path), reason(error)));
+    match error.kind() {
+        _ if path.is_dir() => trouble.with_help("this is a folder: name a file in it"),
+        ErrorKind::NotFound => trouble.with_help("the folder is not there: make it first, or name another"),
+        ErrorKind::PermissionDenied => trouble.with_help("name a file in a folder that you may write to"),
+        _ => trouble.with_help("name a file in another folder"),
+    }
 }
 
 /// The system's words for an error, without its number.

@@ -1,6 +1,5 @@
 //! Answers and faults as JSON.
 
-use crate::exit::Exit;
 use crate::load::Answer;
 use crate::output::is_obeyed;
 use crate::trouble::Trouble;
@@ -16,8 +15,7 @@ pub fn text(value: &Value) -> String {
 /// What `check` prints.
 pub fn check(answer: &Result<Answer, Trouble>) -> Value {
     let (mut document, exit, faults) = match answer {
-        Ok(answer) if answer.checked.verdict => (answered(answer), Exit::Good, Vec::new()),
-        Ok(answer) => (answered(answer), Exit::Wrong, Vec::new()),
+        Ok(answer) => (answered(answer), answer.exit(), Vec::new()),
         Err(trouble) => (Map::new(), trouble.exit(), vec![fault(trouble)]),
     };
     document.insert("exit".to_string(), exit.number().into());

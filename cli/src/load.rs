@@ -1,6 +1,7 @@
 //! From arguments to models, formulas, cases and answers.
 
 use crate::arguments::{FormulaArguments, Readings};
+use crate::exit::Exit;
 use crate::files::{self, Kind};
 use crate::trouble::Trouble;
 use bithrowy_front::case::{self, Case};
@@ -45,6 +46,16 @@ pub struct Answer {
     pub explanation: Vec<String>,
 }
 
+impl Answer {
+    pub fn exit(&self) -> Exit {
+        if self.checked.verdict {
+            Exit::Good
+        } else {
+            Exit::Wrong
+        }
+    }
+}
+
 impl Rules {
     /// An option counts before a directive of the formula's file, and that before what is usual.
     pub fn settle(options: &Readings, directives: Option<&Directives>) -> Rules {
@@ -69,9 +80,13 @@ impl Formula {
     pub fn of(arguments: &FormulaArguments) -> Result<Option<Formula>, Trouble> {
         match (&arguments.formula, &arguments.expression) {
             (_, Some(text)) => Formula::new(Source::new(TYPED, text.as_str())).map(Some),
-            (Some(path), None) => Formula::new(files::source(path)?).map(Some),
+            (Some(path), None) => Formula::in_file(path).map(Some),
             (None, None) => Ok(None),
         }
+    }
+
+    pub fn in_file(path: &Path) -> Result<Formula, Trouble> {
+        Formula::new(text(path, "formula")?)
     }
 
     pub fn new(source: Arc<Source>) -> Result<Formula, Trouble> {
@@ -112,16 +127,22 @@ pub fn needed(arguments: &FormulaArguments) -> Result<Formula, Trouble> {
 
 /// A model with the names of its states: those of the file given, or of the file beside the model, if there is one.
 pub fn model(path: &Path, names_file: Option<&Path>, rules: &Rules) -> Result<Model, Trouble> {
-    let bytes = files::bytes(path)?;
-    if files::kind(&bytes) != Kind::Text {
-        let message = format!("{} is a case file or an equation file, and no model as text", files::shown(path));
-        return Err(Trouble::plain(message).with_help("`bithrowy convert` makes text of it"));
-    }
-    let mut model = aut::read(&files::text(path, bytes)?, &rules.silent)?;
+    let mut model = aut::read(&text(path, "model")?, &rules.silent)?;
     if let Some(file) = names_file.map(Path::to_path_buf).or_else(|| beside(path)) {
         names::read(&files::source(&file)?, &mut model)?;
     }
     Ok(model)
+}
+
+/// The text of a file that is to hold a model or a formula.
+fn text(path: &Path, what: &str) -> Result<Arc<Source>, Trouble> {
+    let bytes = files::bytes(path)?;
+    if files::kind(&bytes) == Kind::Text {
+        return files::text(path, bytes);
+    }
+    let message = format!("{} is not text, and so no {what}", files::input(path));
+    Err(Trouble::plain(message)
+        .with_help("if it is a case file or an equation file, `bithrowy convert` makes text of it"))
 }
 
 fn beside(path: &Path) -> Option<PathBuf> {

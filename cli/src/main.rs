@@ -25,14 +25,7 @@ use std::process::ExitCode;
 use trouble::Trouble;
 
 fn main() -> ExitCode {
-    let exit = match run(&Arguments::parse().command) {
-        Ok(exit) => exit,
-        Err(trouble) => {
-            faults::report(&trouble);
-            trouble.exit()
-        }
-    };
-    exit.into()
+    run(&Arguments::parse().command).unwrap_or_else(|trouble| faults::report(&trouble)).into()
 }
 
 fn run(command: &Command) -> Result<Exit, Trouble> {

@@ -3,10 +3,16 @@
 use crate::files::reason;
 use crate::trouble::Trouble;
 use bithrowy_front::source::visible_letter;
+use std::env;
 use std::io::{self, ErrorKind, IsTerminal, Write};
 
 /// What is longer is broken into lines of about this many characters.
 const WIDTH: usize = 100;
+
+/// Does the terminal say that it can do no more than print?
+pub fn is_dumb() -> bool {
+    env::var_os("TERM").is_some_and(|name| name == "dumb")
+}
 
 /// Writes text for people: control characters that came from files are replaced.
 pub fn text(text: &str) -> Result<(), Trouble> {

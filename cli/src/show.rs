@@ -14,8 +14,7 @@ use bithrowy_front::print;
 
 pub fn run(arguments: &ShowArguments) -> Result<Exit, Trouble> {
     let formula = load::needed(&arguments.formula)?;
-    let readings = Readings { silent: arguments.silent.clone(), ..Readings::default() };
-    let written = formula.read(&Rules::settle(&readings, Some(&formula.directives)))?;
+    let written = formula.read(&Rules::settle(&Readings::default(), Some(&formula.directives)))?;
     let expansion = expand::expand(&formula.source, &written)?;
     let mut shown = vec![("bracketed", print::bracketed(&written))];
     shown.extend(used(&expansion));
@@ -24,7 +23,7 @@ pub fn run(arguments: &ShowArguments) -> Result<Exit, Trouble> {
 }
 
 fn used(expansion: &Expansion) -> Vec<(&'static str, String)> {
-    let (written_out, nodes, actions, blocks) = match expansion {
+    let (written_out, nodes, actions, fixed_points) = match expansion {
         Expansion::Table(table) => (table.text(0), table.nodes.len(), case::action_nodes(table), Some(table.blocks())),
         Expansion::TooLarge { nodes, actions, .. } => {
             ("(too large to be written out)".to_string(), *nodes, *actions, None)
@@ -35,11 +34,11 @@ fn used(expansion: &Expansion) -> Vec<(&'static str, String)> {
         ("formula nodes", of_limit(nodes, limits::FORMULA_NODES)),
         ("action nodes", of_limit(actions, limits::ACTION_NODES)),
     ];
-    used.extend(blocks.map(|blocks| ("blocks", of_limit(blocks, limits::BLOCKS))));
+    used.extend(fixed_points.map(|number| ("fixed points", of_limit(number, limits::BLOCKS))));
     used
 }
 
 fn of_limit(number: usize, limit: usize) -> String {
     let excess = if number > limit { ": too many, the checker refuses it" } else { "" };
-    format!("{} of {limit}{excess}", thousands(u64::try_from(number).unwrap_or(u64::MAX)))
+    format!("{} of {limit}{excess}", thousands(number))
 }

@@ -2,24 +2,7 @@
 
 mod support;
 
-use support::{Folder, DIALOG, NO_TERMINAL};
-
-/// The paper's P1 as a case file, in 16-bit numbers.
-const CASE: [u16; 27] = [
-    1, 3, 3, 2, 0, 1, 3, 20, 38, 42, // header
-    0, 0, 1, 0, 0, 1, 1, 1, 2, // transitions
-    1, 0, // action node
-    7, 0, 4, 0, 6, 0, // formula nodes
-       // nothing behind them
-];
-
-/// Its equation file, in 32-bit numbers.
-const EQUATIONS: [u32; 40] = [
-    1, 3, 1, 9, 2, 0, 36, 44, 152, // header
-    0, 3, // block
-    2, 0, 0, 2, 0, 1, 2, 0, 2, 0, 0, 1, 0, 1, 1, 0, 2, 0, 2, 0, 0, 2, 0, 1, 2, 0, 2, // cells
-    7, 8, // operands
-];
+use support::{Folder, CASE, DIALOG, EQUATIONS, NO_TERMINAL};
 
 fn case() -> Vec<u8> {
     CASE.iter().flat_map(|number| number.to_le_bytes()).collect()
@@ -116,6 +99,44 @@ fn arguments_that_do_not_fit_the_file() {
         assert!(ran.out.is_empty() && ran.err.contains("error: "), "{ran:?}");
     }
     assert!(!folder.path("m.aut").exists() && !folder.path("m.txt").exists() && !folder.path("f.mcf").exists());
+}
+
+/// A file that is no model is not said to be one, and a model that has a fault says which.
+#[test]
+fn text_without_a_formula() {
+    let folder = Folder::with_dialog("convert-alone");
+    folder.write("empty", "");
+    folder.write("bytes", [0xc3, 0x28, 0x90, 0x0d]);
+    for file in ["ends.mcf", "empty", "bytes"] {
+        let ran = folder.run(&["convert", file]).expect_exit(2);
+        assert!(ran.err.starts_with(&format!("error: {file} is neither a model nor a case file nor ")), "{}", ran.err);
+        assert!(ran.err.contains("help: a model as text begins with `des (`"), "{}", ran.err);
+    }
+    let ran = folder.run(&["convert", "dialog.aut"]).expect_exit(2);
+    assert!(ran.err.starts_with("error: dialog.aut is a model, and a case has a formula too\n"), "{}", ran.err);
+    folder.write("broken.aut", "\u{feff}\n des (0, 1, 2)\n(0 click, 1)\n");
+    let ran = folder.run(&["convert", "broken.aut"]).expect_exit(2);
+    assert!(ran.err.contains("--> broken.aut:3:"), "{}", ran.err);
+    folder.write("utf16.aut", b"\xff\xfed\0e\0s\0");
+    let ran = folder.run(&["convert", "utf16.aut"]).expect_exit(2);
+    assert!(ran.err.contains("UTF-16"), "{}", ran.err);
+}
+
+/// The name `-` is no file's name.
+#[test]
+fn to_standard_output() {
+    let folder = Folder::with_dialog("convert-stdout");
+    folder.write("case.bin", case());
+    let equations = folder.run(&["convert", "case.bin", "--equations"]).expect_exit(0).out;
+    assert_eq!(folder.run(&["convert", "case.bin", "--equations", "-o", "-"]).expect_exit(0).out, equations);
+    assert_eq!(folder.run(&["convert", "dialog.aut", "ends.mcf", "-o", "-"]).expect_exit(0).out.as_bytes(), case());
+    assert!(folder.run(&["convert", "case.bin", "--aut", "-"]).expect_exit(0).out.starts_with("des (0, 3, 3)\n"));
+    let formula = folder.run(&["convert", "case.bin", "--mcf", "-"]).expect_exit(0).out;
+    assert!(formula.contains("mu ") && !formula.contains("des"), "{formula}");
+    assert!(folder.run(&["draw", "dialog.aut", "--svg", "-"]).expect_exit(0).out.contains("<svg"));
+    let page = folder.run(&["draw", "dialog.aut", "ends.mcf", "--html", "-"]).expect_exit(0).out;
+    assert!(page.to_lowercase().starts_with("<!doctype html>"), "{page}");
+    assert!(!folder.path("-").exists());
 }
 
 #[test]

@@ -4,7 +4,7 @@ mod support;
 
 use serde_json::json;
 use std::process::Stdio;
-use support::{Folder, DIALOG, NO_TERMINAL};
+use support::{Folder, CASE, DIALOG, EQUATIONS, NO_TERMINAL};
 
 #[test]
 fn a_broken_formula() {
@@ -63,12 +63,33 @@ fn a_fault_as_json() {
 fn files_that_cannot_be_read_or_written() {
     let folder = Folder::with_dialog("fault-files");
     let missing = folder.run(&["check", "nothing.aut", "ends.mcf"]).expect_exit(2);
-    assert_eq!(missing.err, "error: nothing.aut cannot be read: No such file or directory\n");
+    assert!(
+        missing.err.starts_with("error: nothing.aut cannot be read: No such file or directory\n"),
+        "{}",
+        missing.err
+    );
+    assert!(missing.err.contains("help: names are looked up from the folder "), "{}", missing.err);
+    assert!(missing.err.contains("fault-files"), "{}", missing.err);
     let missing = folder.run(&["test", "nowhere"]).expect_exit(2);
-    assert_eq!(missing.err, "error: nowhere cannot be read: No such file or directory\n");
-    let unwritten = folder.run(&["draw", "dialog.aut", "--svg", "nowhere/m.svg"]).expect_exit(2);
-    assert_eq!(unwritten.err, "error: nowhere/m.svg cannot be written: No such file or directory\n");
-    folder.run(&["check", ".", "ends.mcf"]).expect_exit(2);
+    assert!(missing.err.starts_with("error: nowhere cannot be read: No such file or directory\n"), "{}", missing.err);
+    assert!(missing.err.contains("help: names are looked up from the folder "), "{}", missing.err);
+    for (file, said) in [("nowhere/m.svg", "help: the folder is not there: "), (".", "help: this is a folder: ")] {
+        let unwritten = folder.run(&["draw", "dialog.aut", "--svg", file]).expect_exit(2);
+        assert!(unwritten.err.starts_with(&format!("error: {file} cannot be written: ")), "{}", unwritten.err);
+        assert!(unwritten.err.contains(said), "{}", unwritten.err);
+    }
+    let model = folder.run(&["check", ".", "ends.mcf"]).expect_exit(2);
+    assert!(model.err.contains("help: this is a folder: name a file in it\n"), "{}", model.err);
+}
+
+/// What comes from standard input is called so.
+#[test]
+fn faults_of_standard_input() {
+    let folder = Folder::with_dialog("fault-stdin");
+    let ran = folder.run_with(&["check", "-", "ends.mcf"], b"des (0, 0, 257)\n").expect_exit(2);
+    assert!(ran.err.contains("--> standard input:1:12\n"), "{}", ran.err);
+    let ran = folder.run_with(&["convert", "-"], b"true").expect_exit(2);
+    assert!(ran.err.starts_with("error: standard input is neither a model nor "), "{}", ran.err);
 }
 
 /// A case file in place of a model, and a file that does not end.
@@ -77,13 +98,21 @@ fn files_that_are_no_text() {
     let folder = Folder::with_dialog("fault-kinds");
     folder.run(&["convert", "dialog.aut", "ends.mcf", "-o", "case.bin"]).expect_exit(0);
     let ran = folder.run(&["check", "case.bin", "ends.mcf"]).expect_exit(2);
-    assert!(ran.err.contains("help: `bithrowy convert` makes text of it"), "{}", ran.err);
+    assert!(ran.err.contains("`bithrowy convert` makes text of it"), "{}", ran.err);
+    let ran = folder.run(&["check", "dialog.aut", "case.bin"]).expect_exit(2);
+    assert!(ran.err.starts_with("error: case.bin is not text, and so no formula\n"), "{}", ran.err);
+    assert!(ran.err.contains("`bithrowy convert` makes text of it"), "{}", ran.err);
     folder.write("utf16.aut", b"\xff\xfed\0e\0s\0");
     let ran = folder.run(&["check", "utf16.aut", "ends.mcf"]).expect_exit(2);
     assert!(ran.err.contains("UTF-16") && ran.err.contains("--> utf16.aut:1:1\n"), "{}", ran.err);
     if cfg!(unix) {
         let ran = folder.run(&["check", "/dev/zero", "ends.mcf"]).expect_exit(2);
-        assert_eq!(ran.err, "error: /dev/zero is not read: it has more than 67,108,864 bytes\n");
+        assert!(
+            ran.err.starts_with("error: /dev/zero is not read: it has more than 67,108,864 bytes\n"),
+            "{}",
+            ran.err
+        );
+        assert!(ran.err.contains("help: "), "{}", ran.err);
     }
 }
 
@@ -137,24 +166,67 @@ fn random_files() {
         "des", "(0,", "\"", "mu X.", "[", "]", "X", "\0", "\u{1}", "\u{fffd}", "\n", "%", "models:", "1", "3", ")",
         "&&",
     ];
-    let mut random: u64 = 12345;
+    let mut random = Random(12345);
     for _ in 0..60 {
-        let mut content = String::new();
-        for _ in 0..20 {
-            random = random.wrapping_mul(6364136223846793005).wrapping_add(1442695040888963407);
-            content += pieces[(random >> 33) as usize % pieces.len()];
-        }
+        let content: String = (0..20).map(|_| pieces[random.below(pieces.len())]).collect();
         folder.write("random", content);
-        for arguments in [
-            vec!["check", "random", "ends.mcf"],
-            vec!["check", "dialog.aut", "random"],
-            vec!["convert", "random"],
-            vec!["show", "random"],
-            vec!["test", "random"],
-        ] {
-            let ran = folder.run(&arguments);
-            assert!(ran.exit.is_some_and(|exit| exit <= 2), "{}: {ran:?}", folder.read("random"));
+        ends_in_order(&folder, "random");
+        let bytes: Vec<u8> = (0..100).map(|_| random.below(256) as u8).collect();
+        folder.write("bytes", bytes);
+        ends_in_order(&folder, "bytes");
+    }
+}
+
+/// Knuth's linear generator.
+struct Random(u64);
+
+impl Random {
+    fn below(&mut self, end: usize) -> usize {
+        self.0 = self.0.wrapping_mul(6364136223846793005).wrapping_add(1442695040888963407);
+        (self.0 >> 33) as usize % end
+    }
+}
+
+/// A case file and an equation file with bytes changed, and cut off at any place.
+#[test]
+fn damaged_files() {
+    let folder = Folder::with_dialog("fault-damaged");
+    let mut random = Random(99);
+    for number in 0..60 {
+        let mut bytes: Vec<u8> = match number % 2 {
+            0 => CASE.iter().flat_map(|word| word.to_le_bytes()).collect(),
+            _ => EQUATIONS.iter().flat_map(|word| word.to_le_bytes()).collect(),
+        };
+        // The version stays, by which the file is known.
+        for _ in 0..random.below(4) {
+            let place = 4 + random.below(bytes.len() - 4);
+            bytes[place] = [0, 1, 2, 0x7f, 0xff][random.below(5)];
         }
+        if number % 3 == 0 {
+            bytes.truncate(4 + random.below(bytes.len() - 4));
+        }
+        folder.write("damaged", &bytes);
+        ends_in_order(&folder, "damaged");
+    }
+}
+
+/// Each command takes the file in each place, and ends with an answer or a fault.
+fn ends_in_order(folder: &Folder, file: &str) {
+    for arguments in [
+        vec!["check", file, "ends.mcf"],
+        vec!["check", "dialog.aut", file],
+        vec!["check", "dialog.aut", "ends.mcf", "--names", file],
+        vec!["convert", file],
+        vec!["convert", file, "--equations"],
+        vec!["convert", file, "ends.mcf"],
+        vec!["convert", "dialog.aut", file],
+        vec!["draw", file],
+        vec!["draw", "dialog.aut", file],
+        vec!["show", file],
+        vec!["test", file],
+    ] {
+        let ran = folder.run_for_bytes(&arguments);
+        assert!(ran.exit.is_some_and(|exit| exit <= 2), "{arguments:?}: {:?}: {ran:?}", folder.bytes(file));
     }
 }
 
@@ -169,12 +241,37 @@ fn wrong_arguments() {
         vec!["check", "dialog.aut", "ends.mcf", "-e", "true"],
         vec!["check", "dialog.aut", "ends.mcf", "--limit", "many"],
         vec!["test"],
-        vec!["test", ".", "--jobs", "0"],
+        vec!["show", "ends.mcf", "--silent", "i"],
         vec!["show"],
     ] {
         let ran = folder.run(&arguments).expect_exit(2);
         assert!(ran.out.is_empty() && !ran.err.is_empty(), "{arguments:?}: {ran:?}");
     }
+}
+
+/// What is said of a value names no kinds of numbers that only programmers know.
+#[test]
+fn wrong_values_of_options() {
+    let folder = Folder::with_dialog("fault-values");
+    let rounds = "a whole number of rounds in digits, up to 18,446,744,073,709,551,615";
+    let check = ["check", "dialog.aut", "ends.mcf"];
+    for (command, option, value, said) in [
+        (&check[..], "--limit", "18446744073709551616", rounds),
+        (&check, "--limit", "-1", rounds),
+        (&check, "--limit", "+5", rounds),
+        (&check, "--limit", "", rounds),
+        (&check, "--silent", "", "one word, without blanks"),
+        (&check, "--silent", "a b", "one word, without blanks"),
+        (&check, "--silent", "a|b", "one word, without blanks"),
+        (&["test", "."], "--jobs", "0", "a whole number from 1 on"),
+        (&["test", "."], "--jobs", "-1", "a whole number from 1 on"),
+        (&["test", "."], "--json", "-", "the name of a file"),
+        (&["test", "."], "--junit", "-", "the name of a file"),
+    ] {
+        let ran = folder.run(&[command, &[option, value]].concat()).expect_exit(2);
+        assert!(ran.err.contains(said) && ran.err.contains(option) && ran.out.is_empty(), "{value}: {ran:?}");
+    }
+    folder.run(&["check", "dialog.aut", "ends.mcf", "--silent", "-x"]).expect_exit(0);
 }
 
 /// A file's text, its name and the names in it with characters that a terminal would obey.
@@ -222,7 +319,7 @@ fn a_reader_who_has_gone_away() {
     assert_eq!((output.status.code(), output.stderr), (Some(0), Vec::new()));
 }
 
-/// A bar is drawn on a terminal only, and cleared in the end.
+/// A bar is drawn on a terminal only that can move its cursor, and cleared in the end.
 #[test]
 fn a_bar_on_a_terminal_only() {
     let folder = Folder::with_dialog("fault-bar");
@@ -233,6 +330,8 @@ fn a_bar_on_a_terminal_only() {
         Some(shown) => assert!(shown.contains("1 of 1") && shown.contains('\u{1b}'), "{shown:?}"),
         None => println!("{NO_TERMINAL}"),
     }
+    let dumb = folder.on_terminal("test bar.mcf", &[("TERM", "dumb")]);
+    assert!(dumb.iter().all(|shown| shown.contains("1 check") && !shown.contains("1 of 1")), "{dumb:?}");
 }
 
 /// On a terminal, which the program `script` plays, faults have colours; not with NO_COLOR.

@@ -130,6 +130,20 @@ fn elements(xml: &str) -> Vec<&str> {
     names
 }
 
+/// The results are printed all the same, and the other report is written.
+#[test]
+fn reports_that_cannot_be_written() {
+    let folder = suite("report-unwritten");
+    let ran = folder.run(&["test", "a.mcf", "--junit", "nowhere/r.xml", "--json", "r.json"]).expect_exit(2);
+    assert!(ran.out.ends_with("2 checks of 1 formula on 2 models: 1 as expected, 1 not as expected\n"), "{}", ran.out);
+    assert!(ran.err.starts_with("error: nowhere/r.xml cannot be written: "), "{}", ran.err);
+    let report: Value = serde_json::from_str(&folder.read("r.json")).expect("it is JSON");
+    assert_eq!(report["exit"], 1);
+    let ran = folder.run(&["test", "a.mcf", "--tap", "--junit", "nowhere/r.xml", "--json", "nowhere/r"]).expect_exit(2);
+    assert!(ran.out.starts_with("TAP version 14\n1..2\n"), "{}", ran.out);
+    assert!(ran.err.contains("error: nowhere/r.xml ") && ran.err.contains("error: nowhere/r "), "{}", ran.err);
+}
+
 /// Another reader of XML, where there is one.
 #[test]
 fn junit_by_another_reader() {

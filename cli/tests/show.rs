@@ -10,7 +10,7 @@ use support::Folder;
 #[test]
 fn a_formula_and_the_limits() {
     let ran = Folder::new("show").run(&["show", "-e", "[true*]<true*.close>true"]).expect_exit(0);
-    for line in ["  formula nodes  10 of 64", "  action nodes   2 of 128", "  blocks         2 of 6"] {
+    for line in ["  formula nodes  10 of 64", "  action nodes   2 of 128", "  fixed points   2 of 6"] {
         assert!(ran.out.lines().any(|shown| shown == line), "{}", ran.out);
     }
     assert!(ran.out.starts_with("  bracketed      "), "{}", ran.out);
@@ -31,7 +31,7 @@ fn a_formula_beyond_the_limits() {
     assert!(ran.out.contains("\n  formula nodes  79 of 64: too many, the checker refuses it\n"), "{}", ran.out);
 }
 
-/// Thirty stars in a row double the operand each: far too many nodes to be written out.
+/// Forty choices in a row double what stands behind them each: far too many nodes to be written out.
 #[test]
 fn a_formula_that_is_not_written_out() {
     let formula = "[a*+b.c]".repeat(40) + "true";

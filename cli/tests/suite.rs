@@ -144,6 +144,20 @@ fn patterns() {
     assert!(printed(&ran).ends_with("\n1 check of 1 formula on 1 model: all as expected"), "{}", ran.out);
 }
 
+/// The same file by two ways to write its name is one model, and one formula.
+#[test]
+fn one_file_by_two_names() {
+    let folder = suite("suite-names");
+    folder.write("s/f.mcf", format!("% models: ../s/dialog.aut dialog.aut\n{ENDS}"));
+    let ran = folder.run(&["test", "s/f.mcf", "s/../s/f.mcf"]).expect_exit(0);
+    assert!(printed(&ran).ends_with("\n1 check of 1 formula on 1 model: all as expected"), "{}", ran.out);
+    folder.write("s/f.mcf", format!("% models: dialog.aut\n% models: ../s/dialog.aut\n% expect: false\n{ENDS}"));
+    let ran = folder.run(&["test", "s/f.mcf"]).expect_exit(2);
+    assert!(ran.out.contains("error: s/../s/dialog.aut is named twice: "), "{}", ran.out);
+    let ran = folder.run(&["test", "s", "s/a.mcf", "s/b.mcf", "s", "--filter", "dialog.aut"]);
+    assert!(ran.out.contains("\n2 checks of 2 formulas on 1 model: "), "{}", ran.out);
+}
+
 /// A formula without a folder before its name, and patterns in it.
 #[test]
 fn a_formula_in_this_folder() {

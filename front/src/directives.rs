@@ -169,9 +169,7 @@ impl<'a> Line<'a> {
     }
 
     fn silent(&self) -> Result<String, Fault> {
-        let is_one_name =
-            !self.value.is_empty() && !self.value.contains(|sign: char| sign.is_whitespace() || "|\"".contains(sign));
-        match is_one_name {
+        match is_silent_word(self.value) {
             true => Ok(self.value.to_string()),
             false => {
                 Err(self.bad_value("`silent` is the silent step's name", "write one name, for instance % silent: i"))
@@ -180,9 +178,7 @@ impl<'a> Line<'a> {
     }
 
     fn limit(&self) -> Result<u64, Fault> {
-        let is_number = !self.value.is_empty() && self.value.chars().all(|sign| sign.is_ascii_digit());
-        let number = if is_number { self.value.parse().ok() } else { None };
-        number.ok_or_else(|| {
+        rounds(self.value).ok_or_else(|| {
             let help = format!("write digits only, for instance % limit: 5000; the largest number is {}", u64::MAX);
             self.bad_value("`limit` is a number of rounds", &help)
         })
@@ -196,6 +192,17 @@ impl<'a> Line<'a> {
         };
         Fault::new(self.source, span, format!("{what}, found {found}")).with_help(help)
     }
+}
+
+/// Can this be the silent step's name?
+pub fn is_silent_word(text: &str) -> bool {
+    !text.is_empty() && !text.contains(|sign: char| sign.is_whitespace() || "|\"".contains(sign))
+}
+
+/// A number of rounds in digits, if it is one that fits.
+pub fn rounds(text: &str) -> Option<u64> {
+    let is_number = !text.is_empty() && text.chars().all(|sign| sign.is_ascii_digit());
+    is_number.then(|| text.parse().ok()).flatten()
 }
 
 /// Does a pattern with `*` (any characters) and `?` (one) match a name?

@@ -7,6 +7,7 @@ use crate::load::{Formula, Rules};
 use crate::trouble::Trouble;
 use bithrowy_front::amount::thousands;
 use bithrowy_front::source::{shown, Fault, Span};
+use std::collections::BTreeSet;
 use std::fs;
 use std::io;
 use std::path::{Path, PathBuf};
@@ -28,23 +29,30 @@ pub struct Task {
 /// A model with the verdict expected there, and the place that says so.
 struct Wanted {
     model: PathBuf,
+    /// The same for all ways to write the model's path.
+    file: PathBuf,
     expected: bool,
     span: Span,
 }
 
-/// The checks of the folders, in order of the folders, the formulas' file names and their directives.
+/// The checks of the folders, in order of the folders, the formulas' file names and their directives; of each formula once.
 pub fn collect(paths: &[PathBuf], filter: Option<&str>) -> Result<Vec<Planned>, Trouble> {
     let mut planned = Vec::new();
+    let mut seen = BTreeSet::new();
     for path in paths {
-        for file in formulas(path)? {
-            planned.extend(of_formula(&file));
-        }
+        let new = formulas(path)?.into_iter().filter(|file| seen.insert(same_for_all(file)));
+        planned.extend(new.flat_map(|file| of_formula(&file)));
     }
     planned.retain(|check: &Planned| filter.iter().all(|text| check.mentions(text)));
     if planned.is_empty() {
         return Err(nothing(paths, filter));
     }
     Ok(planned)
+}
+
+/// A path that is the same for all ways to write it; itself where its file is not there.
+fn same_for_all(path: &Path) -> PathBuf {
+    path.canonicalize().unwrap_or_else(|_| path.to_path_buf())
 }
 
 fn nothing(paths: &[PathBuf], filter: Option<&str>) -> Trouble {
@@ -63,8 +71,7 @@ fn formulas(path: &Path) -> Result<Vec<PathBuf>, Trouble> {
     if path.is_file() {
         return Ok(vec![path.to_path_buf()]);
     }
-    let unreadable =
-        |error: io::Error| Trouble::plain(format!("{} cannot be read: {}", files::shown(path), files::reason(&error)));
+    let unreadable = |error: io::Error| files::unread(path, &error);
     let mut found = Vec::new();
     for entry in fs::read_dir(path).map_err(unreadable)? {
         let file = entry.map_err(unreadable)?.path();
@@ -79,7 +86,7 @@ fn formulas(path: &Path) -> Result<Vec<PathBuf>, Trouble> {
 fn of_formula(file: &Path) -> Vec<Planned> {
     let path = files::shown(file);
     let planned = |name: &str, task| Planned { name: name.to_string(), formula: path.clone(), task };
-    let formula = match files::source(file).and_then(Formula::new) {
+    let formula = match Formula::in_file(file) {
         Ok(formula) => formula,
         Err(trouble) => return vec![planned(&path, Err(trouble))],
     };
@@ -102,7 +109,8 @@ fn wanted(file: &Path, formula: &Formula) -> Result<Vec<Wanted>, Trouble> {
     for expectation in &formula.directives.expectations {
         for (pattern, span) in &expectation.patterns {
             for model in models(formula, folder, pattern, *span)? {
-                add(formula, &mut all, Wanted { model, expected: expectation.expected, span: *span })?;
+                let file = same_for_all(&model);
+                add(formula, &mut all, Wanted { model, file, expected: expectation.expected, span: *span })?;
             }
         }
     }
@@ -115,7 +123,7 @@ fn wanted(file: &Path, formula: &Formula) -> Result<Vec<Wanted>, Trouble> {
 fn models(formula: &Formula, folder: &Path, pattern: &str, span: Span) -> Result<Vec<PathBuf>, Trouble> {
     let fault = |message: String, help: String| Fault::new(&formula.source, span, message).with_help(help).into();
     let Some(models) = patterns::files(folder, pattern) else {
-        let message = format!("`{}` matches more than {} files", shown(pattern), thousands(patterns::MOST as u64));
+        let message = format!("`{}` matches more than {} files", shown(pattern), thousands(patterns::MOST));
         return Err(fault(message, "make the pattern narrower".to_string()));
     };
     if models.is_empty() {
@@ -134,7 +142,7 @@ fn place(folder: &Path) -> String {
 }
 
 fn add(formula: &Formula, all: &mut Vec<Wanted>, wanted: Wanted) -> Result<(), Trouble> {
-    match all.iter().find(|other| other.model == wanted.model) {
+    match all.iter().find(|other| other.file == wanted.file) {
         None => all.push(wanted),
         Some(other) if other.expected == wanted.expected => {}
         Some(other) => return Err(contradiction(formula, other, &wanted)),

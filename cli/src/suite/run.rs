@@ -4,6 +4,7 @@ use super::collect::{Planned, Task};
 use super::result::{Checked, Standing};
 use crate::files;
 use crate::load::{self, Answer};
+use crate::output::is_dumb;
 use crate::trouble::Trouble;
 use indicatif::{ProgressBar, ProgressStyle};
 use std::num::NonZeroUsize;
@@ -50,8 +51,11 @@ fn threads(jobs: Option<NonZeroUsize>, checks: usize) -> usize {
     jobs.min(checks).min(MOST_JOBS)
 }
 
-/// A bar on standard error, which is drawn on a terminal only.
+/// A bar on standard error, which is drawn only on a terminal that can move its cursor.
 fn bar(checks: usize) -> ProgressBar {
+    if is_dumb() {
+        return ProgressBar::hidden();
+    }
     let bar = ProgressBar::new(checks as u64);
     match ProgressStyle::with_template("{pos} of {len} {bar:40} {elapsed}") {
         Ok(style) => bar.with_style(style),

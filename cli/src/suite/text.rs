@@ -72,11 +72,13 @@ pub fn reasons(result: &Checked) -> Vec<String> {
     }
 }
 
+/// The same for people. The lines of a fault stay whole: a caret stands below its place.
 fn why(result: &Checked) -> String {
+    let whole = |line: &String| format!("{MARGIN}{line}\n");
+    let broken = |line: &String| answer::explained(MARGIN, line);
     match &result.outcome {
-        Ok(_) if result.standing() == Standing::AsExpected => String::new(),
-        Ok(answer) => answer::explanation(answer, MARGIN),
-        Err(trouble) => faults::text(trouble).lines().map(|line| format!("{MARGIN}{line}\n")).collect(),
+        Ok(_) => reasons(result).iter().map(broken).collect(),
+        Err(_) => reasons(result).iter().map(whole).collect(),
     }
 }
 

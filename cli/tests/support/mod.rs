@@ -21,6 +21,23 @@ pub const HOVER: &str = "des (0, 3, 3)\n(0, click, 1)\n(1, hover, 1)\n(1, close,
 /// Does every run end?
 pub const ENDS: &str = "mu X. [true] X\n";
 
+/// The paper's P1 as a case file, in 16-bit numbers.
+pub const CASE: [u16; 27] = [
+    1, 3, 3, 2, 0, 1, 3, 20, 38, 42, // header
+    0, 0, 1, 0, 0, 1, 1, 1, 2, // transitions
+    1, 0, // action node
+    7, 0, 4, 0, 6, 0, // formula nodes
+       // nothing behind them
+];
+
+/// Its equation file, in 32-bit numbers.
+pub const EQUATIONS: [u32; 40] = [
+    1, 3, 1, 9, 2, 0, 36, 44, 152, // header
+    0, 3, // block
+    2, 0, 0, 2, 0, 1, 2, 0, 2, 0, 0, 1, 0, 1, 1, 0, 2, 0, 2, 0, 0, 2, 0, 1, 2, 0, 2, // cells
+    7, 8, // operands
+];
+
 /// What a test says that needs a terminal and has none.
 pub const NO_TERMINAL: &str = "not tested: the program `script` is not here, or it is another one";
 
@@ -80,6 +97,13 @@ impl Folder {
 
     pub fn run(&self, arguments: &[&str]) -> Ran {
         finished(&mut self.command(arguments))
+    }
+
+    /// A run whose output may be bytes; what is no text in it is replaced.
+    pub fn run_for_bytes(&self, arguments: &[&str]) -> Ran {
+        let output = self.command(arguments).output().expect("it runs");
+        let text = |bytes: &[u8]| String::from_utf8_lossy(bytes).into_owned();
+        Ran { exit: output.status.code(), out: text(&output.stdout), err: text(&output.stderr) }
     }
 
     /// A run that reads this from standard input.

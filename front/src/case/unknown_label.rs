@@ -10,30 +10,23 @@ use std::collections::HashSet;
 /// How many labels a help lists.
 const LISTED: usize = 12;
 
-/// A label that no transition of the model is alike is a fault at the first place where it stands.
+/// A label that no label of the model is alike is a fault at the first place where it stands. A model that was read has
+/// the labels of its transitions and no others.
 pub fn check(model: &Model, table: &Table) -> Result<(), Fault> {
-    let labels = used_labels(model);
-    let known: HashSet<&[String]> = labels.iter().map(|label| label.names.as_slice()).collect();
+    let known: HashSet<&[String]> = model.labels.iter().map(|label| label.names.as_slice()).collect();
     match table.labels.iter().find(|(label, _)| !known.contains(label.names.as_slice())) {
-        Some((label, span)) => Err(fault(table, label, *span, &labels, &model.silent)),
+        Some((label, span)) => Err(fault(table, label, *span, model)),
         None => Ok(()),
     }
 }
 
-/// The labels that transitions have, in the model's order.
-fn used_labels(model: &Model) -> Vec<&Label> {
-    let used: HashSet<usize> = model.transitions.iter().map(|transition| transition.label).collect();
-    let labels = model.labels.iter().enumerate();
-    labels.filter(|(number, _)| used.contains(number)).map(|(_, label)| label).collect()
-}
-
-fn fault(table: &Table, label: &Label, span: Span, labels: &[&Label], silent: &str) -> Fault {
+fn fault(table: &Table, label: &Label, span: Span, model: &Model) -> Fault {
     let message = format!("no transition has the label `{}`", shown(&label.text));
-    Fault::new(&table.source, span, message).with_help(help(label, labels, silent))
+    Fault::new(&table.source, span, message).with_help(help(label, &model.labels, &model.silent))
 }
 
 /// A line each for what may be wrong, the labels that there are, and the way to have it all the same.
-fn help(label: &Label, labels: &[&Label], silent: &str) -> String {
+fn help(label: &Label, labels: &[Label], silent: &str) -> String {
     let there_are = match labels.len() {
         0 => "the model has no transitions".to_string(),
         _ => format!("the model's labels: {}", listed(labels)),
@@ -44,7 +37,7 @@ fn help(label: &Label, labels: &[&Label], silent: &str) -> String {
 }
 
 /// What may have been meant.
-fn may_be(label: &Label, labels: &[&Label], silent: &str) -> String {
+fn may_be(label: &Label, labels: &[Label], silent: &str) -> String {
     let other = if silent == SILENT { SILENT_OF_CADP } else { SILENT };
     if label.is_silent() && labels.iter().any(|there| there.text == other) {
         return format!("is `{other}` the silent step of the model? Then say so: --silent {other}");
@@ -57,7 +50,7 @@ fn may_be(label: &Label, labels: &[&Label], silent: &str) -> String {
     if let Some(nearest) = nearest {
         return format!("did you mean `{}`?", shown(nearest));
     }
-    let has = |there: &&&Label| label.names.iter().all(|name| there.names.contains(name));
+    let has = |there: &&Label| label.names.iter().all(|name| there.names.contains(name));
     match labels.iter().find(has) {
         Some(with_others) => format!("it happens only together with others, as in `{}`", shown(&with_others.text)),
         None if label.is_joined() && each_is_there(label, labels) => {
@@ -69,12 +62,12 @@ fn may_be(label: &Label, labels: &[&Label], silent: &str) -> String {
 }
 
 /// Is each name of a label a label of the model by itself?
-fn each_is_there(label: &Label, labels: &[&Label]) -> bool {
+fn each_is_there(label: &Label, labels: &[Label]) -> bool {
     label.names.iter().all(|name| labels.iter().any(|there| there.names.as_slice() == std::slice::from_ref(name)))
 }
 
 /// The first labels of a list, and how many more there are.
-fn listed(labels: &[&Label]) -> String {
+fn listed(labels: &[Label]) -> String {
     let first: Vec<String> = labels.iter().take(LISTED).map(|label| format!("`{}`", shown(&label.text))).collect();
     let more = labels.len().saturating_sub(LISTED);
     match more {

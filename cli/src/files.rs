@@ -79,9 +79,9 @@ pub fn bytes(path: &Path) -> Result<Vec<u8>, Trouble> {
 pub fn unread(path: &Path, error: &io::Error) -> Trouble {
     let trouble = Trouble::plain(format!("{} cannot be read: {}", input(path), reason(error)));
     match error.kind() {
-        _ if path.is_dir() => trouble.with_help("this is a folder: name a file in it"),
         ErrorKind::NotFound => trouble.with_help(lookup(path)),
         ErrorKind::PermissionDenied => trouble.with_help("ask its owner for the permission to read it"),
+        _ if path.is_dir() => trouble.with_help("this is a folder: name a file in it"),
         _ => trouble.with_help("see that it is a file that this program may read to its end"),
     }
 }
@@ -131,9 +131,9 @@ pub fn write_text(path: &Path, content: &str) -> Result<(), Trouble> {
 fn unwritten(path: &Path, error: &io::Error) -> Trouble {
     let trouble = Trouble::plain(format!("{} cannot be written: {}", shown(path), reason(error)));
     match error.kind() {
-        _ if path.is_dir() => trouble.with_help("this is a folder: name a file in it"),
         ErrorKind::NotFound => trouble.with_help("the folder is not there: make it first, or name another"),
         ErrorKind::PermissionDenied => trouble.with_help("name a file in a folder that you may write to"),
+        _ if path.is_dir() => trouble.with_help("this is a folder: name a file in it"),
         _ => trouble.with_help("name a file in another folder"),
     }
 }

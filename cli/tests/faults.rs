@@ -167,7 +167,7 @@ fn random_files() {
         "&&",
     ];
     let mut random = Random(12345);
-    for _ in 0..60 {
+    for _ in 0..30 {
         let content: String = (0..20).map(|_| pieces[random.below(pieces.len())]).collect();
         folder.write("random", content);
         ends_in_order(&folder, "random");
@@ -192,7 +192,7 @@ impl Random {
 fn damaged_files() {
     let folder = Folder::with_dialog("fault-damaged");
     let mut random = Random(99);
-    for number in 0..60 {
+    for number in 0..36 {
         let mut bytes: Vec<u8> = match number % 2 {
             0 => CASE.iter().flat_map(|word| word.to_le_bytes()).collect(),
             _ => EQUATIONS.iter().flat_map(|word| word.to_le_bytes()).collect(),

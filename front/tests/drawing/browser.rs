@@ -31,7 +31,8 @@ impl Browser {
         std::fs::create_dir_all(&folder).unwrap_or_else(|error| panic!("{}: {error}", folder.display()));
         let browser = Browser { program, folder };
         let starts = browser.open("<!doctype html><title>starts</title>", 30);
-        if starts.is_none_or(|opened| !opened.document.contains("<title>starts</title>")) {
+        let started = starts.is_some_and(|opened| opened.document.contains("<title>starts</title>"));
+        if !started {
             note(&format!("not tested, since {program} does not start here: {test}"));
             return None;
         }

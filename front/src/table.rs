@@ -50,6 +50,8 @@ pub struct Node {
     /// Does that part say just what the node's subtree says, by the same names? Not so below a negation, and inside a
     /// modality that was taken apart.
     pub literal: bool,
+    /// Is that part what stands in a modality, or a piece of it, and no state formula?
+    pub inside_modality: bool,
 }
 
 /// The kinds of a case file's action nodes; a label by its place in the table's list.

@@ -90,7 +90,7 @@ fn node(at: usize, [kind, argument]: [usize; 2]) -> Node {
         _ => Kind::Nu,
     };
     let name = if matches!(kind, Kind::Mu | Kind::Nu) { format!("X{at}") } else { String::new() };
-    Node { kind, name, span: NOWHERE, literal: false }
+    Node { kind, name, span: NOWHERE, literal: false, inside_modality: false }
 }
 
 fn action([kind, argument]: [usize; 2]) -> ActionNode {

@@ -47,12 +47,17 @@ struct Work<'a> {
 struct Origin {
     span: Span,
     literal: bool,
+    inside_modality: bool,
 }
 
 impl Origin {
+    fn state_formula(span: Span, literal: bool) -> Origin {
+        Origin { span, literal, inside_modality: false }
+    }
+
     /// Inside a modality that is taken apart.
     fn inside(span: Span) -> Origin {
-        Origin { span, literal: false }
+        Origin { span, literal: false, inside_modality: true }
     }
 }
 
@@ -85,8 +90,8 @@ impl<'a> Writer<'a> {
         let (rest, stars) = match work.goal {
             Goal::State { formula, negated, scope, negation } => {
                 let origin = match negation {
-                    Some(span) => Origin { span, literal: true },
-                    None => Origin { span: formula.span, literal: !negated },
+                    Some(span) => Origin::state_formula(span, true),
+                    None => Origin::state_formula(formula.span, !negated),
                 };
                 (self.state(formula, negated, scope, origin), work.stars)
             }
@@ -226,8 +231,8 @@ impl<'a> Writer<'a> {
     }
 
     fn node(&mut self, kind: Kind, origin: Origin) -> usize {
-        let Origin { span, literal } = origin;
-        self.nodes.push(Node { kind, name: String::new(), span, literal });
+        let Origin { span, literal, inside_modality } = origin;
+        self.nodes.push(Node { kind, name: String::new(), span, literal, inside_modality });
         self.differences.push(Difference::default());
         self.nodes.len() - 1
     }

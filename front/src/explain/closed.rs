@@ -34,8 +34,6 @@ impl Region {
 pub struct Regions {
     graph: Graph,
     facts: Vec<Vec<Position>>,
-    /// Where one of the two sides is taken since it is a fact.
-    taken: Vec<bool>,
     /// From which positions is there no choice ahead?
     proved: Vec<bool>,
 }
@@ -45,14 +43,12 @@ impl Regions {
         let mut regions = Regions {
             graph: vec![Vec::new(); game.positions()],
             facts: vec![Vec::new(); game.positions()],
-            taken: vec![false; game.positions()],
             proved: Vec::new(),
         };
         let mut choices = Vec::new();
         for position in (0..game.positions()).filter(|&position| game.is_so(position)) {
             match next(game, position) {
                 Next::On { to, facts } => {
-                    regions.taken[position] = game.chooses(position) && !facts.is_empty();
                     regions.graph[position] = to;
                     regions.facts[position] = facts;
                 }
@@ -65,8 +61,8 @@ impl Regions {
         regions
     }
 
-    /// Does all that can come show a position? Not where that would only lead on to a side that is taken, for then it is
-    /// that side that is to be shown.
+    /// Does all that can come show a position? Not where that would only lead on to a single fact, for then it is that fact
+    /// that is to be shown, in its own state.
     pub fn proves(&self, position: Position) -> bool {
         self.proved[position] && !self.leads_on(position)
     }
@@ -76,12 +72,13 @@ impl Regions {
         self.proves(position) && self.from(game, position).has_facts_everywhere(game)
     }
 
+    /// Is a single fact all that counts: a side that is taken, or a closed part behind the only step?
     fn leads_on(&self, position: Position) -> bool {
         let mut at = position;
         for _ in 0..self.graph.len() {
-            match self.graph[at].as_slice() {
-                _ if self.taken[at] => return true,
-                [way] if way.step.is_none() && self.facts[at].is_empty() => at = way.to,
+            match (self.graph[at].as_slice(), self.facts[at].as_slice()) {
+                ([], [_]) => return true,
+                ([way], []) if way.step.is_none() => at = way.to,
                 _ => return false,
             }
         }

@@ -21,7 +21,7 @@ pub fn name(table: &Table, node: usize) -> Name {
 
 /// The words that a part came from, if it is their negation.
 fn opposite(table: &Table, node: usize) -> Option<Name> {
-    let words = words_in_its_place(table, node)?;
+    let words = words_in_its_place(table, node, false)?;
     let starts = |any: &[&str]| any.iter().any(|start| words.starts_with(start));
     let negated = match table.nodes[node].kind {
         Kind::False => words == "true",
@@ -35,15 +35,15 @@ fn opposite(table: &Table, node: usize) -> Option<Name> {
     (negated && table.is_closed(node)).then_some(Name { text: words, negated })
 }
 
-/// The words at the place of a part that they do not just say.
-fn words_in_its_place(table: &Table, node: usize) -> Option<String> {
-    let node = table.nodes.get(node).filter(|node| !node.literal)?;
-    own_words(&table.source, node.span)
+/// The words at the place of a part that they do not just say, if that place is inside a modality, or if it is not.
+fn words_in_its_place(table: &Table, node: usize, inside_modality: bool) -> Option<String> {
+    let is_there = |node: &&Node| !node.literal && node.inside_modality == inside_modality;
+    own_words(&table.source, table.nodes.get(node).filter(is_there)?.span)
 }
 
 /// What is left of a modality from a node inside it on, with what stands behind the modality.
 fn rest_of_modality(table: &Table, node: usize) -> Option<Name> {
-    let words = words_in_its_place(table, node).filter(|words| !is_state_formula(words))?;
+    let words = words_in_its_place(table, node, true)?;
     let Node { kind, span, .. } = table.nodes.get(node)?;
     let must = match kind {
         Kind::Box(_) | Kind::Nu => true,
@@ -56,11 +56,6 @@ fn rest_of_modality(table: &Table, node: usize) -> Option<Name> {
     let steps = if is_binder(*kind) { repeated_again(words) } else { words };
     let text = if must != negated { format!("[{steps}]{operand}") } else { format!("<{steps}>{operand}") };
     Some(Name { text, negated })
-}
-
-/// Is it a state formula's text, and not what stands in a modality?
-fn is_state_formula(words: &str) -> bool {
-    ["[", "<", "mu ", "nu "].iter().any(|start| words.starts_with(start))
 }
 
 fn is_binder(kind: Kind) -> bool {
@@ -164,6 +159,8 @@ mod tests {
             "<a . \"x+\"+ . b>true && <a . \"x . y\"* . b>true",
             "nu X. [a . b]X && <c . true*>(true && <b>true)",
             "mu X. (mu X. <a . b>X) || [a . c]X",
+            "!(!(nu Y. nu Y. nu Y. a2))",
+            "!(!(nu Y. <a . b*>nu Y. [!(a) . b]Y))",
         ];
         for text in formulas.map(|text| text.replace("a2", "<a>true")) {
             let table = table(&text);

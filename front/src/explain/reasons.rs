@@ -93,7 +93,7 @@ impl Reasons<'_> {
     /// That only these states come, and what is so in them.
     fn all_that_comes(&self, end: &Claim, states: &[usize], parts: &[Claim]) -> Vec<String> {
         let parts = by_part(parts);
-        let everywhere = parts.iter().all(|(_, at)| at.len() == states.len()) && self.words.are_all_reached(states);
+        let everywhere = parts.iter().all(|(_, at)| at == states) && self.words.are_all_reached(states);
         let told: Vec<String> = parts.iter().filter_map(|(node, _)| self.everywhere(*node, end.holds)).collect();
         if everywhere && !told.is_empty() {
             return told.into_iter().chain(self.never_for_ever(end)).collect();
@@ -152,9 +152,7 @@ impl Reasons<'_> {
         let (part, holds) = self.words.saying(node, holds);
         match self.words.kind(node) {
             Kind::False | Kind::True => None,
-            _ if at.len() < states.len() => {
-                Some(format!("{part} {} in {}.", self.words.is(holds), self.words.states(at)))
-            }
+            _ if at != states => Some(format!("{part} {} in {}.", self.words.is(holds), self.words.states(at))),
             _ if at.len() == 1 => Some(format!("There {part} {}.", self.words.is(holds))),
             _ if holds => Some(format!("In each of them {part} holds.")),
             _ => Some(format!("In none of them {part} holds.")),

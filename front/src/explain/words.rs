@@ -93,7 +93,7 @@ impl<'a> Words<'a> {
     /// can?
     pub fn is_only_run(&self, explanation: &Explanation) -> bool {
         let turn = match &explanation.ending {
-            Ending::Loop { steps, .. } => steps.as_slice(),
+            Ending::Loop { steps, .. } if !steps.is_empty() => steps.as_slice(),
             Ending::NoTransition if self.leaving(explanation.end.state).is_empty() => &[],
             _ => return false,
         };

@@ -2,6 +2,7 @@
 
 use crate::chance;
 use crate::cut_down::printed;
+use crate::read_back::{read, Read, SKIPPED};
 use crate::replay::Replay;
 use crate::shortest::{printed_steps, Trial};
 use crate::told::{tell_if_accepted, Told};
@@ -32,13 +33,14 @@ fn name(ending: &Ending) -> &'static str {
     }
 }
 
-/// Each explanation is replayed by rules written anew, and its claims are confirmed by runs of their own. The bounds say
-/// that each ending, for each verdict, is met often enough to count as tested.
+/// Each explanation is replayed by rules written anew, and its claims are confirmed by runs of their own, all but a few
+/// whose part is too large for that. The bounds say that each ending, for each verdict, is met often enough to count as
+/// tested.
 #[test]
 fn each_explanation_is_a_proof() {
     let mut random = Random::new(1);
     let mut met: BTreeMap<(&str, bool), usize> = BTreeMap::new();
-    let (mut confirmed, mut lines) = (0, 0);
+    let (mut claims, mut confirmed) = (0, 0);
     for _ in 0..8_000 {
         let (text, told) = told(&mut random, 6);
         let mut replay = Replay::of(&told.case);
@@ -46,16 +48,49 @@ fn each_explanation_is_a_proof() {
             panic!("{wrong}\n{text}\n{:?}\n{}", told.explanation, told.lines().join("\n"));
         }
         assert_eq!(told.explanation.claim, Claim { node: 0, state: told.case.initial, holds: told.checked.verdict });
+        claims += replay.claims;
         confirmed += replay.confirmed;
-        lines += told.lines().len();
         *met.entry((name(&told.explanation.ending), told.checked.verdict)).or_default() += 1;
     }
-    println!("{met:?}, {confirmed} claims confirmed, {lines} lines");
+    assert!(claims >= 20_000 && confirmed * 100 >= claims * 99, "{confirmed} of {claims} claims confirmed");
     for ending in ["constant", "no transition", "loop", "sides", "each", "closed", "no single run"] {
         for verdict in [false, true] {
             let times = met.get(&(ending, verdict)).copied().unwrap_or(0);
             assert!(times >= 30, "{ending}, {verdict}: only {times} times");
         }
+    }
+}
+
+/// What the sentences say is so: each is read back, the parts in it as formulas, and checked by a run of its own. The bounds
+/// say that each form of sentence is met often enough to count as tested, and that hardly any is skipped.
+#[test]
+fn each_sentence_is_true() {
+    let mut random = Random::new(6);
+    let mut met = Read::new();
+    for _ in 0..12_000 {
+        let (text, told) = told(&mut random, 6);
+        let read = read(&told).unwrap_or_else(|wrong| panic!("{wrong}\n{text}\n{}", told.lines().join("\n")));
+        read.into_iter().for_each(|(form, times)| *met.entry(form).or_default() += times);
+    }
+    let skipped = met.remove(SKIPPED).unwrap_or(0);
+    let all: usize = met.values().sum();
+    assert!(all >= 20_000 && skipped * 20 <= all, "{skipped} skipped: {met:?}");
+    let forms = [
+        ("in", 5_000),
+        ("and there", 1_000),
+        ("in each of them", 10),
+        ("in none of them", 10),
+        ("in every state", 100),
+        ("in no state", 100),
+        ("there", 30),
+        ("each transition", 100),
+        ("no transition", 1_000),
+        ("whatever happens", 100),
+        ("the only run", 100),
+        ("step", 5_000),
+    ];
+    for (form, least) in forms {
+        assert!(met.get(form).copied().unwrap_or(0) >= least, "{form} too seldom: {met:?}");
     }
 }
 
@@ -76,7 +111,6 @@ fn what_is_printed_is_enough() {
             *met.entry(name(&told.explanation.ending)).or_default() += 1;
         }
     }
-    println!("{met:?}");
     for ending in ["constant", "no transition", "loop", "sides"] {
         assert!(met.get(ending).copied().unwrap_or(0) >= 50, "{ending} too seldom: {met:?}");
     }
@@ -120,7 +154,6 @@ fn no_run_is_shorter() {
             *if to_an_end.is_some() { &mut ends } else { &mut lassos } += 1;
         }
     }
-    println!("{ends} ends, {lassos} lassos");
     assert!(ends >= 500 && lassos >= 100, "{ends} ends, {lassos} lassos");
 }
 
@@ -140,7 +173,6 @@ fn loops_of_the_wrong_binder_are_noticed() {
             other_verdict += (printed.verdict_by_these_alone(&told.case) != told.checked.verdict) as usize;
         }
     }
-    println!("{refused} refused, {other_verdict} with the other verdict");
     assert!(refused >= 100 && other_verdict >= 20, "{refused} refused, {other_verdict} with the other verdict");
 }
 

@@ -240,6 +240,42 @@ fn close_comes_by_all_ways() {
     assert_told(&told, run(holds(0, 0), &[], holds(0, 0), ending), &lines);
 }
 
+/// A dialog that may hover for ever while it is closed, and that closes by two ways once it is open.
+const HOVERING_CLOSED: &str = "des (0, 7, 4)\n(0, hover, 0)\n(0, click, 1)\n(1, submit, 2)\n(1, keydown, 3)\n\
+    (2, close, 0)\n(3, cancel, 2)\n(3, close, 0)\n";
+const FOUR: &str = "0 closed\n1 open\n2 closing\n3 escaping\n";
+
+/// Nodes: [click] 0, mu 1, and 2, <true> 3, true 4, [!close] 5, X 6. What is behind the click holds in open; in closed it
+/// fails, for there it can hover for ever. So the run goes to open, and what comes from there is told.
+#[test]
+fn what_holds_behind_the_only_step() {
+    let told = tell(HOVERING_CLOSED, FOUR, "[click] mu X. <true>true && [!close]X");
+    let ending = Ending::Closed { states: vec![1, 2, 3], parts: vec![holds(3, 1), holds(3, 2), holds(3, 3)] };
+    let lines = [
+        "`[click] mu X. <true>true && [!close]X` holds in closed:",
+        "  closed -- click --> open",
+        "and there `mu X. <true>true && [!close]X` holds: by transitions that `!close` accepts only these states come: open, closing, escaping.",
+        "In each of them `<true>true` holds.",
+        "No run that it follows goes on for ever.",
+    ];
+    assert_told(&told, run(holds(0, 0), &[1], holds(1, 1), ending), &lines);
+}
+
+/// Nodes: <click> 0, nu 1, or 2, [true] 3, false 4, <!close> 5, X 6. The dual: it fails in open, and holds in closed.
+#[test]
+fn what_fails_behind_the_only_step() {
+    let told = tell(HOVERING_CLOSED, FOUR, "<click> nu X. [true]false || <!close>X");
+    let ending = Ending::Closed { states: vec![1, 2, 3], parts: vec![fails(3, 1), fails(3, 2), fails(3, 3)] };
+    let lines = [
+        "`<click> nu X. [true]false || <!close>X` fails in closed:",
+        "  closed -- click --> open",
+        "and there `nu X. [true]false || <!close>X` fails: by transitions that `!close` accepts only these states come: open, closing, escaping.",
+        "In none of them `[true]false` holds.",
+        "No run that it follows goes on for ever.",
+    ];
+    assert_told(&told, run(fails(0, 0), &[1], fails(1, 1), ending), &lines);
+}
+
 /// Nodes: mu 0, or 1, <close> 2, true 3, [true] 4, <true> 5, X 6. From 0 there are two ways, and then again a choice of
 /// the one who explains.
 #[test]
@@ -261,6 +297,18 @@ fn defined_by_itself() {
     let told = tell(STUCK, TWO, "nu X. X");
     let lines = ["`nu X. X` holds in open: `X` is only defined by itself, and with nu that holds everywhere."];
     assert_told(&told, run(holds(0, 0), &[], holds(0, 0), looping(&[], 0)), &lines);
+}
+
+/// Nodes: <true> 0, nu 1, Y 2. The model goes on behind the step, so nothing is said of the only run.
+#[test]
+fn defined_by_itself_behind_a_step() {
+    let told = tell("des (0, 2, 2)\n(0, click, 1)\n(1, close, 0)\n", TWO, "<true>(nu Y. Y)");
+    let lines = [
+        "`<true>(nu Y. Y)` holds in open:",
+        "  open -- click --> closing",
+        "and there `nu Y. Y` holds: `Y` is only defined by itself, and with nu that holds everywhere.",
+    ];
+    assert_told(&told, run(holds(0, 0), &[0], holds(1, 1), looping(&[], 1)), &lines);
 }
 
 #[test]

@@ -13,13 +13,14 @@ use std::collections::BTreeSet;
 pub struct Replay<'a> {
     case: &'a Case,
     truths: Truths<'a>,
-    /// Claims that were found true by a run of their own.
+    /// How many claims there were, and how many of them were found true by a run of their own.
+    pub claims: usize,
     pub confirmed: usize,
 }
 
 impl<'a> Replay<'a> {
     pub fn of(case: &'a Case) -> Replay<'a> {
-        Replay { case, truths: Truths::of(case), confirmed: 0 }
+        Replay { case, truths: Truths::of(case), claims: 0, confirmed: 0 }
     }
 
     /// Goes through an explanation; an error says what is wrong in it.
@@ -35,6 +36,7 @@ impl<'a> Replay<'a> {
 
     fn claims<'c>(&mut self, claims: impl Iterator<Item = &'c Claim>) -> Result<(), String> {
         for claim in claims {
+            self.claims += 1;
             if let Some(holds) = self.truths.holds(claim.node, claim.state) {
                 ensure(holds == claim.holds, &format!("{claim:?} is not so"))?;
                 self.confirmed += 1;

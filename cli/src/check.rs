@@ -3,6 +3,7 @@
 use crate::answer;
 use crate::arguments::CheckArguments;
 use crate::exit::Exit;
+use crate::files;
 use crate::json;
 use crate::load::{self, Answer, Rules};
 use crate::output;
@@ -21,6 +22,8 @@ pub fn run(arguments: &CheckArguments) -> Result<Exit, Trouble> {
 }
 
 fn answered(arguments: &CheckArguments) -> Result<Answer, Trouble> {
+    let read = [Some(&arguments.model), arguments.formula.formula.as_ref(), arguments.names.as_ref()];
+    files::one_standard("input", &read)?;
     let formula = load::needed(&arguments.formula)?;
     let rules = Rules::settle(&arguments.readings, Some(&formula.directives)).limited(arguments.limit);
     let model = load::model(&arguments.model, arguments.names.as_deref(), &rules)?;

@@ -11,6 +11,8 @@ use bithrowy_front::{aut, back, library, refusal};
 use std::io::{self, IsTerminal};
 
 pub fn run(arguments: &ConvertArguments) -> Result<Exit, Trouble> {
+    files::one_standard("input", &[Some(&arguments.file), arguments.formula.formula.as_ref()])?;
+    files::one_standard("output", &[arguments.aut.as_ref(), arguments.mcf.as_ref()])?;
     let bytes = files::bytes(&arguments.file)?;
     match files::kind(&bytes) {
         Kind::Text => from_text(arguments, bytes)?,

@@ -13,6 +13,9 @@ use bithrowy_front::{draw, page};
 use std::path::Path;
 
 pub fn run(arguments: &DrawArguments) -> Result<Exit, Trouble> {
+    let read = [Some(&arguments.model), arguments.formula.formula.as_ref(), arguments.names.as_ref()];
+    files::one_standard("input", &read)?;
+    files::one_standard("output", &[arguments.svg.as_ref(), arguments.html.as_ref()])?;
     let formula = Formula::of(&arguments.formula)?;
     let rules = Rules::settle(&arguments.readings, formula.as_ref().map(|formula| &formula.directives))
         .limited(arguments.limit);

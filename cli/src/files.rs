@@ -7,7 +7,7 @@ use bithrowy_front::source::Source;
 use std::env;
 use std::fs::{self, File};
 use std::io::{self, ErrorKind, Read};
-use std::path::Path;
+use std::path::{Path, PathBuf};
 use std::sync::Arc;
 
 /// Larger files are not read: the checker's limits are reached long before.
@@ -52,6 +52,15 @@ pub fn shown(path: &Path) -> String {
 /// Is this `-`, which stands for standard input or standard output?
 pub fn is_standard(path: &Path) -> bool {
     path == Path::new("-")
+}
+
+/// What is read from standard input is one text, and so is what is written to standard output.
+pub fn one_standard(stream: &str, paths: &[Option<&PathBuf>]) -> Result<(), Trouble> {
+    if paths.iter().flatten().filter(|path| is_standard(path)).count() < 2 {
+        return Ok(());
+    }
+    Err(Trouble::plain(format!("- is standard {stream}, and stands here twice"))
+        .with_help("name a file in place of one of the two"))
 }
 
 /// What is read, as people know it.

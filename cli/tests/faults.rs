@@ -82,6 +82,24 @@ fn files_that_cannot_be_read_or_written() {
     assert!(model.err.contains("help: this is a folder: name a file in it\n"), "{}", model.err);
 }
 
+/// Who may do everything may read it all the same.
+#[cfg(unix)]
+#[test]
+fn files_without_permission() {
+    use std::os::unix::fs::PermissionsExt;
+    let folder = Folder::with_dialog("fault-permission");
+    let nobody = std::fs::Permissions::from_mode(0o000);
+    std::fs::set_permissions(folder.path("dialog.aut"), nobody).expect("its mode can be set");
+    if std::fs::read(folder.path("dialog.aut")).is_ok() {
+        println!("not tested: this user may read every file");
+        return;
+    }
+    let ran = folder.run(&["check", "dialog.aut", "ends.mcf"]).expect_exit(2);
+    assert!(ran.err.contains("help: ask its owner for the permission to read it\n"), "{}", ran.err);
+    let ran = folder.run(&["draw", "dialog.aut", "--svg", "dialog.aut"]).expect_exit(2);
+    assert!(ran.err.starts_with("error: dialog.aut cannot be read: "), "{}", ran.err);
+}
+
 /// What comes from standard input is called so.
 #[test]
 fn faults_of_standard_input() {
@@ -246,6 +264,25 @@ fn wrong_arguments() {
     ] {
         let ran = folder.run(&arguments).expect_exit(2);
         assert!(ran.out.is_empty() && !ran.err.is_empty(), "{arguments:?}: {ran:?}");
+    }
+}
+
+/// The second would find nothing to read, or be mixed with the first.
+#[test]
+fn one_standard_input_and_output() {
+    let folder = Folder::with_dialog("fault-twice");
+    folder.run(&["convert", "dialog.aut", "ends.mcf", "-o", "case.bin"]).expect_exit(0);
+    for (arguments, stream) in [
+        (&["check", "-", "-"][..], "input"),
+        (&["check", "dialog.aut", "-", "--names", "-"], "input"),
+        (&["draw", "-", "-"], "input"),
+        (&["convert", "-", "-"], "input"),
+        (&["draw", "dialog.aut", "ends.mcf", "--svg", "-", "--html", "-"], "output"),
+        (&["convert", "case.bin", "--aut", "-", "--mcf", "-"], "output"),
+    ] {
+        let ran = folder.run(arguments).expect_exit(2);
+        let said = format!("error: - is standard {stream}, and stands here twice\n");
+        assert!(ran.err.starts_with(&said) && ran.err.contains("help: ") && ran.out.is_empty(), "{ran:?}");
     }
 }
 

@@ -225,7 +225,9 @@ fn all_is_built_once() {
     assert!(said.len() == 3 && said[0].contains("proving and building the library"), "{}", ran.err);
     assert!(said[1].ends_with("from the public registry") && said[2].ends_with("building the program"), "{}", ran.err);
     assert_eq!(copy.calls(), ["tools/build library", "cargo metadata", "rustc -vV", "cargo fetch", "cargo build"]);
+    fs::remove_file(copy.0.path("target/lock")).expect("it was there");
     let ran = copy.run("bithrowy", &["test", "x"], "none").expect_exit(0);
+    assert!(!copy.0.path("target/lock").exists(), "nothing is locked");
     assert_eq!((ran.out.as_str(), ran.err.as_str(), copy.calls()), ("ran test x\n", "", Vec::new()));
 }
 

@@ -25,9 +25,9 @@ pub enum Word {
 
 /// The signs of the language, and those of other languages that are refused by name. Each one stands behind those that
 /// begin with it and are longer.
-const SIGNS: [&str; 24] = [
-    "<=>", "==>", "-->", "&&", "||", "=>", "==", "->", "/\\", "\\/", "[", "]", "<", ">", "(", ")", "!", ".", "+", "*",
-    "|", "&", "=", "~",
+const SIGNS: [&str; 26] = [
+    "<=>", "==>", "-->", "&&", "||", "=>", "==", "=<", "<=", "->", "/\\", "\\/", "[", "]", "<", ">", "(", ")", "!",
+    ".", "+", "*", "|", "&", "=", "~",
 ];
 
 /// So many words and signs are read at most, brackets among them: what is longer is no formula that somebody wrote.

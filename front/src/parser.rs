@@ -7,6 +7,7 @@
 
 mod connective;
 mod cursor;
+mod foreign;
 mod operators;
 mod refused;
 mod state;
@@ -17,12 +18,14 @@ use crate::source::{Fault, Source};
 use cursor::Cursor;
 use std::sync::Arc;
 
-/// So many parts of a formula stand one inside the other at most. A formula that the checker takes needs fewer: a path
-/// through all nodes that it may have is shorter.
+/// So many parts of a formula stand one inside the other at most, each `!` among them. A formula that the checker takes
+/// needs fewer, as a path through all nodes that it may have is shorter; but for `!` before formulas, which costs no node:
+/// so many of them before `true` are refused here, though the formula has one node.
 pub const NESTED: usize = 500;
 
-/// So many parts (operators, names and constants) a formula has at most. A formula that the checker takes has fewer,
-/// even if each of its modalities has an action formula of all the nodes that there may be.
+/// So many parts (operators, names and constants) a formula has at most. A formula that the checker takes has fewer, even
+/// if each of its modalities has an action formula of all the nodes that there may be; but for `!` before formulas, as
+/// above.
 pub const PARTS: usize = 10_000;
 
 /// Reads one formula that fills the text. `silent` is the name of the silent step.

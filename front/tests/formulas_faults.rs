@@ -56,7 +56,6 @@ fn operands() {
         BETWEEN,
     );
     says("[a || ] true", 7, "expected a label after \"||\", found \"]\"", 1, STEP);
-    says("[*] true", 2, "expected a label after \"[\", found \"*\"", 1, STEP);
     says("<a|> true", 4, "expected a name after \"a|\", found \">\"", 1, STEP);
     says("[!] true", 3, "expected a label after \"!\", found \"]\"", 1, STEP);
     says("[a . + b] true", 6, "expected a label after \".\", found \"+\"", 1, STEP);
@@ -124,6 +123,95 @@ fn operators_that_are_missing() {
     says("[a*(b)] true", 4, "expected \"]\" after \"*\", found \"(\"", 1, help);
     let message = "expected \"&&\", \"||\", \"=>\" or the end of the text after \"true\", found \";\"";
     says("true;", 5, message, 1, "leave it out: a file has one formula, and no sign ends it");
+}
+
+/// Between operands in brackets the same is meant as outside of them.
+#[test]
+fn connectives_of_other_languages() {
+    let (and, or) = ("did you mean \"&&\"?", "did you mean \"||\"?");
+    says("(<a>true | <b>true)", 10, "expected \")\" after \"true\", found \"|\"", 1, or);
+    says("(<a>true and <b>true)", 10, "expected \")\" after \"true\", found \"and\"", 3, and);
+    says("(X implies Y)", 4, "expected \")\" after \"X\", found \"implies\"", 7, "did you mean \"=>\"?");
+    says("<a and b>true", 4, "expected \">\" after \"a\", found \"and\"", 3, and);
+    says("[(a or b)*]true", 5, "expected \")\" after \"a\", found \"or\"", 2, or);
+    says("<a, b>true", 3, "expected \">\" after \"a\", found \",\"", 1, or);
+    says("[(a, b)]true", 4, "expected \")\" after \"a\", found \",\"", 1, or);
+    let help = "the \"(\" in line 1, column 1 needs its \")\", or an operator is missing before \",\"";
+    says("(true, true)", 6, "expected \")\" after \"true\", found \",\"", 1, help);
+}
+
+/// The word is marked, wherever the reader first sees that it is none.
+#[test]
+fn negations_of_other_languages() {
+    for (text, column) in [
+        ("not (<a>true)", 1),
+        ("not <a>true", 1),
+        ("true && (not <a>true)", 10),
+        ("<not a>true", 2),
+        ("<not (a || b)>true", 2),
+        ("[b . (not a)]true", 7),
+    ] {
+        says(text, column, "\"not\" is no word of formulas", 3, "did you mean \"!\"?");
+    }
+}
+
+#[test]
+fn fixed_points_and_quantifiers_of_other_languages() {
+    says("min X. <a>X", 1, "\"min\" is no word of formulas", 3, "did you mean \"mu\"?");
+    says("(max X. <a>X)", 2, "\"max\" is no word of formulas", 3, "did you mean \"nu\"?");
+    let message = |word: &str| format!("\"{word}\" is a quantifier: quantifiers are not supported");
+    says("inf n: Nat. true", 1, &message("inf"), 3, "write each case out, with \"&&\" between them");
+    says("[a](sup n: Nat. true)", 5, &message("sup"), 3, "write each case out, with \"||\" between them");
+}
+
+#[test]
+fn words_of_temporal_logics() {
+    let idiom = "see docs/TEXT.md for how to say it";
+    for (text, column, word, help) in [
+        ("always close", 1, "always", "write [true*] before what is always so"),
+        ("AG <a>true", 1, "AG", "write [true*] before what is always so"),
+        ("AG(<a>true)", 1, "AG", "write [true*] before what is always so"),
+        ("[a](EF <b>true)", 5, "EF", "write <true*> before what can come to be so"),
+        ("never close", 1, "never", "for \"a never happens\" write [true* . a]false"),
+        ("AF <a>true", 1, "AF", "for \"a comes, whatever is done\" write mu X. <true>true && [!a]X"),
+        ("eventually close", 1, "eventually", "for \"a comes, whatever is done\" write mu X. <true>true && [!a]X"),
+        ("EG <a>true", 1, "EG", idiom),
+        ("A (true)", 1, "A", idiom),
+        ("E [a]true", 1, "E", idiom),
+        ("true U <close>true", 6, "U", idiom),
+        ("(true until <close>true)", 7, "until", idiom),
+    ] {
+        says(text, column, &format!("\"{word}\" is no word of formulas"), word.len(), help);
+    }
+}
+
+/// A variable may have such a name, and in a modality such a word may be a part of a label.
+#[test]
+fn names_that_other_languages_have_as_words() {
+    let message = "expected \"&&\", \"||\", \"=>\" or the end of the text after \"A\", found \"[\"";
+    says("mu A. A [a]A", 9, message, 1, BETWEEN);
+    let message = "\"not\" has parameters: data are not supported";
+    says("mu not. not(1)", 12, message, 1, "write a variable of its own for each value");
+    let quotes =
+        "the \"<\" in line 1, column 1 needs its \">\"; a label with blanks or other signs in it stands in quotes";
+    says("<min width>true", 6, "expected \">\" after \"min\", found \"width\"", 5, quotes);
+    for text in ["<not>true", "[and . U]true", "mu AG. <inf>AG", "nu max. [always]max"] {
+        assert!(parser::read(&Source::new("f.mcf", text), SILENT).is_ok(), "{text}");
+    }
+}
+
+#[test]
+fn stars_in_other_places() {
+    let help = |brackets: &str| format!("the \"*\" stands inside the brackets: {brackets}");
+    says("[click]* a", 8, "expected a formula after \"[click]\", found \"*\"", 1, &help("[click*]"));
+    says("< a . b >* true", 10, "expected a formula after \"< a . b >\", found \"*\"", 1, &help("<(a . b)*>"));
+    says("[(!a)]* true", 7, "expected a formula after \"[(!a)]\", found \"*\"", 1, &help("[(!a)*]"));
+    let plus = "the \"+\" stands inside the brackets: <a+>";
+    says("<a>+ true", 4, "expected a formula after \"<a>\", found \"+\"", 1, plus);
+    says("true && * true", 9, "expected a formula after \"&&\", found \"*\"", 1, FORMULA);
+    let behind = "a \"*\" stands behind what it repeats, as in click*; true* is any number of steps";
+    says("[*] true", 2, "expected a label after \"[\", found \"*\"", 1, behind);
+    says("<a . *> true", 6, "expected a label after \".\", found \"*\"", 1, behind);
 }
 
 #[test]
@@ -234,6 +322,18 @@ fn signs_and_words_of_other_languages() {
         "did you mean \"&&\"?",
     );
     says("not true", 1, "\"not\" is no word of formulas", 3, "did you mean \"!\"?");
+}
+
+#[test]
+fn signs_of_too_many_characters() {
+    says("a &&& b", 5, "\"&\" behind \"&&\" is one sign too many", 1, "leave it out");
+    says("(true ||| true)", 9, "\"|\" behind \"||\" is one sign too many", 1, "leave it out");
+    says("[a ||| b] true", 6, "\"|\" behind \"||\" is one sign too many", 1, "leave it out");
+    let implication = "for \"if a, then b\" write a => b";
+    says("true =< true", 6, "\"=<\" is no sign of formulas", 2, implication);
+    says("true <= true", 6, "\"<=\" is no sign of formulas", 2, implication);
+    says("[a <= b] true", 4, "\"<=\" is no sign of formulas", 2, implication);
+    says("true <=> true", 6, "\"<=>\" is no sign of formulas", 3, "write (a => b) && (b => a)");
 }
 
 #[test]

@@ -1,5 +1,6 @@
 //! The place in the words that are read, and how much was read so far.
 
+use super::foreign::Operands;
 use super::refused;
 use super::{NESTED, PARTS};
 use crate::amount;
@@ -61,9 +62,9 @@ impl<'a> Cursor<'a> {
         self.is_at(sign).then(|| self.advance())
     }
 
-    /// The closing bracket of an opening one.
+    /// The closing bracket of a modality's opening one.
     pub(super) fn close(&mut self, opening: Span, sign: &str) -> Result<Span, Fault> {
-        self.take(sign).ok_or_else(|| self.unclosed(opening, sign))
+        self.take(sign).ok_or_else(|| self.unclosed(opening, sign, Operands::Labels))
     }
 
     /// Nothing but the end may follow.
@@ -107,7 +108,14 @@ impl<'a> Cursor<'a> {
     }
 
     /// An opening bracket's closing one is not the next word.
-    pub(super) fn unclosed(&self, opening: Span, sign: &str) -> Fault {
+    pub(super) fn unclosed(&self, opening: Span, sign: &str, operands: Operands) -> Fault {
+        let expected = format!("\"{sign}\"");
+        refused::meant(self, &expected, operands)
+            .unwrap_or_else(|| self.expected(&expected, self.last(), &self.needed(opening, sign)))
+    }
+
+    /// What an opening bracket needs.
+    fn needed(&self, opening: Span, sign: &str) -> String {
         let place = self.source.place(opening.start);
         let bracket = self.source.slice(opening);
         let mut help =
@@ -119,7 +127,17 @@ impl<'a> Cursor<'a> {
             }
             _ => help.push_str(&format!(", or an operator is missing before {}", self.found())),
         }
-        self.expected(&format!("\"{sign}\""), self.last(), &help)
+        help
+    }
+
+    /// Does a `mu` or `nu` anywhere in the text bind this name?
+    pub(super) fn binds(&self, name: &str) -> bool {
+        self.words.windows(2).any(|pair| match pair {
+            [(Word::Name(binder), _), (Word::Name(bound), _)] => {
+                matches!(binder.as_str(), "mu" | "nu") && bound == name
+            }
+            _ => false,
+        })
     }
 
     /// A part of the text in one line, as messages show it.

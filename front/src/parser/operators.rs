@@ -2,6 +2,7 @@
 //! alike. What waits for its operand is kept in a list, so that no depth of a formula exhausts the stack.
 
 use super::cursor::{Cursor, Read};
+use super::foreign::Operands;
 use crate::source::{Fault, Span};
 
 /// A language of operators. A tighter one has a greater level.
@@ -16,6 +17,7 @@ pub(super) trait Grammar {
 
     /// The level of the operators behind an operand.
     const BEHIND: u8;
+    const OPERANDS: Operands;
 
     fn level_before(operator: &Self::Before) -> u8;
     fn level_between(operator: Self::Between) -> u8;
@@ -162,7 +164,7 @@ fn whole<G: Grammar>(
 ) -> Result<Read<G::Part>, Fault> {
     let formula = joined(cursor, &mut waiting, last, 0)?;
     match waiting.pop() {
-        Some(bracket) => Err(cursor.unclosed(bracket.span(), ")")),
+        Some(bracket) => Err(cursor.unclosed(bracket.span(), ")", G::OPERANDS)),
         None => Ok(formula),
     }
 }

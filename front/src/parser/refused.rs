@@ -1,34 +1,13 @@
 //! What is refused by name: words and signs of other languages, and what this checker does not have.
 
 use super::cursor::Cursor;
+use super::foreign::{self, did_you_mean, Operands, A_QUANTIFIER};
 use crate::formula::{Regular, RegularFormula};
 use crate::label;
 use crate::lexer::{self, Word};
 use crate::source::{shown, Fault, Span};
 
-/// Signs, and what is written for them here.
-const SIGNS: [(&str, &str); 8] =
-    [("&", "&&"), ("=", "=>"), ("==", "=>"), ("->", "=>"), ("-->", "=>"), ("==>", "=>"), ("/\\", "&&"), ("\\/", "||")];
-
-/// Characters, and what is written for them here.
-const CHARACTERS: [(char, &str); 9] =
-    [('¬', "!"), ('∧', "&&"), ('∨', "||"), ('⇒', "=>"), ('→', "=>"), ('·', "."), ('⋅', "."), ('⟨', "<"), ('⟩', ">")];
-
 const NO_SIGN: &str = "is no sign of formulas";
-
-const TWO_FORMULAS: &str = "write \"&&\", \"||\" or \"=>\" between two formulas";
-
-/// Names, and what is written for them here.
-const NAMES: [(&str, &str); 8] = [
-    ("and", "&&"),
-    ("or", "||"),
-    ("implies", "=>"),
-    ("not", "!"),
-    ("μ", "mu"),
-    ("ν", "nu"),
-    ("tt", "true"),
-    ("ff", "false"),
-];
 
 /// The words with which the parts of a specification begin.
 const SPECIFICATION: [&str; 9] = ["form", "act", "map", "eqn", "sort", "cons", "var", "proc", "init"];
@@ -36,12 +15,23 @@ const SPECIFICATION: [&str; 9] = ["form", "act", "map", "eqn", "sort", "cons", "
 /// The next word, if it is refused wherever it stands.
 pub(super) fn word(cursor: &Cursor) -> Option<Fault> {
     match cursor.word() {
+        Word::Sign(sign @ ("&" | "|")) if is_behind_connective(cursor) => Some(one_too_many(cursor, sign)),
         Word::Name(name) => name_refused(cursor, name),
         Word::Number(number) => Some(number_refused(cursor, &shown(number))),
         Word::Sign(sign) => sign_refused(cursor, sign),
         Word::Other(character) => character_refused(cursor, *character),
         Word::Quoted(_) | Word::End => None,
     }
+}
+
+fn is_behind_connective(cursor: &Cursor) -> bool {
+    cursor.last().is_some_and(|last| matches!(cursor.source.slice(last), "&&" | "||" | "=>"))
+}
+
+/// A sign behind a connective, as the third of `&&&`.
+fn one_too_many(cursor: &Cursor, sign: &str) -> Fault {
+    let connective = cursor.last().map(|last| cursor.text(last)).unwrap_or_default();
+    fault(cursor, &format!("\"{sign}\" behind \"{connective}\" is one sign too many"), "leave it out")
 }
 
 fn number_refused(cursor: &Cursor, number: &str) -> Fault {
@@ -51,8 +41,7 @@ fn number_refused(cursor: &Cursor, number: &str) -> Fault {
 
 fn name_refused(cursor: &Cursor, name: &str) -> Option<Fault> {
     let (what, help) = match name {
-        "forall" => ("a quantifier: quantifiers are not supported", "write each case out, with \"&&\" between them"),
-        "exists" => ("a quantifier: quantifiers are not supported", "write each case out, with \"||\" between them"),
+        "forall" | "exists" => (A_QUANTIFIER, foreign::each_case(name)),
         "val" => ("for data expressions: data are not supported", "write true or false, or a label in quotes"),
         "delay" | "yaled" => ("about time: time is not supported", "a label of this name stands in quotes"),
         "nil" => ("the run without a step, which is not supported", "leave the modality out: [nil] X is X"),
@@ -62,12 +51,7 @@ fn name_refused(cursor: &Cursor, name: &str) -> Option<Fault> {
 }
 
 fn sign_refused(cursor: &Cursor, sign: &str) -> Option<Fault> {
-    let help = match SIGNS.iter().find(|(other, _)| *other == sign) {
-        Some((_, meant)) => format!("did you mean \"{meant}\"?"),
-        None if sign == "~" => "did you mean \"!\"?".to_string(),
-        None if sign == "<=>" => "write (a => b) && (b => a)".to_string(),
-        None => return None,
-    };
+    let help = foreign::sign(sign)?;
     Some(fault(cursor, &format!("\"{sign}\" {NO_SIGN}"), &help))
 }
 
@@ -76,10 +60,7 @@ fn character_refused(cursor: &Cursor, character: char) -> Option<Fault> {
         '@' => ("gives a time: time is not supported", "leave \"@\" and the time out".to_string()),
         '∀' | '∃' => ("is a quantifier: quantifiers are not supported", "write each case out".to_string()),
         '“' | '”' | '„' | '\'' => (NO_SIGN, "a label stands in double quotes: \"a b\"".to_string()),
-        _ => {
-            let (_, meant) = CHARACTERS.iter().find(|(other, _)| *other == character)?;
-            (NO_SIGN, format!("did you mean \"{meant}\"?"))
-        }
+        _ => (NO_SIGN, did_you_mean(foreign::character(character)?)),
     };
     Some(fault(cursor, &format!("\"{character}\" {what}"), &help))
 }
@@ -109,27 +90,44 @@ pub(super) fn label_for_formula(cursor: &Cursor) -> Fault {
     fault(cursor, &message, &format!("for \"a step {label} is possible\" write <{quoted}>true"))
 }
 
+/// Something behind an operand where something else is expected, if other languages have it: what is meant by it.
+pub(super) fn meant(cursor: &Cursor, expected: &str, operands: Operands) -> Option<Fault> {
+    let last = cursor.last().filter(|_| begins_operand(cursor.word()));
+    if let Some(fault) = last.and_then(|last| foreign_word(cursor, last, operands)) {
+        return Some(fault);
+    }
+    if let Some(connective) = foreign::connective(cursor.word(), operands) {
+        return Some(cursor.expected(expected, cursor.last(), &did_you_mean(connective)));
+    }
+    let is_temporal = foreign::temporal(cursor.source.slice(cursor.span())).is_some();
+    is_temporal.then(|| foreign_word(cursor, cursor.span(), operands)).flatten()
+}
+
+fn begins_operand(word: &Word) -> bool {
+    matches!(word, Word::Name(_) | Word::Quoted(_) | Word::Sign("!" | "[" | "<" | "("))
+}
+
+/// A word of another language, unless it is the name of a variable.
+fn foreign_word(cursor: &Cursor, place: Span, operands: Operands) -> Option<Fault> {
+    let name = cursor.source.slice(place);
+    let (what, help) = foreign::word(name, operands).filter(|_| !cursor.binds(name))?;
+    Some(Fault::new(cursor.source, place, format!("\"{name}\" is {what}")).with_help(help))
+}
+
 /// Something behind a whole formula.
 pub(super) fn behind_formula(cursor: &Cursor) -> Fault {
-    let last = cursor.last().map(|span| cursor.text(span)).unwrap_or_default();
-    if let Some((_, meant)) = NAMES.iter().find(|(name, _)| *name == last) {
-        let span = cursor.last().unwrap_or(cursor.span());
-        return Fault::new(cursor.source, span, format!("\"{last}\" is no word of formulas"))
-            .with_help(format!("did you mean \"{meant}\"?"));
+    let expected = "\"&&\", \"||\", \"=>\" or the end of the text";
+    if let Some(fault) = meant(cursor, expected, Operands::Formulas) {
+        return fault;
     }
     let help = match cursor.word() {
         Word::Sign(")") => not_open("("),
         Word::Sign("]") => not_open("["),
         Word::Sign(">") => not_open("<"),
-        Word::Sign("|") => "did you mean \"||\"?".to_string(),
         Word::Other(';') => "leave it out: a file has one formula, and no sign ends it".to_string(),
-        Word::Name(name) => match NAMES.iter().find(|(other, _)| other == name) {
-            Some((_, meant)) => format!("did you mean \"{meant}\"?"),
-            None => TWO_FORMULAS.to_string(),
-        },
-        _ => TWO_FORMULAS.to_string(),
+        _ => "write \"&&\", \"||\" or \"=>\" between two formulas".to_string(),
     };
-    cursor.expected("\"&&\", \"||\", \"=>\" or the end of the text", cursor.last(), &help)
+    cursor.expected(expected, cursor.last(), &help)
 }
 
 fn not_open(bracket: &str) -> String {
@@ -147,7 +145,8 @@ pub(super) fn specification(cursor: &Cursor) -> Option<Fault> {
 /// Parameters of a variable, which begin at the next word.
 pub(super) fn parameters(cursor: &Cursor, before: Span) -> Fault {
     let message = format!("\"{}\" has parameters: data are not supported", cursor.text(before));
-    fault(cursor, &message, "write a variable of its own for each value")
+    foreign_word(cursor, before, Operands::Formulas)
+        .unwrap_or_else(|| fault(cursor, &message, "write a variable of its own for each value"))
 }
 
 /// Arguments of a label, which begin at the next word.
@@ -156,7 +155,8 @@ pub(super) fn arguments(cursor: &Cursor, label: Span) -> Fault {
         Some(closing) => format!("the whole label stands in quotes: \"{}\"", cursor.text(label.to(closing))),
         None => "the whole label stands in quotes".to_string(),
     };
-    fault(cursor, &format!("the label \"{}\" has arguments: data are not supported", cursor.text(label)), &help)
+    let message = format!("the label \"{}\" has arguments: data are not supported", cursor.text(label));
+    foreign_word(cursor, label, Operands::Labels).unwrap_or_else(|| fault(cursor, &message, &help))
 }
 
 pub(super) fn empty_modality(cursor: &Cursor, opening: Span) -> Fault {
@@ -168,6 +168,22 @@ pub(super) fn empty_modality(cursor: &Cursor, opening: Span) -> Fault {
 
 pub(super) fn no_label(cursor: &Cursor, span: Span, message: String) -> Fault {
     Fault::new(cursor.source, span, message).with_help("a label is a name, or several with \"|\" between them")
+}
+
+/// What to do about a star or plus that stands behind a modality instead of in it.
+pub(super) fn repeated_modality(cursor: &Cursor, before: Option<Span>) -> Option<String> {
+    let sign = ["*", "+"].into_iter().find(|sign| cursor.is_at(sign))?;
+    let Span { start, end } = before?;
+    let (open, close) = [("[", "]"), ("<", ">")].into_iter().find(|(open, close)| {
+        let text = cursor.source.slice(Span { start, end });
+        text.starts_with(open) && text.ends_with(close)
+    })?;
+    let steps = cursor.text(lexer::unbracketed(cursor.source, Span::new(start + open.len(), end - close.len())));
+    let repeated = match steps.chars().all(label::continues_name) {
+        true => format!("{steps}{sign}"),
+        false => format!("({steps}){sign}"),
+    };
+    Some(format!("the \"{sign}\" stands inside the brackets: {open}{repeated}{close}"))
 }
 
 /// Several steps where a sign needs the labels of one.

@@ -2,6 +2,7 @@
 
 use super::connective::{self, Connective};
 use super::cursor::{Cursor, Read};
+use super::foreign::Operands;
 use super::operators::{self, Grammar, Written};
 use super::{refused, steps};
 use crate::formula::{Name, RegularFormula, State, StateFormula};
@@ -42,6 +43,7 @@ impl Grammar for States {
     type Behind = Infallible;
 
     const BEHIND: u8 = PREFIX;
+    const OPERANDS: Operands = Operands::Formulas;
 
     fn level_before(operator: &Prefix) -> u8 {
         match operator {
@@ -84,7 +86,10 @@ impl Grammar for States {
         match cursor.word().clone() {
             Word::Name(name) => named(cursor, name),
             Word::Quoted(_) => Err(refused::label_for_formula(cursor)),
-            _ => Err(cursor.expected("a formula", after, BEGINNINGS)),
+            _ => {
+                let help = refused::repeated_modality(cursor, after);
+                Err(cursor.expected("a formula", after, help.as_deref().unwrap_or(BEGINNINGS)))
+            }
         }
     }
 

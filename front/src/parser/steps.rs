@@ -3,6 +3,7 @@
 
 use super::connective::{self, Connective};
 use super::cursor::{Cursor, Read};
+use super::foreign::Operands;
 use super::operators::{self, Grammar, Written};
 use super::refused;
 use crate::formula::{Action, ActionFormula, Regular, RegularFormula};
@@ -21,6 +22,8 @@ const NOT: u8 = 7;
 
 const BEGINNINGS: &str =
     "a step is a label, true (any label), false, or joined from these by \"!\", \"&&\", \"||\", \"=>\"";
+
+const STAR: &str = "a \"*\" stands behind what it repeats, as in click*; true* is any number of steps";
 
 /// Reads what stands in a modality.
 pub(super) fn regular(cursor: &mut Cursor) -> Result<Read<RegularFormula>, Fault> {
@@ -52,6 +55,7 @@ impl Grammar for Steps {
     type Behind = Repetition;
 
     const BEHIND: u8 = REPETITION;
+    const OPERANDS: Operands = Operands::Labels;
 
     fn level_before(_: &Not) -> u8 {
         NOT
@@ -213,6 +217,7 @@ fn name(cursor: &mut Cursor, what: &str, after: Option<Span>) -> Result<String, 
             Some(fault) => return Err(fault),
             None => text.clone(),
         },
+        Word::Sign("*") => return Err(cursor.expected(what, after, STAR)),
         _ => return Err(cursor.expected(what, after, BEGINNINGS)),
     };
     cursor.advance();

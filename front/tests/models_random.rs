@@ -155,37 +155,39 @@ fn names_are_read_as_they_are_written() {
     }
 }
 
+/// What `bytes` joins.
+const PIECES: [&str; 27] = [
+    "des",
+    " (",
+    "0",
+    ", ",
+    "1",
+    ",",
+    "2",
+    ")",
+    "\n",
+    "\r\n",
+    "(0, ",
+    "(0, \"a\", 1)\n",
+    "\"",
+    "\\",
+    "|",
+    "a",
+    "tau",
+    "%",
+    "18446744073709551615",
+    "18446744073709551616",
+    "-",
+    "é",
+    "\u{feff}",
+    "\u{202e}",
+    "\t",
+    "des (0, 1, 2)\n",
+    "\0",
+];
+
 /// Bytes that are no text, half a model, or anything between.
 fn bytes(random: &mut Random) -> Vec<u8> {
-    let pieces = [
-        "des",
-        " (",
-        "0",
-        ", ",
-        "1",
-        ",",
-        "2",
-        ")",
-        "\n",
-        "\r\n",
-        "(0, ",
-        "(0, \"a\", 1)\n",
-        "\"",
-        "\\",
-        "|",
-        "a",
-        "tau",
-        "%",
-        "18446744073709551615",
-        "18446744073709551616",
-        "-",
-        "é",
-        "\u{feff}",
-        "\u{202e}",
-        "\t",
-        "des (0, 1, 2)\n",
-        "\0",
-    ];
     let mut bytes = Vec::new();
     if random.chance(1, 2) {
         bytes.extend(b"des (0, 1, 2)\n");
@@ -193,7 +195,7 @@ fn bytes(random: &mut Random) -> Vec<u8> {
     for _ in 0..random.below(10) {
         match random.chance(1, 30) {
             true => bytes.push(random.below(256) as u8),
-            false => bytes.extend(random.pick(&pieces).bytes()),
+            false => bytes.extend(random.pick(&PIECES).bytes()),
         }
     }
     bytes

@@ -4,6 +4,7 @@ mod binders;
 mod counts;
 mod model_numbers;
 mod names;
+mod written_twice;
 
 use crate::amount;
 use crate::case::Case;

@@ -1,6 +1,9 @@
 //! No text makes the reader, the printers or the expansion panic, exhaust the stack or take long. Tests run in threads of
 //! two megabytes, and in debug builds too.
 
+#[path = "support/tree_text.rs"]
+mod tree_text;
+
 use bithrowy_front::expand::{self, expand, Expansion};
 use bithrowy_front::label::SILENT;
 use bithrowy_front::lexer;
@@ -8,6 +11,7 @@ use bithrowy_front::parser::{self, NESTED, PARTS};
 use bithrowy_front::print;
 use bithrowy_front::source::Source;
 use bithrowy_tests::random::Random;
+use tree_text::tree;
 
 /// Does all that there is to do with a text; says what became of it.
 fn outcome(text: &str) -> String {
@@ -151,6 +155,10 @@ fn limits() {
     let chain = |operands: usize| format!("{}true", "true && ".repeat(operands - 1));
     assert_eq!(outcome(&chain(NESTED)), "a table");
     assert_eq!(outcome(&chain(NESTED + 1)), DEEP);
+    // Each `!` is a part as well, though it costs no node.
+    let negated = |negations: usize| format!("{}true", "!".repeat(negations));
+    assert_eq!(outcome(&negated(NESTED - 1)), "a table");
+    assert_eq!(outcome(&negated(NESTED)), DEEP);
     // Each of the brackets has three parts, and the `||` between two of them is one more.
     let wide = |brackets: usize| vec!["(true && X)"; brackets].join(" || ");
     let halves = |brackets: usize| format!("mu X. ({}) && ({})", wide(brackets / 2), wide(brackets - brackets / 2));
@@ -160,11 +168,6 @@ fn limits() {
     assert_eq!(PARTS, 8_191 + 1_023 + 511 + 2 + 273);
     assert_eq!(outcome(&format!("{}{trees}", "!".repeat(273))), "too large");
     assert_eq!(outcome(&format!("{}{trees}", "!".repeat(274))), MANY);
-}
-
-/// A tree of so many levels of `&&` over `true`.
-fn tree(levels: usize) -> String {
-    (0..levels).fold("true".to_string(), |below, _| format!("({below} && {below})"))
 }
 
 /// The formula doubles with each level, so it cannot be written out; it is counted all the same. By hand: with k nodes

@@ -1,6 +1,8 @@
 //! Formulas as tables: what each construct becomes, worked out by hand; names, parts and sizes.
 
 mod support;
+#[path = "support/tree_text.rs"]
+mod tree_text;
 
 use bithrowy_front::expand::{expand, Expansion};
 use bithrowy_front::label::{Label, SILENT};
@@ -10,6 +12,7 @@ use bithrowy_front::table::{ActionNode, Kind, Table};
 use bithrowy_tests::random::Random;
 use support::labels::Pool;
 use support::{counting, formulas, writing};
+use tree_text::tree;
 
 fn expansion(text: &str, silent: &str) -> Expansion {
     let source = Source::new("test.mcf", text);
@@ -269,7 +272,7 @@ fn a_formula_negated_twice_has_its_table() {
 /// counts as many nodes as its table has, and as many action nodes as its modalities have, each time anew.
 #[test]
 fn sizes_as_counted_are_sizes_as_written() {
-    let tree = (0..12).fold("true".to_string(), |below, _| format!("({below} && {below})"));
+    let tree = tree(12);
     let mut random = Random::new(23);
     for _ in 0..150 {
         let parts = random.between(1, 14);

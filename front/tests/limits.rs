@@ -3,12 +3,15 @@
 
 #[path = "support/case_texts.rs"]
 mod case_texts;
+#[path = "support/tree_text.rs"]
+mod tree_text;
 
 use bithrowy_front::limits::{self, ROUNDS};
 use bithrowy_front::refusal;
 use bithrowy_front::source::Fault;
 use case_texts::{case, case_of, checked, refused};
 use std::collections::HashSet;
+use tree_text::tree;
 
 /// A model of so many states, without transitions.
 fn states(count: usize) -> String {
@@ -80,7 +83,9 @@ fn transitions_in_range() {
     tells(refusal_of(&copies(2_049), "true"), 3, message, "2049");
     tells(refusal_of(&different(2_049), "true"), 3, message, "2049");
     let help = |model: &str| refused(&case(model, "true"), ROUNDS).help.unwrap();
-    assert_eq!(help(&copies(2_049)), "leave out the copies: without them there are 1");
+    assert_eq!(help(&copies(2_049)), "leave out the copies: without them there is 1");
+    let twice = format!("des (0, 2100, 46)\n{}", pairs.clone().take(1_050).collect::<String>().repeat(2));
+    assert_eq!(help(&twice), "leave out the copies: without them there are 1,050");
     assert!(help(&different(2_049)).starts_with("leave out what the formula does not speak of"));
 }
 
@@ -156,6 +161,42 @@ fn formulas_too_large_to_write_out() {
     );
 }
 
+/// What is said about a formula of one line that is too large: the beginning of the line is shown, and all of it is marked.
+#[track_caller]
+fn too_large(formula: &str, nodes: &str, help: &str) {
+    let shown = formula.chars().count().min(160);
+    let cut = if shown < formula.len() { "…" } else { "" };
+    let (text, carets) = (&formula[..shown], "^".repeat(shown));
+    assert_eq!(
+        refused(&case(&loops(1), formula), ROUNDS).to_string(),
+        format!(
+            "f.mcf:1:1: {nodes} formula nodes: the checker takes 1 to 64 (refusal 3)\n  |\n1 | {text}{cut}\n  | {carets}\n  \
+             = help: {help}"
+        )
+    );
+}
+
+/// The help says what the formula at hand has twice.
+#[test]
+fn what_is_written_twice() {
+    let choice = "a `+` between runs, at least one of more than a step, writes what follows it twice";
+    let plus = "a `+` behind a run writes the run twice, since R+ is R . R*";
+    let parts = "check the parts of the formula one by one";
+    // As above, with ten of them: 7 times 2 to the 10, less 6.
+    let formula = format!("{}true", "[a0.a0 + a0.a0.a0]".repeat(10));
+    too_large(&formula, "7,162", &format!("{choice}: check its sides one by one"));
+    // [R+] of a run R of k boxes and binders in a row has R, a binder, an and and R with the variable behind it, so 2k + 3
+    // more than what follows. Twelve of them around one box: 4 times 2 to the 12, less 3, and true.
+    let formula = format!("[{}a0+{}]true", "(".repeat(11), ")+".repeat(11));
+    too_large(&formula, "16,382", &format!("{plus}: {parts}"));
+    // With k nodes behind it, [(a0.a0 + a0)+] has 20 + 2k: a star of 8 + k (a binder, an and, and 6 for the choice before
+    // the variable), and the choice before two of these, 4 + 2(8 + k). Eight times, from 1: 21 times 2 to the 8, less 20.
+    let formula = format!("{}true", "[(a0.a0 + a0)+]".repeat(8));
+    too_large(&formula, "5,356", &format!("{choice}, and {plus}: {parts}"));
+    // A tree of twelve levels of `&&`, and a choice between single steps, which is one step: 2 to the 13, less 1, and a box.
+    too_large(&format!("[a0 + a0]{}", tree(12)), "8,192", parts);
+}
+
 #[test]
 fn counts_are_named_in_the_headers_order() {
     let long = format!("{}true", "[a]".repeat(64));
@@ -192,6 +233,20 @@ fn a_state_that_is_not_there_as_people_see_it() {
     );
 }
 
+#[test]
+fn the_only_state_as_people_see_it() {
+    assert_eq!(
+        refused(&case("des (0, 1, 1)\n(0, \"close\", 1)\n", "true"), ROUNDS).to_string(),
+        "m.aut:2:14: the transition ends in state 1, but the header says 1 state, which is 0 (refusal 6)\n  |\n2 | (0, \
+         \"close\", 1)\n  |              ^\n  = help: write 0 here, or 2 as the last number of the header"
+    );
+    assert_eq!(
+        refused(&case("des (300, 0, 1)\n", "true"), ROUNDS).to_string(),
+        "m.aut:1:6: the initial state is 300, but the header says 1 state, which is 0 (refusal 6)\n  |\n1 | des (300, 0, \
+         1)\n  |      ^^^\n  = help: write 0 here"
+    );
+}
+
 /// Blocks: one for each mu, nu, star and plus, and one more if the formula begins with none of them.
 #[test]
 fn blocks_in_range() {
@@ -223,6 +278,11 @@ fn names_of_a_label() {
          \"a|b|c|a|d\", 0)\n  | ^^^^^^^^^^^^^^^^^^^\n  = help: give several of the events one name together, in the model \
          and in the formula, for instance `focus_and_blur`"
     );
+    let many = vec!["a"; 300_000].join("|");
+    let fault = case_of(&labelled([many.clone()].into_iter()), "true", false).unwrap_err();
+    let message =
+        format!("the label `{}…` has 300,000 names: the checker takes at most 4 that happen together", &many[..80]);
+    assert_eq!(fault.message, message);
     let fault = case_of(&loops(1), "[a0] true && <a|b|c|d|e> true", true).unwrap_err();
     assert_eq!(fault.source.slice(fault.span), "a|b|c|d|e");
 }

@@ -1,5 +1,6 @@
 //! The numbers of a case's labels and of their names.
 
+use crate::amount;
 use crate::label::Label;
 use crate::limits;
 use crate::model::Model;
@@ -106,9 +107,8 @@ pub fn check_names(model: &Model, table: Option<&Table>) -> Result<(), Fault> {
 }
 
 fn too_many_names(source: &Arc<Source>, span: Span, label: &Label) -> Fault {
-    let (text, count, most) = (shown(&label.text), label.names.len(), limits::NAMES_OF_A_LABEL);
-    let message =
-        format!("the label `{text}` has {count} names: the checker takes at most {most} that happen together");
+    let (text, names, most) = (shown(&label.text), amount::of(label.names.len(), "name"), limits::NAMES_OF_A_LABEL);
+    let message = format!("the label `{text}` has {names}: the checker takes at most {most} that happen together");
     Fault::new(source, span, message).with_help(
         "give several of the events one name together, in the model and in the formula, for instance `focus_and_blur`",
     )

@@ -25,7 +25,7 @@ fn counted(table: &Table, binders: &[usize], added: usize) -> String {
     let mut parts: Vec<String> = binders.iter().filter_map(|&node| written(table, node)).collect();
     let repeated = binders.len() - parts.len();
     if repeated > 0 {
-        parts.push(format!("{repeated} for `*` and `+` behind steps, one each"));
+        parts.push(format!("{} for `*` and `+` behind steps, one each", amount::thousands(repeated)));
     }
     if added > 0 {
         parts.push("1 because the formula begins with neither mu nor nu".to_string());

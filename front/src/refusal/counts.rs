@@ -2,6 +2,7 @@
 
 use super::model_numbers::{header_number, HeaderNumber};
 use super::names::label_fault;
+use super::written_twice;
 use crate::amount;
 use crate::case::Case;
 use crate::limits;
@@ -38,9 +39,10 @@ fn transitions(case: &Case, count: usize) -> Option<Fault> {
         return None;
     }
     let different: HashSet<_> = case.model.transitions.iter().map(|t| (t.source, t.label, t.target)).collect();
-    let help = match different.len() <= most {
-        true => format!("leave out the copies: without them there are {}", amount::thousands(different.len())),
-        false => MERGE.to_string(),
+    let help = match different.len() {
+        1 => "leave out the copies: without them there is 1".to_string(),
+        few if few <= most => format!("leave out the copies: without them there are {}", amount::thousands(few)),
+        _ => MERGE.to_string(),
     };
     let message = format!("{}: {}", amount::of(count, "transition"), at_most(most));
     Some(Fault::new(&case.model.source, header_number(&case.model, HeaderNumber::Transitions), message).with_help(help))
@@ -53,7 +55,7 @@ fn labels(case: &Case, count: usize) -> Option<Fault> {
     }
     let of_formula = match count.saturating_sub(case.model.labels.len()) {
         0 => String::new(),
-        more => format!(" ({more} of them named by the formula alone)"),
+        more => format!(" ({} of them named by the formula alone)", amount::thousands(more)),
     };
     let message = format!("{}{of_formula}: {}", amount::of(count, "label"), at_most(most));
     let fault = label_fault(case, message, |number, _| number >= most);
@@ -98,10 +100,7 @@ fn formula_nodes(case: &Case, count: usize) -> Option<Fault> {
         Some(node) => {
             (node.span, format!("node {} begins at the mark; check the parts of the formula one by one", most + 1))
         }
-        None => (
-            whole,
-            "a `+` between runs of several steps writes what follows it twice: check its sides one by one".into(),
-        ),
+        None => (whole, written_twice::help(source)),
     };
     Some(Fault::new(source, place, message).with_help(help))
 }

@@ -33,12 +33,14 @@ fn transition_fault(model: &Model, transition: &Transition) -> Option<Fault> {
 }
 
 fn no_state(model: &Model, span: Span, number: usize, what: &str) -> Fault {
-    let last = model.states.saturating_sub(1);
-    let states = amount::of(model.states, "state");
-    let message = format!("{what} {number}, but the header says {states}, which are 0 to {last}");
+    let (which, state) = match model.states.saturating_sub(1) {
+        0 => ("which is 0".to_string(), "0".to_string()),
+        last => (format!("which are 0 to {last}"), format!("a state from 0 to {last}")),
+    };
+    let message = format!("{what} {number}, but the header says {}, {which}", amount::of(model.states, "state"));
     let help = match number < limits::STATES {
-        true => format!("write a state from 0 to {last} here, or {} as the last number of the header", number + 1),
-        false => format!("write a state from 0 to {last} here"),
+        true => format!("write {state} here, or {} as the last number of the header", number + 1),
+        false => format!("write {state} here"),
     };
     Fault::new(&model.source, span, message).with_help(help)
 }

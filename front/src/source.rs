@@ -194,8 +194,13 @@ pub fn excerpt(source: &Source, span: Span) -> (String, String) {
 
 /// A text from a file as messages show it: nothing in it steers a terminal, and a very long one is cut.
 pub fn shown(text: &str) -> String {
+    shown_up_to(NAME_SHOWN, text)
+}
+
+/// The same, but cut behind so many letters.
+pub fn shown_up_to(most: usize, text: &str) -> String {
     let mut letters = text.chars();
-    let mut shown: String = letters.by_ref().take(NAME_SHOWN).map(visible_letter).collect();
+    let mut shown: String = letters.by_ref().take(most).map(visible_letter).collect();
     shown.extend(letters.next().map(|_| CUT));
     shown
 }

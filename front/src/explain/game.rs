@@ -177,15 +177,22 @@ impl<'a> Game<'a> {
         ways.into_iter().filter(|way| self.is_so(way.to)).collect()
     }
 
-    /// Two sides between which the other chooses. The way on leads by a closed one.
+    /// Two sides between which the other chooses. The way on leads by a closed one, or else by one that ends at once.
     fn sides(&self, position: Position) -> Turn {
-        let (closed, open): (Vec<_>, Vec<_>) =
-            self.operands(position).into_iter().partition(|&side| self.is_closed(side));
-        match (closed.first(), open.first()) {
+        let sides = self.operands(position);
+        let (closed, open): (Vec<_>, Vec<_>) = sides.iter().copied().partition(|&side| self.is_closed(side));
+        let fact = closed.first().or_else(|| open.iter().find(|&&side| self.is_without_transition(side)));
+        match (fact, open.iter().find(|&side| Some(side) != fact)) {
             (Some(&fact), Some(&to)) => Turn::Ways(vec![Way { beside: Some(fact), ..Way::on(to) }]),
             (Some(_), None) => Turn::Sides,
-            _ => Turn::Several,
+            (None, _) => Turn::Several,
         }
+    }
+
+    /// Is it a modality of the other that accepts no transition?
+    fn is_without_transition(&self, position: Position) -> bool {
+        let is_modality = matches!(self.kind(position), Kind::Box(_) | Kind::Diamond(_));
+        is_modality && !self.chooses(position) && self.accepted(position).is_empty()
     }
 
     /// Transitions between which the other chooses.

@@ -3,7 +3,16 @@
 use super::naming::{self, Name};
 use super::words::Words;
 use super::{Claim, Explanation};
+use crate::source::shown_up_to;
 use crate::table::Kind;
+
+/// A part of more letters than this is cut where a sentence speaks of it.
+const PART_SHOWN: usize = 200;
+
+/// The text of a part or of an action formula as it stands in a sentence.
+pub fn quoted(text: &str) -> String {
+    format!("`{}`", shown_up_to(PART_SHOWN, text))
+}
 
 impl Words<'_> {
     pub fn is(&self, holds: bool) -> &'static str {
@@ -17,7 +26,7 @@ impl Words<'_> {
     /// What to say for a part that holds or fails: what it is called, and whether that holds or fails.
     pub fn saying(&self, node: usize, holds: bool) -> (String, bool) {
         let Name { text, negated } = naming::name(self.table, node);
-        (format!("`{text}`{}", self.unwritten_variables(node)), holds != negated)
+        (format!("{}{}", quoted(&text), self.unwritten_variables(node)), holds != negated)
     }
 
     /// The same, but of the part that the explanation is of not by its words again.
@@ -81,8 +90,8 @@ impl Words<'_> {
     fn unwritten_variables(&self, node: usize) -> String {
         let binders = self.free_binders(node).into_iter().filter(|&binder| !self.is_written(binder));
         let stands = |binder: usize| match naming::name(self.table, binder) {
-            Name { text, negated: false } => format!("{} for `{text}`", self.variable(binder)),
-            Name { text, negated: true } => format!("{} for the opposite of `{text}`", self.variable(binder)),
+            Name { text, negated: false } => format!("{} for {}", self.variable(binder), quoted(&text)),
+            Name { text, negated: true } => format!("{} for the opposite of {}", self.variable(binder), quoted(&text)),
         };
         let told: Vec<String> = binders.map(stands).collect();
         if told.is_empty() {

@@ -1,5 +1,6 @@
 //! Why a part is as it is in a state where a run ends.
 
+use super::parts::quoted;
 use super::sentences::by_part;
 use super::words::{listed, Words};
 use super::{Claim, Ending, Explanation, Step};
@@ -38,15 +39,15 @@ impl Reasons<'_> {
         if labels.is_empty() {
             return format!("no transition leaves {state}.");
         }
-        let action = self.words.action_text(end.node);
-        format!("no transition from {state} is accepted by `{action}`; there are: {}.", listed(labels))
+        let action = quoted(&self.words.action_text(end.node));
+        format!("no transition from {state} is accepted by {action}; there are: {}.", listed(labels))
     }
 
     /// All transitions that a modality accepts, and what they are called.
     fn transitions(&self, end: &Claim, steps: &[Step]) -> (String, String) {
         let each = match self.words.action_text(end.node).as_str() {
             "true" => format!("each transition from {}", self.words.state(end.state)),
-            action => format!("each transition from {} that `{action}` accepts", self.words.state(end.state)),
+            action => format!("each transition from {} that {} accepts", self.words.state(end.state), quoted(action)),
         };
         (each, listed(steps.iter().map(|&step| self.words.label_and_target(step))))
     }
@@ -75,10 +76,10 @@ impl Reasons<'_> {
 
     /// Of a binder whose variable comes back without any step.
     pub fn only_by_itself(&self, binder: usize) -> String {
-        let name = self.words.variable(binder);
+        let name = quoted(self.words.variable(binder));
         match self.words.kind(binder) {
-            Kind::Mu => format!("`{name}` is only defined by itself, and with mu that holds nowhere."),
-            _ => format!("`{name}` is only defined by itself, and with nu that holds everywhere."),
+            Kind::Mu => format!("{name} is only defined by itself, and with mu that holds nowhere."),
+            _ => format!("{name} is only defined by itself, and with nu that holds everywhere."),
         }
     }
 
@@ -135,7 +136,7 @@ impl Reasons<'_> {
         match self.words.followed(end.node).as_slice() {
             _ if self.are_kept_by(states, &|_| true) => format!("Whatever happens, {come}."),
             &[action] if self.are_kept_by(states, &|step| self.words.accepts(action, step)) => {
-                format!("By transitions that `{}` accepts {come}.", self.words.action_words(action))
+                format!("By transitions that {} accepts {come}.", quoted(&self.words.action_words(action)))
             }
             _ => format!("{count}."),
         }

@@ -346,14 +346,33 @@ fn a_loop_of_an_inner_binder() {
     assert_told(&told, run(fails(0, 0), &[0], fails(1, 1), looping(&[1], 1)), &lines);
 }
 
-/// The same nodes. There is one run, in which close comes again and again. Both sides of the `&&` are open, so it rests
-/// on both; nothing is a fact by itself, and each loop passes X, which is further out than Y.
+/// The same nodes. There is one run, in which close comes again and again: at each state one of the two boxes has no
+/// transition, so the run goes on by the other. It passes X, which is further out than Y.
 #[test]
 fn close_comes_again_and_again() {
     let told = tell("des (0, 2, 2)\n(0, click, 1)\n(1, close, 0)\n", TWO, "nu X. mu Y. [close]X && [!close]Y");
-    let ending = Ending::Closed { states: vec![0, 1], parts: Vec::new() };
+    let mut explanation = run(holds(0, 0), &[], holds(0, 0), looping(&[0, 1], 0));
+    explanation.beside = vec![holds(3, 0), holds(5, 1)];
     let lines = [
-        "`nu X. mu Y. [close]X && [!close]Y` holds in open: whatever happens, only these states come: open, closing.",
+        "`nu X. mu Y. [close]X && [!close]Y` holds in open: the only run goes on for ever:",
+        "  open -- click --> closing",
+        "  closing -- close --> open",
+        "And the formula allows this to go on for ever.",
+        "On the way `[close]X` holds in open, too.",
+        "On the way `[!close]Y` holds in closing, too.",
+    ];
+    assert_told(&told, explanation, &lines);
+}
+
+/// The same nodes. Two ways lead from open, both to a close, so that no single run shows it; nothing is a fact by itself,
+/// and each loop passes X, which is further out than Y.
+#[test]
+fn close_comes_again_and_again_by_two_ways() {
+    let model = "des (0, 4, 3)\n(0, click, 1)\n(0, key, 2)\n(1, close, 0)\n(2, close, 0)\n";
+    let told = tell(model, "0 open\n1 clicked\n2 pressed\n", "nu X. mu Y. [close]X && [!close]Y");
+    let ending = Ending::Closed { states: vec![0, 1, 2], parts: Vec::new() };
+    let lines = [
+        "`nu X. mu Y. [close]X && [!close]Y` holds in open: whatever happens, only these states come: open, clicked, pressed.",
         "Nothing in them can make it fail.",
         "No run that it follows goes round in `mu Y. [close]X && [!close]Y` alone for ever.",
     ];
@@ -384,6 +403,22 @@ fn facts_beside_a_run() {
     assert_told(&told, explanation, &lines);
 }
 
+/// Nodes: nu 0, or 1, <a> 2, X 3, <b> 4, X 5. In 0 there is no b, so the run goes by a; in 1 there is neither.
+#[test]
+fn a_deadlock_behind_open_sides() {
+    let told = tell("des (0, 1, 2)\n(0, a, 1)\n", "", "nu X. <a>X || <b>X");
+    let mut explanation = run(fails(0, 0), &[0], fails(4, 1), Ending::NoTransition);
+    explanation.beside = vec![fails(4, 0), fails(2, 1)];
+    let lines = [
+        "`nu X. <a>X || <b>X` fails in state 0, and this is the only run:",
+        "  state 0 -- a --> state 1",
+        "and there `<b>X` fails: no transition leaves state 1.",
+        "On the way `<b>X` fails in state 0, too.",
+        "On the way `<a>X` fails in state 1, too.",
+    ];
+    assert_told(&told, explanation, &lines);
+}
+
 /// Nodes: <true> 0, [true] 1, false 2. Both transitions from 0 lead to 1, so that is a single way.
 #[test]
 fn two_labels_to_one_state() {
@@ -398,6 +433,19 @@ fn a_long_list_is_cut() {
     let told = tell(&format!("des (0, 10, 1)\n{steps}"), "", "<z>true");
     let lines = ["`<z>true` fails in state 0: no transition from state 0 is accepted by `z`; there are: a, b, c, d, e, f, g, h and 2 more."];
     assert_told(&told, run(fails(0, 0), &[], fails(0, 0), Ending::NoTransition), &lines);
+}
+
+/// A part of more than 200 letters is cut behind them, its action formula too: the part's first letter is a bracket.
+#[test]
+fn a_long_part_is_cut() {
+    let (label, cut) = ("a".repeat(201), "a".repeat(199));
+    let told = tell("des (0, 1, 1)\n(0, b, 0)\n", "", &format!("<{label}>true"));
+    let line =
+        format!("`<{cut}…` fails in state 0: no transition from state 0 is accepted by `a{cut}…`; there are: b.");
+    assert_eq!(told.lines(), [line]);
+    let whole = "a".repeat(200 - "<>true".len());
+    let told = tell("des (0, 1, 1)\n(0, b, 0)\n", "", &format!("<{whole}>true"));
+    assert!(told.lines()[0].starts_with(&format!("`<{whole}>true` fails in state 0:")), "{:?}", told.lines());
 }
 
 /// Nodes: nu 0, and 1, [blur] 2, false 3. What is forbidden is said as it was written, below the negation. Labels are

@@ -4,7 +4,7 @@
 //! Which parts a run passes is not printed, so the replay follows all of them at once.
 
 use crate::region;
-use crate::rules::{accepted, at_once, by_step, others_choice, right_binder, Thread};
+use crate::rules::{accepted, at_once, by_step, is_settled, others_choice, right_binder, Thread};
 use crate::truth::{is_closed, Truths};
 use bithrowy_front::explain::{Claim, Ending, Explanation, Step};
 use bithrowy_tests::formats::*;
@@ -30,7 +30,7 @@ impl<'a> Replay<'a> {
         let reached = self.follow(*claim, run, explanation)?;
         ensure(reached.state == end.state, "the run ends in another state")?;
         ensure(reached.threads.iter().any(|thread| thread.0 == end.node), "the run does not lead to that part")?;
-        ensure(beside.iter().all(|fact| is_closed(self.case, fact.node)), "a side that is not closed")?;
+        ensure(beside.iter().all(|fact| is_settled(self.case, fact)), "a side that is no fact")?;
         self.ending(explanation, ending)
     }
 
@@ -112,7 +112,7 @@ impl<'a> Replay<'a> {
             ensure(targets.len() > 1 && !is_closed(case, end.node + 1), "a single way")
         } else {
             let mut operands = operands_of(&case.formula, end.node, formula::operands).into_iter();
-            ensure(operands.all(|operand| !is_closed(case, operand)), "a closed side")
+            ensure(operands.all(|node| !is_settled(case, &Claim { node, ..*end })), "a side that is a fact")
         }
     }
 

@@ -10,7 +10,7 @@ use std::collections::BTreeSet;
 /// A part that a run may be at, and the outermost binder whose variable it has passed.
 pub type Thread = (usize, Option<usize>);
 
-/// Says of a closed part and a state whether it may be passed by as a fact.
+/// Says of a part that is settled in a state whether it may be passed by as a fact.
 pub type Facts<'f> = &'f mut dyn FnMut(usize, usize) -> bool;
 
 /// The parts that are reached from some without a step, and those that are reached by at least one move.
@@ -42,7 +42,7 @@ fn moves(case: &Case, holds: bool, (node, passed): Thread, state: usize, facts: 
         formula::MU | formula::NU => vec![(node + 1, passed)],
         formula::AND | formula::OR if others_choice(case, &Claim { node, state, holds }) => {
             let other = |operand: usize| operands[0] + operands[1] - operand;
-            let mut fact = |side: usize| is_closed(case, side) && facts(side, state);
+            let mut fact = |node: usize| is_settled(case, &Claim { node, state, holds }) && facts(node, state);
             operands.iter().filter(|&&operand| fact(other(operand))).map(|&operand| (operand, passed)).collect()
         }
         formula::AND | formula::OR => operands.into_iter().map(|operand| (operand, passed)).collect(),
@@ -76,6 +76,13 @@ pub fn others_choice(case: &Case, claim: &Claim) -> bool {
         formula::OR | formula::DIAMOND => !claim.holds,
         _ => false,
     }
+}
+
+/// Does a claim rest on nothing that a run goes on to: a closed part, or a modality of the other without a transition?
+pub fn is_settled(case: &Case, claim: &Claim) -> bool {
+    let is_modal = formula::is_modal(case.formula[claim.node].kind);
+    let is_stuck = || is_modal && others_choice(case, claim) && accepted(case, claim.node, claim.state).is_empty();
+    is_closed(case, claim.node) || is_stuck()
 }
 
 /// Is it a binder whose variable may come back for ever, for a part that holds or fails?

@@ -36,7 +36,7 @@ impl<'a> Trial<'a> {
         trial
     }
 
-    /// All parts reached without a step, and those by at least one move. Closed sides are facts if they are true.
+    /// All parts reached without a step, and those by at least one move. Settled sides are facts if they are true.
     fn closure(&mut self, threads: &BTreeSet<Thread>, state: usize) -> (BTreeSet<Thread>, BTreeSet<Thread>) {
         let (truths, holds) = (&mut self.truths, self.claim.holds);
         let mut facts = |node: usize, state: usize| truths.holds(node, state) == Some(holds);

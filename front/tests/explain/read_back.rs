@@ -15,6 +15,9 @@ use std::collections::{BTreeMap, BTreeSet};
 /// Parts of a longer text, with the binders of their variables in place, are not read.
 const LONGEST: usize = 1_000;
 
+/// What stands at the end of a part that is cut.
+const CUT: char = '…';
+
 /// The forms of sentences, and how often each was read and found true.
 pub type Read = BTreeMap<&'static str, usize>;
 
@@ -39,8 +42,8 @@ struct Reader<'a> {
     them: Vec<usize>,
     /// What is still to come of a run that is said to be the only one.
     only_run: BTreeSet<Transition>,
-    /// Where each part holds that was asked for.
-    known: BTreeMap<String, Option<Vec<bool>>>,
+    /// Where each part holds that was asked for, or what is wrong with its text.
+    known: BTreeMap<String, Result<Option<Vec<bool>>, String>>,
     read: Read,
 }
 
@@ -185,18 +188,16 @@ impl<'a> Reader<'a> {
 
     fn check(&mut self, Said { form, part, holds, states }: &Said) -> Result<(), String> {
         let told = self.told;
-        let known = self.known.entry(part.clone()).or_insert_with(|| states_of(told, part));
-        match known {
-            _ if states.is_empty() => return Err(format!("`{part}` is said of no state")),
-            Some(values) => {
-                if let Some(state) = states.iter().find(|&&state| values.get(state) != Some(holds)) {
-                    return Err(format!("not so of `{part}` in state {state}"));
-                }
-                self.count(form);
+        let known = self.known.entry(part.clone()).or_insert_with(|| states_of(told, part)).clone()?;
+        let is_so = |state: &usize| known.as_ref().map_or(true, |values| values.get(*state) == Some(holds));
+        match states.iter().find(|state| !is_so(state)) {
+            _ if states.is_empty() => Err(format!("`{part}` is said of no state")),
+            Some(state) => Err(format!("not so of `{part}` in state {state}")),
+            None => {
+                self.count(if known.is_some() { form } else { SKIPPED });
+                Ok(())
             }
-            None => self.count(SKIPPED),
         }
-        Ok(())
     }
 }
 
@@ -205,16 +206,15 @@ fn no_transition(action: &str, states: Vec<usize>) -> Said {
     Said { form: "no transition", part: format!("<{action}>true"), holds: false, states }
 }
 
-/// The states of a part by the independent checker; nothing of what cannot be read.
-fn states_of(told: &Told, part: &str) -> Option<Vec<bool>> {
-    let source = Source::new("part.mcf", closed(&told.checked.table, part)?);
-    let formula = parser::read(&source, &told.model.silent).ok()?;
-    let expansion = expand::expand(&source, &formula).ok()?;
-    let written = match expansion {
-        Expansion::Table(_) => case::write(&told.model, &expansion, true).ok()?,
-        Expansion::TooLarge { .. } => return None,
-    };
-    Some(states_by_game(&read_case(&written.bytes).ok()?))
+/// The states of a part by the independent checker; nothing of what is cut, or too large, or still has variables. All other
+/// parts have to be formulas.
+fn states_of(told: &Told, part: &str) -> Result<Option<Vec<bool>>, String> {
+    let Some(text) = closed(&told.checked.table, part).filter(|text| !text.contains(CUT)) else { return Ok(None) };
+    let source = Source::new("part.mcf", text);
+    let formula = parser::read(&source, &told.model.silent).map_err(|fault| fault.to_string())?;
+    let Ok(expansion @ Expansion::Table(_)) = expand::expand(&source, &formula) else { return Ok(None) };
+    let written = case::write(&told.model, &expansion, true).map_err(|fault| fault.to_string())?;
+    Ok(read_case(&written.bytes).ok().map(|case| states_by_game(&case)))
 }
 
 /// A part with a binder's formula for each variable that is not bound in it; nothing if a name has several binders, or

@@ -100,7 +100,8 @@ fn p1_with_limit_3_is_spent() {
     assert_eq!(
         refused(&case, 3).to_string(),
         "f.mcf:1:1: more than 3 rounds by either route (refusal 14)\n  |\n1 | mu X. [true] X\n  | ^^^^^^^^^^^^^^\n  = help: a \
-         larger --limit allows more rounds; a formula with fewer mu and nu one inside another takes fewer of them"
+         larger --limit, or a line `% limit: N` in the formula's file, allows more rounds; a formula with fewer mu and nu \
+         one inside another takes fewer of them"
     );
 }
 

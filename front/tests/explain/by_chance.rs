@@ -13,8 +13,13 @@ use std::collections::BTreeMap;
 
 /// A case made by chance that is within the limits, and its text.
 fn told(random: &mut Random, most_states: usize) -> (String, Told) {
+    told_of(random, most_states, chance::formula)
+}
+
+/// The same with formulas of some kind.
+fn told_of(random: &mut Random, most_states: usize, formula: fn(&mut Random) -> String) -> (String, Told) {
     loop {
-        let (model, formula) = (chance::model(random, most_states), chance::formula(random));
+        let (model, formula) = (chance::model(random, most_states), formula(random));
         if let Some(told) = tell_if_accepted(&model, "", &formula) {
             return (format!("{model}{formula}"), told);
         }
@@ -67,8 +72,9 @@ fn each_explanation_is_a_proof() {
 fn each_sentence_is_true() {
     let mut random = Random::new(6);
     let mut met = Read::new();
-    for _ in 0..12_000 {
-        let (text, told) = told(&mut random, 6);
+    for case in 0..12_000 {
+        let formula = if case % 3 == 0 { chance::fact_in_each_state } else { chance::formula };
+        let (text, told) = told_of(&mut random, 6, formula);
         let read = read(&told).unwrap_or_else(|wrong| panic!("{wrong}\n{text}\n{}", told.lines().join("\n")));
         read.into_iter().for_each(|(form, times)| *met.entry(form).or_default() += times);
     }
@@ -78,8 +84,8 @@ fn each_sentence_is_true() {
     let forms = [
         ("in", 5_000),
         ("and there", 1_000),
-        ("in each of them", 10),
-        ("in none of them", 10),
+        ("in each of them", 20),
+        ("in none of them", 20),
         ("in every state", 100),
         ("in no state", 100),
         ("there", 30),

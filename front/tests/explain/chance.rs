@@ -39,6 +39,22 @@ pub fn formula(random: &mut Random) -> String {
     state(random, depth, &mut Vec::new())
 }
 
+/// A formula with the same fact to be shown in each state that comes, maybe behind a step: `nu X. <b>true && [!c]X`.
+pub fn fact_in_each_state(random: &mut Random) -> String {
+    let (fact, action, step) = (leaf(random, &[]), action(random), action(random));
+    let sign = random.pick(&["mu", "nu"]);
+    let lasting = if random.chance(1, 2) {
+        format!("{sign} X. {fact} && [{action}]X")
+    } else {
+        format!("{sign} X. {fact} || <{action}>X")
+    };
+    match random.below(3) {
+        0 => lasting,
+        1 => format!("[{step}]({lasting})"),
+        _ => format!("<{step}>({lasting})"),
+    }
+}
+
 fn state(random: &mut Random, depth: usize, variables: &mut Vec<String>) -> String {
     if depth == 0 {
         return leaf(random, variables);

@@ -49,7 +49,7 @@ pub enum Command {
 #[derive(Clone, Debug, Default, Args)]
 pub struct Readings {
     /// The word for the silent step [default: the formula's `% silent:`, else tau]
-    #[arg(long, value_name = "WORD", value_parser = silent_word, allow_hyphen_values = true)]
+    #[arg(long, value_name = "WORD", value_parser = silent_word)]
     pub silent: Option<String>,
     /// Accept labels in the formula that no transition of the model has
     #[arg(long)]

@@ -308,7 +308,8 @@ fn wrong_values_of_options() {
         let ran = folder.run(&[command, &[option, value]].concat()).expect_exit(2);
         assert!(ran.err.contains(said) && ran.err.contains(option) && ran.out.is_empty(), "{value}: {ran:?}");
     }
-    folder.run(&["check", "dialog.aut", "ends.mcf", "--silent", "-x"]).expect_exit(0);
+    folder.run(&["check", "dialog.aut", "ends.mcf", "--silent=-x"]).expect_exit(0);
+    folder.run(&["check", "dialog.aut", "ends.mcf", "--silent", "--json"]).expect_exit(2);
 }
 
 /// A file's text, its name and the names in it with characters that a terminal would obey.

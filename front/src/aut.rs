@@ -216,7 +216,10 @@ fn bare(source: &Arc<Source>, line: &mut Line) -> Result<(String, Span), Fault> 
     let text = line.rest()[..comma].trim_end();
     if let Some(length) = transition_end(text) {
         line.take(length);
-        end_of_line(line)?;
+        end_of_line(line).map_err(|fault| {
+            let help = fault.help.clone().unwrap_or_default();
+            fault.with_help(help + "\na label with such signs in it stands in quotes")
+        })?;
     }
     let span = line.take(text.len());
     if let Some(quote) = text.find('"') {

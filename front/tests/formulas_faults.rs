@@ -166,7 +166,7 @@ fn fixed_points_and_quantifiers_of_other_languages() {
 
 #[test]
 fn words_of_temporal_logics() {
-    let idiom = "see docs/TEXT.md for how to say it";
+    let until = "for \"a is so until b is, on every run\" write mu X. b || a && <true>true && [true]X";
     for (text, column, word, help) in [
         ("always close", 1, "always", "write [true*] before what is always so"),
         ("AG <a>true", 1, "AG", "write [true*] before what is always so"),
@@ -175,11 +175,11 @@ fn words_of_temporal_logics() {
         ("never close", 1, "never", "for \"a never happens\" write [true* . a]false"),
         ("AF <a>true", 1, "AF", "for \"a comes, whatever is done\" write mu X. <true>true && [!a]X"),
         ("eventually close", 1, "eventually", "for \"a comes, whatever is done\" write mu X. <true>true && [!a]X"),
-        ("EG <a>true", 1, "EG", idiom),
-        ("A (true)", 1, "A", idiom),
-        ("E [a]true", 1, "E", idiom),
-        ("true U <close>true", 6, "U", idiom),
-        ("(true until <close>true)", 7, "until", idiom),
+        ("EG <a>true", 1, "EG", "for \"a is always so on some run\" write nu X. a && (<true>X || [true]false)"),
+        ("A (true)", 1, "A", until),
+        ("E [a]true", 1, "E", until),
+        ("true U <close>true", 6, "U", until),
+        ("(true until <close>true)", 7, "until", until),
     ] {
         says(text, column, &format!("\"{word}\" is no word of formulas"), word.len(), help);
     }

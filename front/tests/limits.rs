@@ -363,16 +363,22 @@ fn labels_are_known_by_their_names() {
 /// The first line of the help says what may have been meant.
 #[test]
 fn what_an_unknown_label_may_be() {
-    let model = "des (0, 4, 1)\n(0, click, 0)\n(0, close, 0)\n(0, focus|blur, 0)\n(0, i, 0)\n";
-    for (formula, meant) in [
-        ("<clsoe>true", "did you mean `close`?"),
-        (
-            "<click|close>true",
-            "it is one step with all of these names; for a step with any of them write `click || close`",
-        ),
-        ("<blur>true", "it happens only together with others, as in `focus|blur`"),
-        ("<tau>true", "is `i` the silent step of the model? Then say so: --silent i"),
-        ("<submit>true", "if some step should have it, the component or its recording lacks that step"),
+    let model = "des (0, 3, 1)\n(0, click, 0)\n(0, close, 0)\n(0, focus|blur, 0)\n";
+    let with_i = "des (0, 2, 1)\n(0, click, 0)\n(0, i, 0)\n";
+    let lacks = "if some step should have it, the component or its recording lacks that step";
+    let one_step = "it is one step with all of these names; for a step with any of them write `click || close`";
+    let called =
+        "is it called `i` in the model? Then say so: --silent i, or the line `% silent: i` in the formula's file";
+    for (model, formula, meant) in [
+        (model, "<clsoe>true", "did you mean `close`?"),
+        (model, "<click|close>true", one_step),
+        (model, "<blur>true", "it happens only together with others, as in `focus|blur`"),
+        (model, "<submit>true", lacks),
+        (model, "<tau>true", "the model has no silent step"),
+        (model, "<tau|tau>true", "the model has no silent step"),
+        (model, "<click|click|click>true", lacks),
+        (model, "<blur|blur|blur>true", lacks),
+        (with_i, "<tau>true", called),
     ] {
         let help = case_of(model, formula, false).unwrap_err().help.unwrap();
         assert_eq!(help.lines().next(), Some(meant), "{formula}");

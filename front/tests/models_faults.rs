@@ -191,11 +191,11 @@ fn transitions_on_one_line() {
 #[test]
 fn transitions_on_one_line_without_quotes() {
     let message = "11: expected the end of the line after \")\", found \"(\"";
-    let help = "  = help: write each transition on a line of its own";
+    let help = "  = help: write each transition on a line of its own\n          a label with such signs in it stands in quotes";
     check_transition("(0, a, 1 ) (1, b, 0)", &message.replace("11", "12"), "           ^", help);
     check_transition("(0, a, 12)(1, b, 0) (0, c, 1)", message, "          ^", help);
     check_transition("(0, a(1,2), 1)(1, b, 0)", &message.replace("11", "15"), "              ^", help);
-    let help = "  = help: leave out what stands behind \")\": these files have no comments";
+    let help = "  = help: leave out what stands behind \")\": these files have no comments\n          a label with such signs in it stands in quotes";
     let message = "10: expected the end of the line after \")\", found \",\"";
     check_transition("(0, a, 1),", message, "         ^", help);
 }

@@ -68,6 +68,10 @@ fn nothing(paths: &[PathBuf], filter: Option<&str>) -> Trouble {
 
 /// The formulas of a folder, sorted; of a file, itself.
 fn formulas(path: &Path) -> Result<Vec<PathBuf>, Trouble> {
+    if path == Path::new("-") {
+        let help = "write the folder's name, such as . for this one";
+        return Err(Trouble::plain("`test` reads folders and files, not standard input").with_help(help));
+    }
     if path.is_file() {
         return Ok(vec![path.to_path_buf()]);
     }

@@ -39,10 +39,13 @@ fn help(label: &Label, labels: &[Label], silent: &str) -> String {
 /// What may have been meant.
 fn may_be(label: &Label, labels: &[Label], silent: &str) -> String {
     let other = if silent == SILENT { SILENT_OF_CADP } else { SILENT };
-    if label.is_silent() && labels.iter().any(|there| there.text == other) {
-        return format!("is `{other}` the silent step of the model? Then say so: --silent {other}");
+    if label.is_silent() {
+        return match labels.iter().any(|there| there.text == other) {
+            true => format!("is it called `{other}` in the model? Then say so: {}", silent_word(other)),
+            false => "the model has no silent step".to_string(),
+        };
     }
-    if label.text == other && labels.iter().any(|there| there.is_silent()) {
+    if label.text == other && labels.iter().any(Label::is_silent) {
         return format!("the silent step is called `{}` here", shown(silent));
     }
     let nearest =
@@ -50,20 +53,33 @@ fn may_be(label: &Label, labels: &[Label], silent: &str) -> String {
     if let Some(nearest) = nearest {
         return format!("did you mean `{}`?", shown(nearest));
     }
-    let has = |there: &&Label| label.names.iter().all(|name| there.names.contains(name));
-    match labels.iter().find(has) {
-        Some(with_others) => format!("it happens only together with others, as in `{}`", shown(&with_others.text)),
-        None if label.is_joined() && each_is_there(label, labels) => {
-            let one_of = label.names.iter().map(|name| shown(name)).collect::<Vec<String>>().join(" || ");
-            format!("it is one step with all of these names; for a step with any of them write `{one_of}`")
-        }
-        None => "if some step should have it, the component or its recording lacks that step".to_string(),
+    if let Some(with_others) = labels.iter().find(|there| has_more(there, label)) {
+        return format!("it happens only together with others, as in `{}`", shown(&with_others.text));
     }
+    if each_is_there(label, labels) {
+        let one_of = label.names.iter().map(|name| shown(name)).collect::<Vec<String>>().join(" || ");
+        return format!("it is one step with all of these names; for a step with any of them write `{one_of}`");
+    }
+    "if some step should have it, the component or its recording lacks that step".to_string()
 }
 
-/// Is each name of a label a label of the model by itself?
+/// How to say what the silent step is called.
+fn silent_word(word: &str) -> String {
+    format!("--silent {word}, or the line `% silent: {word}` in the formula's file")
+}
+
+/// Does a label have all names of another, each as often or more, and others too?
+fn has_more(there: &Label, label: &Label) -> bool {
+    let count = |names: &[String], wanted: &String| names.iter().filter(|name| *name == wanted).count();
+    let has_all = label.names.iter().all(|name| count(&label.names, name) <= count(&there.names, name));
+    has_all && there.names.len() > label.names.len()
+}
+
+/// Are its names several different ones, each of which is a label of the model by itself?
 fn each_is_there(label: &Label, labels: &[Label]) -> bool {
-    label.names.iter().all(|name| labels.iter().any(|there| there.names.as_slice() == std::slice::from_ref(name)))
+    let is_label = |name: &String| labels.iter().any(|there| there.names.as_slice() == std::slice::from_ref(name));
+    let differ = label.names.windows(2).all(|pair| pair[0] != pair[1]);
+    label.names.len() > 1 && differ && label.names.iter().all(is_label)
 }
 
 /// The first labels of a list, and how many more there are.

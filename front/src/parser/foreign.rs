@@ -96,7 +96,10 @@ pub(super) fn temporal(name: &str) -> Option<(&'static str, &'static str)> {
         "EF" => "write <true*> before what can come to be so",
         "never" => "for \"a never happens\" write [true* . a]false",
         "AF" | "eventually" => "for \"a comes, whatever is done\" write mu X. <true>true && [!a]X",
-        "EG" | "A" | "E" | "U" | "until" => "see docs/TEXT.md for how to say it",
+        "EG" => "for \"a is always so on some run\" write nu X. a && (<true>X || [true]false)",
+        "A" | "E" | "U" | "until" => {
+            "for \"a is so until b is, on every run\" write mu X. b || a && <true>true && [true]X"
+        }
         _ => return None,
     };
     Some((NO_WORD, help))

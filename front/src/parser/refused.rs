@@ -183,7 +183,10 @@ pub(super) fn repeated_modality(cursor: &Cursor, before: Option<Span>) -> Option
         true => format!("{steps}{sign}"),
         false => format!("({steps}){sign}"),
     };
-    Some(format!("the \"{sign}\" stands inside the brackets: {open}{repeated}{close}"))
+    match steps.contains('%') {
+        true => Some(format!("the \"{sign}\" stands inside the brackets, behind the steps that it repeats")),
+        false => Some(format!("the \"{sign}\" stands inside the brackets: {open}{repeated}{close}")),
+    }
 }
 
 /// Several steps where a sign needs the labels of one.

@@ -20,6 +20,16 @@ pub fn of(count: impl TryInto<u64>, thing: &str) -> String {
     format!("{number} {thing}{ending}")
 }
 
+/// The first things of a list, and how many more there are.
+pub fn listed(things: impl IntoIterator<Item = String>, most: usize) -> String {
+    let things: Vec<String> = things.into_iter().collect();
+    match things.len().saturating_sub(most) {
+        // The last one itself takes no more room than saying that there is one more.
+        0 | 1 => things.join(", "),
+        more => format!("{} and {more} more", things[..most].join(", ")),
+    }
+}
+
 #[cfg(test)]
 mod tests {
     use super::*;
@@ -31,6 +41,12 @@ mod tests {
             assert_eq!(thousands(number as u64), text);
         }
         assert_eq!(thousands(u64::MAX), "18,446,744,073,709,551,615");
+    }
+
+    #[test]
+    fn long_lists_are_cut() {
+        let list = |count: usize| listed((0..count).map(|number| number.to_string()), 2);
+        assert_eq!([0, 1, 2, 3, 4].map(list), ["", "0", "0, 1", "0, 1, 2", "0, 1 and 2 more"]);
     }
 
     #[test]

@@ -26,6 +26,7 @@ pub mod model;
 pub mod names;
 pub mod page;
 pub mod parser;
+mod precedence;
 pub mod print;
 mod quoted;
 pub mod refusal;

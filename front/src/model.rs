@@ -2,7 +2,7 @@
 
 use crate::label::Label;
 use crate::source::{shown, Source, Span};
-use std::collections::BTreeMap;
+use std::collections::{BTreeMap, HashSet};
 use std::sync::Arc;
 
 /// A case file has 16 bits for a state: no state with a number from here on can be checked, and none is looked at.
@@ -47,27 +47,37 @@ impl Model {
     /// For each state, whether the initial state reaches it by zero or more transitions. A model whose numbers are out of
     /// range has an answer too, in which what is out of range reaches nothing and is not reached.
     pub fn reachable(&self) -> Vec<bool> {
-        let targets = self.targets();
-        let mut reached = vec![false; targets.len()];
+        let leaving = self.leaving();
+        let mut reached = vec![false; leaving.len()];
         let mut waiting = vec![self.initial];
         while let Some(state) = waiting.pop() {
             if let Some(place) = reached.get_mut(state).filter(|place| !**place) {
                 *place = true;
-                waiting.extend(&targets[state]);
+                waiting.extend(leaving[state].iter().map(|&step| self.transitions[step].target));
             }
         }
         reached
     }
 
-    /// For each state, where its transitions lead.
-    fn targets(&self) -> Vec<Vec<usize>> {
-        let mut targets = vec![Vec::new(); self.states.min(NUMBERED)];
-        for transition in &self.transitions {
-            if let Some(from_here) = targets.get_mut(transition.source) {
-                from_here.push(transition.target);
+    /// For each state the places of the transitions that leave it, in order, without recorded copies and without those
+    /// whose states are out of range.
+    pub fn leaving(&self) -> Vec<Vec<usize>> {
+        let mut seen = HashSet::new();
+        let mut leaving = vec![Vec::new(); self.states.min(NUMBERED)];
+        for (place, transition) in self.transitions.iter().enumerate() {
+            let Transition { source, label, target, .. } = *transition;
+            let in_range = source.max(target) < leaving.len();
+            if in_range && seen.insert((source, label, target)) {
+                leaving[source].push(place);
             }
         }
-        targets
+        leaving
+    }
+
+    /// Where a label, by its number, first stands: the line of its first transition, or the header if it has none.
+    pub fn label_place(&self, number: usize) -> Span {
+        let first = self.transitions.iter().find(|transition| transition.label == number);
+        first.map_or(self.header, |transition| transition.span)
     }
 }
 

@@ -3,8 +3,9 @@
 mod shape;
 
 use crate::formula::{RegularFormula, StateFormula};
+use crate::precedence::LOOSEST;
 use crate::table::Table;
-use shape::{Part, Shape, LOOSEST};
+use shape::{Part, Shape};
 
 /// With no more brackets than the reading needs. Read again it is the same formula.
 pub fn plain(formula: &StateFormula) -> String {

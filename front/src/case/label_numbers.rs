@@ -96,9 +96,7 @@ fn record(label: &Label, numbers: &HashMap<&str, usize>) -> [usize; limits::NAME
 pub fn check_names(model: &Model, table: Option<&Table>) -> Result<(), Fault> {
     let too_long = |label: &Label| label.names.len() > limits::NAMES_OF_A_LABEL;
     if let Some(number) = model.labels.iter().position(too_long) {
-        let transition = model.transitions.iter().find(|transition| transition.label == number);
-        let span = transition.map_or(model.header, |transition| transition.span);
-        return Err(too_many_names(&model.source, span, &model.labels[number]));
+        return Err(too_many_names(&model.source, model.label_place(number), &model.labels[number]));
     }
     match table.and_then(|table| Some((table, table.labels.iter().find(|(label, _)| too_long(label))?))) {
         Some((table, (label, span))) => Err(too_many_names(&table.source, *span, label)),

@@ -1,5 +1,6 @@
 //! Labels of a formula that no transition has. A misspelt label would make a box hold.
 
+use crate::amount;
 use crate::label::{Label, SILENT, SILENT_OF_CADP};
 use crate::model::Model;
 use crate::source::{shown, Fault, Span};
@@ -29,7 +30,10 @@ fn fault(table: &Table, label: &Label, span: Span, model: &Model) -> Fault {
 fn help(label: &Label, labels: &[Label], silent: &str) -> String {
     let there_are = match labels.len() {
         0 => "the model has no transitions".to_string(),
-        _ => format!("the model's labels: {}", listed(labels)),
+        _ => {
+            let texts = labels.iter().map(|label| format!("`{}`", shown(&label.text)));
+            format!("the model's labels: {}", amount::listed(texts, LISTED))
+        }
     };
     let way_out =
         "to check it all the same: --allow-unknown-labels, or the line `% unknown labels: allow` in the formula's file";
@@ -80,14 +84,4 @@ fn each_is_there(label: &Label, labels: &[Label]) -> bool {
     let is_label = |name: &String| labels.iter().any(|there| there.names.as_slice() == std::slice::from_ref(name));
     let differ = label.names.windows(2).all(|pair| pair[0] != pair[1]);
     label.names.len() > 1 && differ && label.names.iter().all(is_label)
-}
-
-/// The first labels of a list, and how many more there are.
-fn listed(labels: &[Label]) -> String {
-    let first: Vec<String> = labels.iter().take(LISTED).map(|label| format!("`{}`", shown(&label.text))).collect();
-    let more = labels.len().saturating_sub(LISTED);
-    match more {
-        0 => first.join(", "),
-        _ => format!("{} and {more} more", first.join(", ")),
-    }
 }

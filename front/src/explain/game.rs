@@ -3,7 +3,7 @@
 
 use super::{Claim, Step};
 use crate::check::Checked;
-use crate::model::{Model, Transition};
+use crate::model::Model;
 use crate::table::{Kind, Table};
 use std::collections::HashSet;
 use std::ops::Range;
@@ -66,7 +66,7 @@ impl<'a> Game<'a> {
             holds,
             operands: nodes.clone().map(|node| table.operands(node)).collect(),
             closed: nodes.clone().map(|node| table.is_closed(node)).collect(),
-            leaving: leaving(model),
+            leaving: model.leaving(),
             accepted: nodes.map(|node| accepted_labels(model, table, node)).collect(),
         }
     }
@@ -221,20 +221,6 @@ impl Way {
 
 fn only(to: Position) -> Turn {
     Turn::Ways(vec![Way::on(to)])
-}
-
-/// For each state the transitions that leave it, in the model's order, a recorded copy left out.
-pub fn leaving(model: &Model) -> Vec<Vec<Step>> {
-    let mut seen = HashSet::new();
-    let mut leaving = vec![Vec::new(); model.states];
-    for (step, transition) in model.transitions.iter().enumerate() {
-        let Transition { source, label, target, .. } = *transition;
-        let in_range = source < model.states && target < model.states;
-        if in_range && seen.insert((source, label, target)) {
-            leaving[source].push(step);
-        }
-    }
-    leaving
 }
 
 /// For each label of the model: does the modality at a node accept it? Nothing for another node.

@@ -1,7 +1,7 @@
 //! The words for states and transitions.
 
-use super::game::leaving;
 use super::{Ending, Explanation, Step};
+use crate::amount;
 use crate::check::Checked;
 use crate::model::Model;
 use crate::table::{Kind, Table};
@@ -9,14 +9,9 @@ use crate::table::{Kind, Table};
 /// How many things a list names before it says how many more there are.
 const LISTED: usize = 8;
 
-/// Names the first things of a list, and says how many more there are.
+/// The first things of a list, and how many more there are.
 pub fn listed(things: impl IntoIterator<Item = String>) -> String {
-    let things: Vec<String> = things.into_iter().collect();
-    match things.len().saturating_sub(LISTED) {
-        // The last one itself takes no more room than saying that there is one more.
-        0 | 1 => things.join(", "),
-        more => format!("{} and {more} more", things[..LISTED].join(", ")),
-    }
+    amount::listed(things, LISTED)
 }
 
 /// What is spoken of.
@@ -32,7 +27,7 @@ pub struct Words<'a> {
 impl<'a> Words<'a> {
     pub fn new(model: &'a Model, checked: &'a Checked) -> Words<'a> {
         let Checked { table, values, reached, .. } = checked;
-        Words { model, table, values, reached, leaving: leaving(model) }
+        Words { model, table, values, reached, leaving: model.leaving() }
     }
 
     pub fn kind(&self, node: usize) -> Kind {

@@ -8,15 +8,9 @@ use super::{refused, steps};
 use crate::formula::{Name, RegularFormula, State, StateFormula};
 use crate::label;
 use crate::lexer::Word;
+use crate::precedence::state::{AND, BINDER, IMPLIES, OR, PREFIX};
 use crate::source::{Fault, Span};
 use std::convert::Infallible;
-
-/// The levels, from loose to tight.
-const BINDER: u8 = 1;
-const IMPLIES: u8 = 2;
-const OR: u8 = 3;
-const AND: u8 = 4;
-const PREFIX: u8 = 5;
 
 const BEGINNINGS: &str = "a formula begins with true, false, a variable, mu, nu, \"!\", \"[\", \"<\" or \"(\"";
 

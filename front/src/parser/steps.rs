@@ -9,16 +9,8 @@ use super::refused;
 use crate::formula::{Action, ActionFormula, Regular, RegularFormula};
 use crate::label::Label;
 use crate::lexer::Word;
+use crate::precedence::steps::{AND, CHOICE, IMPLIES, NOT, OR, REPETITION, SEQUENCE};
 use crate::source::{Fault, Span};
-
-/// The levels, from loose to tight.
-const CHOICE: u8 = 1;
-const SEQUENCE: u8 = 2;
-const REPETITION: u8 = 3;
-const IMPLIES: u8 = 4;
-const OR: u8 = 5;
-const AND: u8 = 6;
-const NOT: u8 = 7;
 
 const BEGINNINGS: &str =
     "a step is a label, true (any label), false, or joined from these by \"!\", \"&&\", \"||\", \"=>\"";

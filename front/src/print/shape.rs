@@ -2,6 +2,7 @@
 
 use super::{regular, Brackets};
 use crate::formula::{Action, ActionFormula, Regular, RegularFormula, State, StateFormula};
+use crate::precedence::{state as levels, steps as step_levels};
 use crate::table::{ActionNode, Kind, Table};
 
 /// A part of a formula, or of a table, that can be written.
@@ -22,22 +23,6 @@ pub(super) enum Shape<'a> {
     Infix(u8, &'static str, Part<'a>, Part<'a>),
     Binder(String, Part<'a>),
 }
-
-/// The levels of state formulas, from loose to tight.
-pub(super) const LOOSEST: u8 = 0;
-const IMPLIES: u8 = 1;
-const OR: u8 = 2;
-const AND: u8 = 3;
-const PREFIX: u8 = 4;
-
-/// The levels inside a modality: first those of regular formulas, then those of action formulas.
-const CHOICE: u8 = 1;
-const SEQUENCE: u8 = 2;
-const REPEATED: u8 = 3;
-const ACTION_IMPLIES: u8 = 4;
-const ACTION_OR: u8 = 5;
-const ACTION_AND: u8 = 6;
-const ACTION_NOT: u8 = 7;
 
 impl Shape<'_> {
     /// Does it need brackets where nothing looser than a level can stand?
@@ -71,10 +56,10 @@ fn state(formula: &StateFormula, brackets: Brackets) -> Shape<'_> {
         State::False => word("false"),
         State::True => word("true"),
         State::Variable(name) => word(name),
-        State::Not(operand) => Shape::Prefix(PREFIX, "!".to_string(), Part::State(operand)),
-        State::And(left, right) => Shape::Infix(AND, "&&", Part::State(left), Part::State(right)),
-        State::Or(left, right) => Shape::Infix(OR, "||", Part::State(left), Part::State(right)),
-        State::Implies(left, right) => Shape::Infix(IMPLIES, "=>", Part::State(left), Part::State(right)),
+        State::Not(operand) => Shape::Prefix(levels::PREFIX, "!".to_string(), Part::State(operand)),
+        State::And(left, right) => Shape::Infix(levels::AND, "&&", Part::State(left), Part::State(right)),
+        State::Or(left, right) => Shape::Infix(levels::OR, "||", Part::State(left), Part::State(right)),
+        State::Implies(left, right) => Shape::Infix(levels::IMPLIES, "=>", Part::State(left), Part::State(right)),
         State::Must(steps, operand) => must(&regular(steps, brackets), Part::State(operand)),
         State::May(steps, operand) => may(&regular(steps, brackets), Part::State(operand)),
         State::Mu(name, body) => binder("mu", &name.text, Part::State(body)),
@@ -83,11 +68,11 @@ fn state(formula: &StateFormula, brackets: Brackets) -> Shape<'_> {
 }
 
 fn must<'a>(steps: &str, operand: Part<'a>) -> Shape<'a> {
-    Shape::Prefix(PREFIX, format!("[{steps}] "), operand)
+    Shape::Prefix(levels::PREFIX, format!("[{steps}] "), operand)
 }
 
 fn may<'a>(steps: &str, operand: Part<'a>) -> Shape<'a> {
-    Shape::Prefix(PREFIX, format!("<{steps}> "), operand)
+    Shape::Prefix(levels::PREFIX, format!("<{steps}> "), operand)
 }
 
 fn binder<'a>(word: &str, name: &str, body: Part<'a>) -> Shape<'a> {
@@ -97,10 +82,14 @@ fn binder<'a>(word: &str, name: &str, body: Part<'a>) -> Shape<'a> {
 fn steps(formula: &RegularFormula) -> Shape<'_> {
     match &formula.kind {
         Regular::Step(step) => action(step),
-        Regular::Sequence(left, right) => Shape::Infix(SEQUENCE, ".", Part::Regular(left), Part::Regular(right)),
-        Regular::Choice(left, right) => Shape::Infix(CHOICE, "+", Part::Regular(left), Part::Regular(right)),
-        Regular::Star(operand) => Shape::Postfix(REPEATED, "*", Part::Regular(operand)),
-        Regular::Plus(operand) => Shape::Postfix(REPEATED, "+", Part::Regular(operand)),
+        Regular::Sequence(left, right) => {
+            Shape::Infix(step_levels::SEQUENCE, ".", Part::Regular(left), Part::Regular(right))
+        }
+        Regular::Choice(left, right) => {
+            Shape::Infix(step_levels::CHOICE, "+", Part::Regular(left), Part::Regular(right))
+        }
+        Regular::Star(operand) => Shape::Postfix(step_levels::REPETITION, "*", Part::Regular(operand)),
+        Regular::Plus(operand) => Shape::Postfix(step_levels::REPETITION, "+", Part::Regular(operand)),
     }
 }
 
@@ -110,14 +99,16 @@ fn action(formula: &ActionFormula) -> Shape<'_> {
         Action::True => word("true"),
         Action::Label(label) => Shape::Word(label.quoted()),
         Action::Not(operand) => not_action(Part::Action(operand)),
-        Action::And(left, right) => Shape::Infix(ACTION_AND, "&&", Part::Action(left), Part::Action(right)),
-        Action::Or(left, right) => Shape::Infix(ACTION_OR, "||", Part::Action(left), Part::Action(right)),
-        Action::Implies(left, right) => Shape::Infix(ACTION_IMPLIES, "=>", Part::Action(left), Part::Action(right)),
+        Action::And(left, right) => Shape::Infix(step_levels::AND, "&&", Part::Action(left), Part::Action(right)),
+        Action::Or(left, right) => Shape::Infix(step_levels::OR, "||", Part::Action(left), Part::Action(right)),
+        Action::Implies(left, right) => {
+            Shape::Infix(step_levels::IMPLIES, "=>", Part::Action(left), Part::Action(right))
+        }
     }
 }
 
 fn not_action(operand: Part) -> Shape {
-    Shape::Prefix(ACTION_NOT, "!".to_string(), operand)
+    Shape::Prefix(step_levels::NOT, "!".to_string(), operand)
 }
 
 /// A number that is no node of the table is written as a question mark.
@@ -128,8 +119,8 @@ fn table_node(table: &Table, at: usize) -> Shape<'_> {
         (Kind::False, _) => word("false"),
         (Kind::True, _) => word("true"),
         (Kind::Variable(binder), _) => word(table.nodes.get(binder).map_or("?", |binder| &binder.name)),
-        (Kind::And, &[left, right]) => Shape::Infix(AND, "&&", left, right),
-        (Kind::Or, &[left, right]) => Shape::Infix(OR, "||", left, right),
+        (Kind::And, &[left, right]) => Shape::Infix(levels::AND, "&&", left, right),
+        (Kind::Or, &[left, right]) => Shape::Infix(levels::OR, "||", left, right),
         (Kind::Box(action), &[operand]) => must(&table.action_text(action), operand),
         (Kind::Diamond(action), &[operand]) => may(&table.action_text(action), operand),
         (Kind::Mu, &[body]) => binder("mu", &node.name, body),
@@ -149,9 +140,9 @@ fn table_action(table: &Table, at: usize) -> Shape<'_> {
             None => word("?"),
         },
         (ActionNode::Not, &[operand]) => not_action(operand),
-        (ActionNode::And, &[left, right]) => Shape::Infix(ACTION_AND, "&&", left, right),
-        (ActionNode::Or, &[left, right]) => Shape::Infix(ACTION_OR, "||", left, right),
-        (ActionNode::Implies, &[left, right]) => Shape::Infix(ACTION_IMPLIES, "=>", left, right),
+        (ActionNode::And, &[left, right]) => Shape::Infix(step_levels::AND, "&&", left, right),
+        (ActionNode::Or, &[left, right]) => Shape::Infix(step_levels::OR, "||", left, right),
+        (ActionNode::Implies, &[left, right]) => Shape::Infix(step_levels::IMPLIES, "=>", left, right),
         _ => word("?"),
     }
 }

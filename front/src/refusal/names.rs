@@ -29,8 +29,7 @@ pub fn fault(case: &Case) -> Option<Fault> {
 pub fn label_fault(case: &Case, message: String, mut is: impl FnMut(usize, &Label) -> bool) -> Fault {
     let model = &case.model;
     if let Some(number) = (0..model.labels.len()).find(|&number| is(number, &model.labels[number])) {
-        let transition = model.transitions.iter().find(|transition| transition.label == number);
-        return Fault::new(&model.source, transition.map_or(model.header, |transition| transition.span), message);
+        return Fault::new(&model.source, model.label_place(number), message);
     }
     let places = case.formula_labels();
     match places.iter().enumerate().find(|(place, (label, _))| is(model.labels.len() + place, label)) {

@@ -23,7 +23,7 @@ use Rattle.cases.specs.Conditions.{node_at, is_binder, binder_count}
 use Rattle.cases.proofs.Spans.{end_one}
 use Rattle.routes.specs.Direct.{Direct}
 use Rattle.cases.specs.internal.Masks.{ActionMasks}
-use Rattle.routes.specs.internal.Evaluating.{nodes_of, transitions_of, Shown, Asks, Starts, Reached, Exceeded}
+use Rattle.routes.specs.internal.Evaluating.{nodes_of, transitions_of, Shown, Asks, LoopStart, Completed, Exceeded}
 use Rattle.routes.specs.declared.evaluate.Value.{Value}
 use Rattle.routes.specs.declared.evaluator.Evaluator.{Evaluator}
 use Rattle.routes.proofs.DirectLaws.{direct_sized}
@@ -75,15 +75,15 @@ pub record Going (ev : Evaluator) (rows : List (List ℕ)) (at used block : ℕ)
 
 -- where a mu and a nu start
 pub mu_starts : {ev : Evaluator} {at : ℕ} {first : List ℕ} → (node_at (nodes_of ev) at).kind ≡ 7
-    → first ≡ words word_count (start ev.case.header.states false) → Starts ev at first
+    → first ≡ words word_count (start ev.case.header.states false) → LoopStart ev at first
 mu_starts k e = record { from = omega (arith, k); to = omega (arith, k); set = rw k e }
 
 pub nu_starts : {ev : Evaluator} {at : ℕ} {first : List ℕ} → (node_at (nodes_of ev) at).kind ≡ 8
-    → first ≡ words word_count (start ev.case.header.states true) → Starts ev at first
+    → first ≡ words word_count (start ev.case.header.states true) → LoopStart ev at first
 nu_starts k e = record { from = omega (arith, k); to = omega (arith, k); set = rw k e }
 
 module _ {ev : Evaluator} {at used : ℕ} (q : Asks ev at used)
-    {first : List ℕ} (k : Starts ev at first) where
+    {first : List ℕ} (k : LoopStart ev at first) where
   abbrev n : ℕ
   n = ev.case.header.states
 
@@ -136,7 +136,7 @@ module _ {ev : Evaluator} {at used : ℕ} (q : Asks ev at used)
           omega (arith, turned.over action (update ρ at l.now) x.next x.took (d.0, shows action ρ d.1 l, x.step.1), x.less, l.sum);
     }
 
-    module _ {one : Value} (turned : Reached ev (set inner block held) (at + 1) before one) where
+    module _ {one : Value} (turned : Completed ev (set inner block held) (at + 1) before one) where
       -- or none is left for this one,
       pub round_spent : ev.limit ≤ one.rounds → Exceeded ev rows at used
       round_spent m = record {
@@ -160,7 +160,7 @@ module _ {ev : Evaluator} {at used : ℕ} (q : Asks ev at used)
 
       -- It is the set held: the loop stops.
       pub stopped : one.rounds < ev.limit → one.set ≡ held
-          → Reached ev rows at used (record { set = one.set; next = one.next; rounds = one.rounds + 1 })
+          → Completed ev rows at used (record { set = one.set; next = one.next; rounds = one.rounds + 1 })
       stopped m is = record {
         low = omega (arith, g.low, turned.low);
         high = omega arith;

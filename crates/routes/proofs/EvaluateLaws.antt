@@ -17,7 +17,7 @@ use Rattle.cases.specs.internal.Masks.{mask_of}
 use Rattle.cases.specs.Meaning.{set_of, intersection, union, box_in, diamond_in}
 use Rattle.cases.proofs.Spans.{end_leaf, end_one, end_two, second_node, second_inside}
 use Rattle.routes.specs.Direct.{FromTwo, FromOne, Direct}
-use Rattle.routes.specs.internal.Evaluating.{Finds, nodes_of, transitions_of, Shown, Asks, Reached, Exceeded}
+use Rattle.routes.specs.internal.Evaluating.{Finds, nodes_of, transitions_of, Shown, Asks, Completed, Exceeded}
 use Rattle.routes.specs.declared.evaluate.Value.{Value}
 use Rattle.routes.specs.declared.evaluator.Evaluator.{Evaluator}
 use Rattle.routes.proofs.DirectLaws.{direct_sized}
@@ -50,7 +50,7 @@ module _ {ev : Evaluator} {at used : ℕ} (q : Asks ev at used) where
     -- the set is the rule's, and no round is taken
     leaf_done : get_or ks at 0 ≡ 0 → {set : List ℕ}
         → ((action : ℕ → Action) (ρ : Valuation) (v : States) (r : ℕ) → Shown n t rows ρ → Works action ρ at v r → (set ≡ words word_count v) × (r ≡ 0))
-        → Reached ev rows at used (value set (at + 1) used)
+        → Completed ev rows at used (value set (at + 1) used)
     leaf_done none is = record {
       low = omega arith;
       high = q.within;
@@ -59,19 +59,19 @@ module _ {ev : Evaluator} {at used : ℕ} (q : Asks ev at used) where
     }
 
     -- false, true
-    pub false_done : (node_at t at).kind ≡ 0 → {set : List ℕ} → set ≡ words word_count (start n false) → Reached ev rows at used (value set (at + 1) used)
+    pub false_done : (node_at t at).kind ≡ 0 → {set : List ℕ} → set ≡ words word_count (start n false) → Completed ev rows at used (value set (at + 1) used)
     unfolding Direct
     false_done k e =
         leaf_done (arity q k) (λ action ρ v r s d. let x = ruled q k action ρ v r d in (e ∙ ap (words word_count) (sym x.0), x.1))
 
-    pub true_done : (node_at t at).kind ≡ 1 → {set : List ℕ} → set ≡ words word_count (start n true) → Reached ev rows at used (value set (at + 1) used)
+    pub true_done : (node_at t at).kind ≡ 1 → {set : List ℕ} → set ≡ words word_count (start n true) → Completed ev rows at used (value set (at + 1) used)
     unfolding Direct
     true_done k e =
         leaf_done (arity q k) (λ action ρ v r s d. let x = ruled q k action ρ v r d in (e ∙ ap (words word_count) (sym x.0), x.1))
 
     -- a variable
     pub variable_done : {x : Node} → x ≡ node_in ev.case.formula.part.now at → (node_at t at).kind ≡ 6
-        → {block : ℕ} → block ≡ get_or ev.blocks.now x.arg 0 → Reached ev rows at used (value (get_or rows block []) (at + 1) used)
+        → {block : ℕ} → block ≡ get_or ev.blocks.now x.arg 0 → Completed ev rows at used (value (get_or rows block []) (at + 1) used)
     unfolding Direct
     variable_done {x} e k b = leaf_done (arity q k) λ action ρ v r s d.
         let y : (v ≡ ρ (node_at t at).arg) × (r ≡ 0) = ruled q k action ρ v r d in (
@@ -126,8 +126,8 @@ module _ {ev : Evaluator} {at used : ℕ} (q : Asks ev at used) where
       }
 
       -- or its set is there, and the states are found
-      pub one_done : {one : Value} → Reached ev rows (at + 1) used one → {y : Node} → y ≡ node_in ev.case.formula.part.now at → {set : List ℕ}
-          → Finds ev (get_or ev.masks.now y.arg 0) one.set p set → Reached ev rows at used (value set one.next one.rounds)
+      pub one_done : {one : Value} → Completed ev rows (at + 1) used one → {y : Node} → y ≡ node_in ev.case.formula.part.now at → {set : List ℕ}
+          → Finds ev (get_or ev.masks.now y.arg 0) one.set p set → Completed ev rows at used (value set one.next one.rounds)
       one_done first {y} is {set} found = record {
         low = first.low;
         high = first.high;
@@ -172,7 +172,7 @@ module _ {ev : Evaluator} {at used : ℕ} (q : Asks ev at used) where
             omega (arith, first.over action ρ x.left x.before (d.0, d.1, x.first), x.sum);
       }
 
-      module _ {one : Value} (first : Reached ev rows (at + 1) used one) where
+      module _ {one : Value} (first : Completed ev rows (at + 1) used one) where
         -- or the right one is evaluated then,
         pub right_asked : Asks ev one.next one.rounds
         right_asked = asks q (rw first.ends (second_node 1 ks (whole q) at (in_arities q) k.arity)) first.high
@@ -199,9 +199,9 @@ module _ {ev : Evaluator} {at used : ℕ} (q : Asks ev at used) where
         }
 
         -- or both sets are there, and the operation is done on their words.
-        pub two_done : {two : Value} → Reached ev rows one.next one.rounds two → {set : List ℕ}
+        pub two_done : {two : Value} → Completed ev rows one.next one.rounds two → {set : List ℕ}
             → ((v w : States) → length v ≡ n → length w ≡ n → one.set ≡ words word_count v → two.set ≡ words word_count w → set ≡ words word_count (op v w))
-            → Reached ev rows at used (value set two.next two.rounds)
+            → Completed ev rows at used (value set two.next two.rounds)
         two_done second {set} both = record {
           low = omega (arith, first.low, second.low);
           high = second.high;

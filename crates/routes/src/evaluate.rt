@@ -4,7 +4,7 @@ ghost use Rattle.cases.specs.File.{node_limit};
 ghost use Rattle.routes.specs.Route.{direct, run_of};
 ghost use Rattle.routes.specs.internal.Answering.{Rooted};
 ghost use Rattle.routes.specs.internal.Given.{case_given};
-ghost use Rattle.routes.specs.internal.Evaluating.{kind_at, Asks, Starts, Evaluated};
+ghost use Rattle.routes.specs.internal.Evaluating.{kind_at, Asks, LoopStart, Evaluated};
 
 use crate::direct_case::DirectCase;
 use crate::evaluator::Evaluator;
@@ -121,7 +121,7 @@ impl<'a> Evaluator<'a> {
     #[cycle(binder_evaluate)]
     #[inline(always)]
     fn binder(&self, sets: &[Set; BLOCKS], at: usize, first: Set, used: u64) -> Option<Value>
-        requires { Asks self.now at used × Starts self.now at first }
+        requires { Asks self.now at used × LoopStart self.now at first }
         ensures { Evaluated self.now sets.now at used result }
     {
         let k = usize::from(self.blocks[at]);

@@ -117,7 +117,7 @@ fn unopened(cause: cases::Cause) -> Tallied
     ensures { (route_answer result.answer ≡ refused_outcome (case_number cause)) × (result.tally ≡ no_tally) }
 {
     Tallied {
-        answer: Err(Cause::Open(cause)),
+        answer: Err(Cause::from(cause)),
         tally: Tally {
             records: 0,
             distinct: 0,

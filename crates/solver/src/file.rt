@@ -1,7 +1,7 @@
 // Reading an equation file.
 ghost use Rattle.std.specs.Prelude.{◌≡◌, ◌+◌, ◌*◌, ◌^◌, ◌<◌, ◌≤◌, length, drop};
 ghost use Rattle.solver.specs.File.{u32, cells_at, operands_at, entry_at, sizes_of, blocks_at};
-ghost use Rattle.solver.specs.internal.Checks.{Read, SizesFit};
+ghost use Rattle.solver.specs.internal.Checks.{Read};
 ghost use Rattle.solver.specs.internal.Working.{OpenFile};
 
 use crate::{Operands, Sizes};
@@ -29,25 +29,6 @@ pub fn sizes_of(file: &[u8]) -> Sizes
         cells: number_at(file, 12),
         operands: number_at(file, 16),
         initial: number_at(file, 20),
-    }
-}
-
-impl Sizes {
-    // Where the cells start. This, the next, and whether the places hold ask that the counts fit, so that the sums do; a type for such counts would be no plainer than
-    // the one word of the contract.
-    pub fn cells_from(&self) -> usize
-        requires { SizesFit self.now }
-        ensures { result ≡ cells_at self.now }
-    {
-        HEADER + 8 * self.blocks
-    }
-
-    // Where the operands start.
-    pub fn operands_from(&self) -> usize
-        requires { SizesFit self.now }
-        ensures { result ≡ operands_at self.now }
-    {
-        self.cells_from() + 12 * self.cells
     }
 }
 

@@ -8,7 +8,9 @@ mod rounds;
 
 ghost use Rattle.std.specs.Prelude.{◌≡◌, ◌<◌, length};
 ghost use Rattle.sets.specs.Words.{state_limit};
+ghost use Rattle.solver.specs.File.{cells_at, operands_at};
 ghost use Rattle.solver.specs.Outcome.{solve_number, solve_answer, Answered};
+ghost use Rattle.solver.specs.internal.Checks.{SizesFit};
 ghost use Rattle.solver.specs.internal.Reading.{numbers_in_file};
 ghost use Rattle.solver.specs.internal.Working.{AllSolved, Reported};
 
@@ -34,6 +36,25 @@ pub struct Sizes {
     pub cells: usize,
     pub operands: usize,
     pub initial: usize,
+}
+
+impl Sizes {
+    // Where the cells start. This, the next, and whether the places hold ask that the counts fit, so that the sums do; a type for such counts would be no plainer than
+    // the one word of the contract. They stand here and are not public: the whole crate reads files by them, and no other does.
+    fn cells_from(&self) -> usize
+        requires { SizesFit self.now }
+        ensures { result ≡ cells_at self.now }
+    {
+        HEADER + 8 * self.blocks
+    }
+
+    // Where the operands start.
+    fn operands_from(&self) -> usize
+        requires { SizesFit self.now }
+        ensures { result ≡ operands_at self.now }
+    {
+        self.cells_from() + 12 * self.cells
+    }
 }
 
 // The operands of a cell: where they start in the operand table, and how many there are.

@@ -151,16 +151,15 @@ module _ (part : List ℕ) (first : List Bool) (s labels : ℕ) where
   abbrev here : ℕ → List Transition
   here j = cond (leaves_at part first s labels j) (transition_in part j ∷ []) []
 
-  -- what both tests say of it
-  pub leaves_tested : (j : ℕ) {t : Transition} {p q : Bool} → t ≡ transition_in part j → p ≡ leaves s labels t → q ≡ flagged first j → (p && q) ≡ leaves_at part first s labels j
+  -- what the tests say of it
+  pub leaves_tested : (j : ℕ) {t : Transition} {p q : Bool} → t ≡ transition_in part j → q ≡ flagged first j → p ≡ marked (labels ∷ []) t.label
+      → ((q && eqb t.source s) && p) ≡ leaves_at part first s labels j
   unfolding leaves_at
-  leaves_tested j e l f = rw (l, e, f) (go (leaves s labels (transition_in part j)) (flagged first j))
+  leaves_tested j e f m = rw (m, e, f) (go (flagged first j) (eqb (transition_in part j).source s) (marked (labels ∷ []) (transition_in part j).label))
     where
-      go : (p q : Bool) → (p && q) ≡ (q && p)
-      go true true = refl
-      go true false = refl
-      go false true = refl
-      go false false = refl
+      go : (q a p : Bool) → ((q && a) && p) ≡ (q && (a && p))
+      go true a p = refl
+      go false a p = refl
 
   -- one record more
   leaving_more : (j : ℕ) → leaving part first s labels (j + 1) ≡ leaving part first s labels j ++ here j

@@ -28,19 +28,14 @@ fn marks(labels: u64, x: usize) -> bool
 }
 
 impl Steps<'_> {
-    // Whether a transition is from the state, with its label in the mask.
-    fn leaves(&self, t: Transition) -> bool
-        ensures { result ≡ leaves self.now.state self.now.labels t }
-    {
-        t.source == self.state && marks(self.labels, t.label)
-    }
-
-    // Whether record j is one of them: of the records that leave so, the first of its kind.
+    // Whether record j is one of them: of the records that leave so, the first of its kind. The flag and the source are looked at together, by `&`: of most
+    // records one of the two fails, and a branch for each of them would often be taken the other way.
     pub fn has(&self, j: usize) -> bool
         requires { j < self.now.records.table.count }
         ensures { result ≡ follows self.now j }
     {
-        self.leaves(self.records.table.at(j)) && self.records.is_first(j)
+        let t = self.records.table.at(j);
+        self.records.is_first(j) & (t.source == self.state) && marks(self.labels, t.label)
     }
 
     // How many there are.

@@ -15,26 +15,27 @@ pub record RefusedBy (cs : Conditions) (k : ℕ) : Type 0 where
   pub some : ¬ (k ≡ 0)
 
 module _ (model : List ℕ) (t : Transition) where
-  abbrev b : List ℕ
-  b = case_within model
+  -- the case that is edited, and its transition table
+  abbrev edited_case : List ℕ
+  edited_case = case_within model
 
-  abbrev held : List Transition
-  held = transition_table b
+  abbrev edited_table : List Transition
+  edited_table = transition_table edited_case
 
   -- the conditions that come first: of the case's layout, then of the transition
   unfoldable pub look_conditions : Conditions
-  look_conditions = layout_conditions b ++ ((6, out_of_range (header_of b).states (header_of b).labels t) ∷ [])
+  look_conditions = layout_conditions edited_case ++ ((6, out_of_range (header_of edited_case).states (header_of edited_case).labels t) ∷ [])
 
   -- the place of the transition, where it is held
   abbrev pub Placed : Option ℕ → Type 0
-  Placed place = MatchOption place (holds held t ≡ false) (λ i. (holds held t ≡ true) × (i ≡ place_of t held) × (i < length held))
+  Placed place = MatchOption place (holds edited_table t ≡ false) (λ i. (holds edited_table t ≡ true) × (i ≡ place_of t edited_table) × (i < length edited_table))
 
   -- None of them holds: the layout and the transition are right. The header is that of the case, the end is the case's, and the place is found.
   pub record FoundIn (found : Found) : Type 0 where
-    pub layout : first_of (layout_conditions b) ≡ 0
-    pub right : transition_ok (header_of b).states (header_of b).labels t ≡ true
-    pub laid : Laid b found.header
-    pub ends : found.end ≡ length b
+    pub layout : first_of (layout_conditions edited_case) ≡ 0
+    pub right : transition_ok (header_of edited_case).states (header_of edited_case).labels t ≡ true
+    pub laid : Laid edited_case found.header
+    pub ends : found.end ≡ length edited_case
     pub inside : found.end ≤ length model
-    pub count : length held ≡ found.header.transitions
+    pub count : length edited_table ≡ found.header.transitions
     pub place : Placed found.place

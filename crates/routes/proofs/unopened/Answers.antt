@@ -4,4 +4,4 @@ use Rattle.routes.proofs.unopened.Goals as goal
 
 pub returns : goal.returns
 unfolding route_answer route_number
-returns c = (refl, refl)
+returns c = (rw c.from.ensures refl, refl)

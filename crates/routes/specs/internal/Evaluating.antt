@@ -46,7 +46,7 @@ abbrev pub kind_at : Evaluator → ℕ → ℕ
 kind_at ev at = (node_at (nodes_of ev) at).kind
 
 -- a mu or a nu at node `at`, and the words of the set where its loop starts
-pub record Starts (ev : Evaluator) (at : ℕ) (first : List ℕ) : Type 0 where
+pub record LoopStart (ev : Evaluator) (at : ℕ) (first : List ℕ) : Type 0 where
   pub from : 7 ≤ kind_at ev at
   pub to : kind_at ev at ≤ 8
   pub set : first ≡ words word_count (start (states_of ev) (eqb (kind_at ev at) 8))
@@ -60,7 +60,7 @@ module _ (ev : Evaluator) (rows : List (List ℕ)) (at used : ℕ) where
       × Direct (states_of ev) (transitions_of ev) (formula_at action (nodes_of ev) at) ρ v r
 
   -- Its value: the set and the rounds are the rule's, and the rounds are within the limit.
-  pub record Reached (x : Value) : Type 0 where
+  pub record Completed (x : Value) : Type 0 where
     pub low : used ≤ x.rounds
     pub high : x.rounds ≤ ev.limit
     pub ends : x.next ≡ end_of (map (arity_in formula_arities) (nodes_of ev)) at
@@ -72,4 +72,4 @@ module _ (ev : Evaluator) (rows : List (List ℕ)) (at used : ℕ) where
 
   -- What evaluating node `at` answers, after `used` rounds: none exactly if they are spent.
   abbrev pub Evaluated : Option Value → Type 0
-  Evaluated o = MatchOption o Exceeded Reached
+  Evaluated o = MatchOption o Exceeded Completed

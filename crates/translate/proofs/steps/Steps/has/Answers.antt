@@ -2,12 +2,14 @@ use mathlib.Core.Path.{refl, sym, ◌∙◌}
 use Rattle.translate.proofs.ShapeLaws.{leaves_tested}
 use Rattle.translate.proofs.steps.Steps.has.Goals as goal
 
-pub returns-then-leaves : goal.returns-then-leaves
-returns-then-leaves c =
-    let r = c.args.self.now.records in
-    rw c.if-leaves.true at (leaves_tested r.table.part.now r.first.now c.args.self.now.state c.args.self.now.labels c.args.j c.at.ensures c.leaves.ensures (c.is_first.ensures ∙ sym (r.flags.at c.args.j c.requires)))
+pub returns-then-is_first-t : goal.returns-then-is_first-t
+returns-then-is_first-t c =
+    let e = c.args.self.now in
+    let r = e.records in
+    rw c.if-is_first-t.true at (leaves_tested r.table.part.now r.first.now e.state e.labels c.args.j c.at-t.ensures (c.is_first.ensures ∙ sym (r.flags.at c.args.j c.requires)) c.marks.ensures)
 
-pub returns-else-leaves : goal.returns-else-leaves
-returns-else-leaves c =
-    let r = c.args.self.now.records in
-    c.if-leaves.false ∙ rw c.if-leaves.false at (leaves_tested r.table.part.now r.first.now c.args.self.now.state c.args.self.now.labels c.args.j c.at.ensures c.leaves.ensures refl)
+pub returns-else-is_first-t : goal.returns-else-is_first-t
+returns-else-is_first-t c =
+    let e = c.args.self.now in
+    let r = e.records in
+    c.if-is_first-t.false ∙ rw c.if-is_first-t.false at (leaves_tested r.table.part.now r.first.now e.state e.labels c.args.j c.at-t.ensures (c.is_first.ensures ∙ sym (r.flags.at c.args.j c.requires)) refl)

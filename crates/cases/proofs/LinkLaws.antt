@@ -28,10 +28,10 @@ unfolding first_on
 next_one part m s j h = let e : m - j ≡ suc (m - suc j) = omega arith in rw (e, add-one j)
 
 -- no record is linked
-pub linked_none : (part : List ℕ) (m : ℕ) → LinkedFrom part m m (replicate state_limit transition_limit) (replicate transition_limit transition_limit)
+pub linked_none : (part : List ℕ) (m : ℕ) → LinkedFrom part m m (replicate state_limit transition_limit) (replicate transition_limit 0)
 linked_none part m = record {
   states = length-replicate state_limit transition_limit;
-  records = length-replicate transition_limit transition_limit;
+  records = length-replicate {A = ℕ} transition_limit 0;
   from_state = λ s h. get_or-replicate state_limit s transition_limit 0 h ∙ sym (next_none part m s);
   after_record = λ j h l. absurd (omega arith);
 }

@@ -19,14 +19,14 @@ pub struct Links {
 }
 
 // Links the records of an accepted case. From the last record down, each becomes the first of its source. It writes two arrays at places that it
-// reads, so no chain would be plainer.
+// reads, so no chain would be plainer. What stands after a record is written before it is read, so that array starts with zeros, which costs least.
 pub fn links_of(case: &OpenCase<'_>) -> Links
     ensures { Linked (transition_part case.now.laid.bytes.now) case.now.laid.header.transitions result.first result.after }
 {
     let table = case.laid.transitions();
     let mut links = Links {
         first: [TRANSITIONS as u16; STATES],
-        after: [TRANSITIONS as u16; TRANSITIONS],
+        after: [0; TRANSITIONS],
     };
     for j in (0..table.count).rev() {
         let s = table.at(j).source;

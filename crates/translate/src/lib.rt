@@ -27,6 +27,7 @@ use cases::{Flagged, OpenCase, TRANSITIONS, first_appearances, links_of};
 use formula::{WholeFormula, added_before};
 use solver::HEADER;
 use sources::Equations;
+use steps::all_first;
 
 // Why no file is written: found on opening the case, or the buffer is too short.
 #[derive(Clone, Copy, PartialEq, Eq)]
@@ -137,6 +138,7 @@ pub fn write_case<'a>(case: &OpenCase<'a>, first: &'a [bool], out: &mut [u8]) ->
     let records = Flagged { table, first };
     let equations = Equations {
         records,
+        all_first: all_first(&records),
         shapes: &shapes[..k],
         states: case.laid.header.states,
         initial: case.laid.header.initial,

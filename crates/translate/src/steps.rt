@@ -3,21 +3,14 @@
 ghost use Rattle.std.specs.Prelude.{◌≡◌, [], ◌∷◌, ◌^◌, ◌<◌, ◌≤◌, length};
 ghost use Rattle.sets.specs.Words.{marked};
 ghost use Rattle.cases.specs.File.{transition_in};
-ghost use Rattle.translate.specs.internal.Parts.{HasRoom, Wrote, target_cells};
+ghost use Rattle.translate.specs.internal.Parts.{HasRoom, Wrote, NoCopies, target_cells};
 ghost use Rattle.translate.specs.internal.Writing.{leaves};
 ghost use Rattle.translate.specs.internal.Flags.{follows, followed, target_of};
 
 use crate::bytes::Writer;
+use crate::sources::Steps;
 use cases::{Flagged, Transition, number_at};
 use sets::has_bit;
-
-// The records that leave a state with their labels in a mask.
-#[derive(Clone, Copy)]
-pub struct Steps<'a> {
-    pub records: Flagged<'a>,
-    pub state: usize,
-    pub labels: u64,
-}
 
 // Whether bit x of a mask of labels is 1. A label past its bits is not in it. `has_bit` asks that there is such a bit, which is not known of the
 // labels of any records.
@@ -27,15 +20,30 @@ fn marks(labels: u64, x: usize) -> bool
     x < 64 && has_bit(labels, x)
 }
 
+// Whether none of the records is a copy.
+pub fn all_first(records: &Flagged<'_>) -> bool
+    ensures { NoCopies records.now.table.count records.now.first.now result }
+{
+    (0..records.table.count).all(|j| records.is_first(j))
+}
+
 impl Steps<'_> {
-    // Whether record j is one of them: of the records that leave so, the first of its kind. The flag and the source are looked at together, by `&`: of most
-    // records one of the two fails, and a branch for each of them would often be taken the other way.
+    // Whether a transition is from the state, with its label in the mask.
+    fn leaves(&self, t: Transition) -> bool
+        ensures { result ≡ leaves self.now.state self.now.labels t }
+    {
+        t.source == self.state && marks(self.labels, t.label)
+    }
+
+    // Whether record j is one of them: of the records that leave so, the first of its kind.
     pub fn has(&self, j: usize) -> bool
         requires { j < self.now.records.table.count }
         ensures { result ≡ follows self.now j }
     {
-        let t = self.records.table.at(j);
-        self.records.is_first(j) & (t.source == self.state) && marks(self.labels, t.label)
+        if self.all_first {
+            return self.leaves(self.records.table.at(j));
+        }
+        self.records.is_first(j) && self.leaves(self.records.table.at(j))
     }
 
     // How many there are.

@@ -1,5 +1,5 @@
 -- The cell of a formula's shape is the formula's cell, where all labels have a bit in the mask.
-use mathlib.Core.Path.{◌≡◌, refl, sym, ap, subst, ◌∙◌}
+use mathlib.Core.Path.{◌≡◌, refl, sym, ap, ◌∙◌}
 use mathlib.Core.Logic.{◌⊎◌, inl, inr}
 use mathlib.Core.Bool.{Bool, true, false, cond, ◌&&◌}
 use mathlib.Core.List.{List, [], ◌∷◌, ◌++◌, map, map-append, append_assoc, append-nil}
@@ -11,9 +11,9 @@ use lib.Dec.{T, eqb, ltb, ltb→lt}
 use lib.ListN.{length, take, get_or, length-append, length-map, get_or-eq_default}
 use lib.Seq.{take_all}
 use Rattle.std.specs.Prelude.{count_by}
-use Rattle.std.specs.List.{range_with_len, list_all}
-use Rattle.std.proofs.lemmas.List.Sums.{sum_by-cons, count_by-le-length, AllPass-from_list_all}
-use Rattle.std.proofs.lemmas.List.FromFn.{length-range_with_len, get_or-range_with_len}
+use Rattle.std.specs.List.{range_with_len}
+use Rattle.std.proofs.lemmas.List.Sums.{sum_by-cons, count_by-le-length}
+use Rattle.std.proofs.lemmas.List.FromFn.{length-range_with_len}
 use Rattle.sets.proofs.Ranges.{range_is}
 use Rattle.sets.specs.Lists.{numbers_from, every, keep}
 use Rattle.sets.specs.States.{States}
@@ -37,12 +37,6 @@ use Rattle.translate.specs.internal.Writing.{shape_of, leaves, shape_operands, f
 use Rattle.translate.proofs.Counts.{operands_append}
 use Rattle.translate.proofs.Putting.{wrote_none, wrote_then}
 use Rattle.translate.specs.internal.Parts.{Wrote, WroteCells, flagged, distinct_in, leaves_at, leaving, target_cells, target_cell}
-
--- a test that holds of all numbers below m holds of each
-pub below_passes : (p : ℕ → Bool) (m : ℕ) → list_all p (range_with_len 0 m) ≡ true → (j : ℕ) → j < m → p j ≡ true
-below_passes p m t j h =
-    subst (λ (k : ℕ). p k ≡ true) (get_or-range_with_len 0 m j 0 h ∙ zero-add j)
-    (AllPass-from_list_all p (range_with_len 0 m) t j 0 (rw (length-range_with_len 0 m) h))
 
 -- bit x of an action formula's mask says whether label x is accepted
 pub mask_bit : (α : Action) (x : ℕ) → x < label_limit → marked (mask_of α ∷ []) x ≡ accepts α x
@@ -157,14 +151,19 @@ module _ (part : List ℕ) (first : List Bool) (s labels : ℕ) where
   abbrev here : ℕ → List Transition
   here j = cond (leaves_at part first s labels j) (transition_in part j ∷ []) []
 
-  -- what the tests say of it
-  pub leaves_flagged : (j : ℕ) {t : Transition} {p : Bool} → t ≡ transition_in part j → flagged first j ≡ true → p ≡ leaves s labels t → p ≡ leaves_at part first s labels j
+  -- what both tests say of it, in either order
+  pub flag_tested : (j : ℕ) {t : Transition} {p q : Bool} → t ≡ transition_in part j → p ≡ leaves s labels t → q ≡ flagged first j → (q && p) ≡ leaves_at part first s labels j
   unfolding leaves_at
-  leaves_flagged j e f l = rw (l, e, f) refl
+  flag_tested j e l f = rw (l, e, f) refl
 
-  pub leaves_copied : (j : ℕ) → flagged first j ≡ false → false ≡ leaves_at part first s labels j
-  unfolding leaves_at
-  leaves_copied j f = rw f refl
+  pub leaves_tested : (j : ℕ) {t : Transition} {p q : Bool} → t ≡ transition_in part j → p ≡ leaves s labels t → q ≡ flagged first j → (p && q) ≡ leaves_at part first s labels j
+  leaves_tested j {p = p} {q = q} e l f = go p q ∙ flag_tested j e l f
+    where
+      go : (p q : Bool) → (p && q) ≡ (q && p)
+      go true true = refl
+      go true false = refl
+      go false true = refl
+      go false false = refl
 
   -- one record more
   leaving_more : (j : ℕ) → leaving part first s labels (j + 1) ≡ leaving part first s labels j ++ here j

@@ -27,7 +27,6 @@ use cases::{Flagged, OpenCase, TRANSITIONS, first_appearances, links_of};
 use formula::{WholeFormula, added_before};
 use solver::HEADER;
 use sources::Equations;
-use steps::all_first;
 
 // Why no file is written: found on opening the case, or the buffer is too short.
 #[derive(Clone, Copy, PartialEq, Eq)]
@@ -119,6 +118,13 @@ impl Equations<'_, '_> {
     }
 }
 
+// Whether most records are copies. It decides no more than the order of two tests, so that nothing is promised of it.
+fn mostly_copies(records: &Flagged<'_>) -> bool {
+    let count = records.table.count;
+    let distinct = (0..count).filter(|j| records.is_first(*j)).count();
+    distinct < count / 2
+}
+
 // The equation file of an accepted case, with the flags of first appearances. The labels that an action formula accepts are found once.
 pub fn write_case<'a>(case: &OpenCase<'a>, first: &'a [bool], out: &mut [u8]) -> Written
     requires { FirstFlags (transition_part case.now.laid.bytes.now) case.now.laid.header.transitions first.now }
@@ -138,7 +144,7 @@ pub fn write_case<'a>(case: &OpenCase<'a>, first: &'a [bool], out: &mut [u8]) ->
     let records = Flagged { table, first };
     let equations = Equations {
         records,
-        all_first: all_first(&records),
+        mostly_copies: mostly_copies(&records),
         shapes: &shapes[..k],
         states: case.laid.header.states,
         initial: case.laid.header.initial,

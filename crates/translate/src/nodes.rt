@@ -11,7 +11,8 @@ ghost use Rattle.translate.specs.internal.Flags.{distinct_of};
 
 use crate::Shape;
 use crate::bytes::Writer;
-use crate::sources::{Equations, Steps};
+use crate::sources::Equations;
+use crate::steps::Steps;
 use solver::{FileCell, Operands};
 
 // The cell of a node of a shape in state s, as a file has it, with its operands where it has any.
@@ -31,13 +32,11 @@ impl Equations<'_, '_> {
     // The records that a box or diamond with these labels follows from state s.
     #[inline]
     fn steps(&self, labels: u64, s: usize) -> Steps<'_>
-        ensures records { result.records ≡ self.now.records }
-        ensures state { result.state ≡ s }
-        ensures labels { result.labels ≡ labels }
+        ensures { result ≡ record { records = self.now.records; mostly_copies = self.now.mostly_copies; state = s; labels = labels } }
     {
         Steps {
             records: self.records,
-            all_first: self.all_first,
+            mostly_copies: self.mostly_copies,
             state: s,
             labels,
         }

@@ -3,14 +3,22 @@
 ghost use Rattle.std.specs.Prelude.{◌≡◌, [], ◌∷◌, ◌^◌, ◌<◌, ◌≤◌, length};
 ghost use Rattle.sets.specs.Words.{marked};
 ghost use Rattle.cases.specs.File.{transition_in};
-ghost use Rattle.translate.specs.internal.Parts.{HasRoom, Wrote, NoCopies, target_cells};
+ghost use Rattle.translate.specs.internal.Parts.{HasRoom, Wrote, target_cells};
 ghost use Rattle.translate.specs.internal.Writing.{leaves};
 ghost use Rattle.translate.specs.internal.Flags.{follows, followed, target_of};
 
 use crate::bytes::Writer;
-use crate::sources::Steps;
 use cases::{Flagged, Transition, number_at};
 use sets::has_bit;
+
+// The records that leave a state with their labels in a mask. Whether most of all records are copies says no more than which of two tests comes first.
+#[derive(Clone, Copy)]
+pub struct Steps<'a> {
+    pub records: Flagged<'a>,
+    pub mostly_copies: bool,
+    pub state: usize,
+    pub labels: u64,
+}
 
 // Whether bit x of a mask of labels is 1. A label past its bits is not in it. `has_bit` asks that there is such a bit, which is not known of the
 // labels of any records.
@@ -18,13 +26,6 @@ fn marks(labels: u64, x: usize) -> bool
     ensures { result ≡ marked (labels ∷ []) x }
 {
     x < 64 && has_bit(labels, x)
-}
-
-// Whether none of the records is a copy.
-pub fn all_first(records: &Flagged<'_>) -> bool
-    ensures { NoCopies records.now.table.count records.now.first.now result }
-{
-    (0..records.table.count).all(|j| records.is_first(j))
 }
 
 impl Steps<'_> {
@@ -35,15 +36,16 @@ impl Steps<'_> {
         t.source == self.state && marks(self.labels, t.label)
     }
 
-    // Whether record j is one of them: of the records that leave so, the first of its kind.
+    // Whether record j is one of them: of the records that leave so, the first of its kind. Where most records are copies the flag is looked at first, so
+    // that a copy is passed by without being read; else nearly each record is the first of its kind, and the source tells sooner.
     pub fn has(&self, j: usize) -> bool
         requires { j < self.now.records.table.count }
         ensures { result ≡ follows self.now j }
     {
-        if self.all_first {
-            return self.leaves(self.records.table.at(j));
+        if self.mostly_copies {
+            return self.records.is_first(j) && self.leaves(self.records.table.at(j));
         }
-        self.records.is_first(j) && self.leaves(self.records.table.at(j))
+        self.leaves(self.records.table.at(j)) && self.records.is_first(j)
     }
 
     // How many there are.

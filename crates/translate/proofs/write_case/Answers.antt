@@ -33,7 +33,6 @@ pub invariant_of-equations : goal.invariant_of-equations
 invariant_of-equations c =
     let o = c.args.case.now in
     record {
-      no_copies = c.all_first.ensures;
       within = handed _ o.accepted o.laid.laid.read c.formula-nodes.ensures.part c.formula-nodes.ensures.count c.transitions-table.ensures.part c.transitions-table.ensures.count c.requires
           (c.shapes-shapes.ensures _ (masks_first _ o.laid.header.actions _ (omega (arith, c.action_masks-masks.ensures.long, actions_few _ o.accepted o.laid.laid.read)) c.action_masks-masks.ensures.masks))
           c.added_before.ensures;

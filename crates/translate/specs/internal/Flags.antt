@@ -3,7 +3,7 @@ use Rattle.std.specs.Prelude.{Bool, List, ℕ}
 use Rattle.cases.specs.declared.Transition.{Transition}
 use Rattle.translate.specs.internal.Parts.{distinct_in, leaves_at, leaving, target_cell}
 use Rattle.cases.specs.declared.transitions.Flagged.{Flagged}
-use Rattle.translate.specs.declared.sources.Steps.{Steps}
+use Rattle.translate.specs.declared.steps.Steps.{Steps}
 
 -- the distinct transitions of flagged records
 abbrev pub distinct_of : Flagged → List Transition

@@ -1,5 +1,5 @@
 -- What the writers of the equation file promise of the part of the output that they are handed.
-use Rattle.std.specs.Prelude.{◌≡◌, Bool, true, false, cond, ◌&&◌, List, [], ◌∷◌, ◌++◌, map, ℕ, ◌+◌, ◌*◌, ◌<◌, ◌≤◌, length, get_or, take, drop}
+use Rattle.std.specs.Prelude.{◌≡◌, Bool, false, cond, ◌&&◌, List, [], ◌∷◌, ◌++◌, map, ℕ, ◌+◌, ◌*◌, ◌≤◌, length, get_or, take, drop}
 use Rattle.sets.specs.Lists.{numbers_from, keep}
 use Rattle.solver.specs.Cells.{Cell}
 use Rattle.cases.specs.File.{transition_in}
@@ -32,10 +32,6 @@ Starts xs before after = after ≡ bytes xs ++ drop (4 * length xs) before
 -- whether record j is flagged as the first of its kind
 abbrev pub flagged : List Bool → ℕ → Bool
 flagged first j = get_or first j false
-
--- where it is said that none of m records is a copy, each is flagged as the first of its kind
-abbrev pub NoCopies : ℕ → List Bool → Bool → Type 0
-NoCopies m first said = said ≡ true → (j : ℕ) → j < m → flagged first j ≡ true
 
 -- the distinct transitions: the flagged ones of the first m records
 unfoldable pub distinct_in : List ℕ → List Bool → ℕ → List Transition

@@ -15,7 +15,7 @@ pub returns-in-Box : goal.returns-in-Box
 unfolding leaving
 returns-in-Box c =
     let p = c.args in
-    let few = rw (c.steps.ensures.records, c.steps.ensures.state, c.steps.ensures.labels) at c.count.ensures in
+    let few = rw c.steps.ensures at c.count.ensures in
     (λ n i. few.0 ∙ modal_count n (distinct_of p.self.now.records) p.x i p.s c.in-Box.is, omega arith)
 
 pub returns-in_default : goal.returns-in_default

@@ -21,13 +21,13 @@ pub write_targets-requires : goal.write_targets-requires
 unfolding leaving
 write_targets-requires c =
     let p = c.args in
-    (omega arith, rw (c.steps.ensures.records, c.steps.ensures.state, c.steps.ensures.labels) (omega (arith, modal_count p.self.now.states (distinct_of p.self.now.records) p.x p.i p.s c.in-Box.is)))
+    (omega arith, rw c.steps.ensures (omega (arith, modal_count p.self.now.states (distinct_of p.self.now.records) p.x p.i p.s c.in-Box.is)))
 
 pub returns-in-Box : goal.returns-in-Box
 unfolding leaving
 returns-in-Box c =
     let p = c.args in
-    rw (operands_modal p.self.now.states (distinct_of p.self.now.records) p.x p.i p.s c.in-Box.is, ← c.row-low.ensures.0) (rw (c.steps.ensures.records, c.steps.ensures.state, c.steps.ensures.labels) at c.write_targets.ensures)
+    rw (operands_modal p.self.now.states (distinct_of p.self.now.records) p.x p.i p.s c.in-Box.is, ← c.row-low.ensures.0) (rw c.steps.ensures at c.write_targets.ensures)
 
 pub returns-in_default : goal.returns-in_default
 returns-in_default c =

@@ -1,6 +1,6 @@
 use native.Mathlib.Omega.{arith}
 use Rattle.translate.proofs.ShapeLaws.{wrote_target, wrote_no_target, target_room}
-use Rattle.translate.proofs.sources.Steps.write_target.Goals as goal
+use Rattle.translate.proofs.steps.Steps.write_target.Goals as goal
 
 pub put-requires : goal.put-requires
 put-requires c =

@@ -7,7 +7,7 @@ use Rattle.std.specs.List.{range_with_len}
 use Rattle.std.proofs.lemmas.List.Sums.{length-filter}
 use Rattle.translate.specs.internal.Flags.{follows}
 use Rattle.translate.proofs.ShapeLaws.{degree_counted, degree_few}
-use Rattle.translate.proofs.sources.Steps.count.Goals as goal
+use Rattle.translate.proofs.steps.Steps.count.Goals as goal
 
 pub returns : goal.returns
 returns c =

@@ -1,7 +1,7 @@
 use native.Mathlib.Omega.{arith}
 use Rattle.translate.proofs.Putting.{wrote_none, wrote_then}
 use Rattle.translate.proofs.ShapeLaws.{targets_none, targets_more, targets_fit}
-use Rattle.translate.proofs.sources.Steps.write_targets.Goals as goal
+use Rattle.translate.proofs.steps.Steps.write_targets.Goals as goal
 
 pub loop-j-init : goal.loop-j-init
 loop-j-init c =

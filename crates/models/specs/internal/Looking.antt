@@ -15,27 +15,27 @@ pub record RefusedBy (cs : Conditions) (k : ℕ) : Type 0 where
   pub some : ¬ (k ≡ 0)
 
 module _ (model : List ℕ) (t : Transition) where
-  -- the case that is edited, and its transition table
-  abbrev edited_case : List ℕ
-  edited_case = case_within model
+  -- the case that is found in the model, and its transition table
+  abbrev found_case : List ℕ
+  found_case = case_within model
 
-  abbrev edited_table : List Transition
-  edited_table = transition_table edited_case
+  abbrev found_table : List Transition
+  found_table = transition_table found_case
 
   -- the conditions that come first: of the case's layout, then of the transition
   unfoldable pub look_conditions : Conditions
-  look_conditions = layout_conditions edited_case ++ ((6, out_of_range (header_of edited_case).states (header_of edited_case).labels t) ∷ [])
+  look_conditions = layout_conditions found_case ++ ((6, out_of_range (header_of found_case).states (header_of found_case).labels t) ∷ [])
 
   -- the place of the transition, where it is held
   abbrev pub Placed : Option ℕ → Type 0
-  Placed place = MatchOption place (holds edited_table t ≡ false) (λ i. (holds edited_table t ≡ true) × (i ≡ place_of t edited_table) × (i < length edited_table))
+  Placed place = MatchOption place (holds found_table t ≡ false) (λ i. (holds found_table t ≡ true) × (i ≡ place_of t found_table) × (i < length found_table))
 
   -- None of them holds: the layout and the transition are right. The header is that of the case, the end is the case's, and the place is found.
   pub record FoundIn (found : Found) : Type 0 where
-    pub layout : first_of (layout_conditions edited_case) ≡ 0
-    pub right : transition_ok (header_of edited_case).states (header_of edited_case).labels t ≡ true
-    pub laid : Laid edited_case found.header
-    pub ends : found.end ≡ length edited_case
+    pub layout : first_of (layout_conditions found_case) ≡ 0
+    pub right : transition_ok (header_of found_case).states (header_of found_case).labels t ≡ true
+    pub laid : Laid found_case found.header
+    pub ends : found.end ≡ length found_case
     pub inside : found.end ≤ length model
-    pub count : length edited_table ≡ found.header.transitions
+    pub count : length found_table ≡ found.header.transitions
     pub place : Placed found.place

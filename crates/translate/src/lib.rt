@@ -122,7 +122,7 @@ impl Equations<'_, '_> {
 fn mostly_copies(records: &Flagged<'_>) -> bool {
     let count = records.table.count;
     let distinct = (0..count).filter(|j| records.is_first(*j)).count();
-    distinct < count / 2
+    distinct < count - distinct
 }
 
 // The equation file of an accepted case, with the flags of first appearances. The labels that an action formula accepts are found once.

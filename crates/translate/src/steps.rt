@@ -37,7 +37,7 @@ impl Steps<'_> {
     }
 
     // Whether record j is one of them: of the records that leave so, the first of its kind. Where most records are copies the flag is looked at first, so
-    // that a copy is passed by without being read; else nearly each record is the first of its kind, and the source tells sooner.
+    // that a copy is passed by without being read; else half of the records or more are the first of their kind, and a look at the source passes by more of them.
     pub fn has(&self, j: usize) -> bool
         requires { j < self.now.records.table.count }
         ensures { result ≡ follows self.now j }

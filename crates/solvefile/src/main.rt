@@ -41,3 +41,31 @@ fn main(rt: HostRuntime) -> io::Result<()> {
     let length = lines::read_full(&mut rt.reader(), &mut file)?;
     run(&mut io::writer(&rt), &file[..length])
 }
+
+#[cfg(test)]
+mod tests {
+    use solver::Sizes;
+
+    // Where the tables of equation files start, worked out by hand: behind a header of 36 bytes a block has 8 bytes, and behind the blocks a cell has 12.
+    #[test]
+    fn tables_start(rt: HostRuntime) {
+        let least = Sizes {
+            states: 1,
+            blocks: 1,
+            cells: 1,
+            operands: 0,
+            initial: 0,
+        };
+        assert_eq!(rt; least.cells_from(), 44);
+        assert_eq!(rt; least.operands_from(), 56);
+        let largest = Sizes {
+            states: 256,
+            blocks: 6,
+            cells: 16_640,
+            operands: 133_120,
+            initial: 255,
+        };
+        assert_eq!(rt; largest.cells_from(), 84);
+        assert_eq!(rt; largest.operands_from(), 199_764);
+    }
+}

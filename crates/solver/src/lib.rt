@@ -40,8 +40,8 @@ pub struct Sizes {
 
 impl Sizes {
     // Where the cells start. This, the next, and whether the places hold ask that the counts fit, so that the sums do; a type for such counts would be no plainer than
-    // the one word of the contract. They stand here and are not public: the whole crate reads files by them, and no other does.
-    fn cells_from(&self) -> usize
+    // the one word of the contract. They stand here, where the type stands: this crate reads files by them, and others may.
+    pub fn cells_from(&self) -> usize
         requires { SizesFit self.now }
         ensures { result ≡ cells_at self.now }
     {
@@ -49,7 +49,7 @@ impl Sizes {
     }
 
     // Where the operands start.
-    fn operands_from(&self) -> usize
+    pub fn operands_from(&self) -> usize
         requires { SizesFit self.now }
         ensures { result ≡ operands_at self.now }
     {

@@ -27,14 +27,18 @@ next_one : (part : List ℕ) (m s j : ℕ) → j < m → next_from part m s j �
 unfolding first_on
 next_one part m s j h = let e : m - j ≡ suc (m - suc j) = omega arith in rw (e, add-one j)
 
--- no record is linked, whatever stands in the place of each record
-pub linked_none : (part : List ℕ) (m : ℕ) {x : ℕ} → LinkedFrom part m m (replicate state_limit transition_limit) (replicate transition_limit x)
-linked_none part m {x} = record {
+-- no record is linked, whatever number stands in the place of each record
+pub linked_any : (part : List ℕ) (m x : ℕ) → LinkedFrom part m m (replicate state_limit transition_limit) (replicate transition_limit x)
+linked_any part m x = record {
   states = length-replicate state_limit transition_limit;
   records = length-replicate transition_limit x;
   from_state = λ s h. get_or-replicate state_limit s transition_limit 0 h ∙ sym (next_none part m s);
   after_record = λ j h l. absurd (omega arith);
 }
+
+-- so where zeros stand there
+pub linked_none : (part : List ℕ) (m : ℕ) → LinkedFrom part m m (replicate state_limit transition_limit) (replicate transition_limit 0)
+linked_none part m = linked_any part m 0
 
 -- record j is linked: it is the first of its source, and after it stands what was
 module _ (part : List ℕ) (m j : ℕ) (first after : List ℕ) (sourced : Sourced part m) (h : j < m) (l : LinkedFrom part m (j + 1) first after) where
